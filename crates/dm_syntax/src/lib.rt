@@ -1,0 +1,16 @@
+//! The syntax tree of a declaration.
+#![tactic(auto)]
+
+mod decl;
+mod plain;
+mod ty;
+
+pub use decl::{
+    Data, DataEnum, DataStruct, DataUnion, DeriveInput, Field, Fields, Generics, Variant,
+};
+pub use plain::{AttrArgs, Attribute, ConstArg, Opaque, PlainPath, Vis};
+pub use ty::{
+    BareFn, Bound, FnArg, GenericArgument, Path, PathArguments, PathSegment, QSelf, TraitBound, Ty,
+    TyNode,
+};
+pub use decl::{ConstParam, GenericParam, LifetimeParam, TyParam, WherePredicate};

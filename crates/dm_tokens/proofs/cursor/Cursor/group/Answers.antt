@@ -1,0 +1,36 @@
+use Rattle.std.proofs.Common.{◌≡◌, ◌∷◌, true, Some, ℕ, refl, ap, ◌∙◌, rules, arith}
+use Rattle.std.proofs.lemmas.Grind.{common_steps}
+use Rattle.dm_tokens.specs.Cursors.{left, first_group, same_delim, group_if, entry_start}
+use Rattle.dm_tokens.specs.Trees.{Trees, group}
+use Rattle.dm_tokens.specs.declared.tokens.Span.{Span}
+use Rattle.dm_tokens.specs.declared.tokens.Delim.{Delim}
+use Rattle.dm_tokens.proofs.Trees.{open_fits, parts, Parts}
+use Rattle.dm_tokens.proofs.cursor.Cursor.group.Goals as goal
+
+gives_group : (ts : Trees) (d e : Delim) (from upto : Span) (a b : Trees) (n : ℕ) → ts ≡ group e from a upto b →
+    same_delim e d ≡ true → n ≡ upto.start → first_group d ts ≡ Some (a, n, b)
+gives_group ts d e from upto a b n t h u = rw (t, u) (ap (λ s. group_if s a upto b) h)
+
+pub cut-requires : goal.cut-requires
+cut-requires c =
+    let e = open_fits _ _ _ _ _ c.requires (c.in_ok-first.ensures ∙ ap (λ e. e ∷ c.in_ok-first.rest.now) c.in-Open.is) in
+    record { some = e.0; fits = e.1 }
+
+pub returns-else-not-is_same_delim-clause-inside : goal.returns-else-not-is_same_delim-clause-inside
+returns-else-not-is_same_delim-clause-inside c =
+    (parts _ _ _ _ _ _ _ _ c.requires (c.in_ok-first.ensures ∙ ap (λ e. e ∷ c.in_ok-first.rest.now) c.in-Open.is) c.cut.ensures.front c.cut.ensures.back).front_is_flat
+
+pub returns-else-not-is_same_delim-clause-place : goal.returns-else-not-is_same_delim-clause-place
+returns-else-not-is_same_delim-clause-place c =
+    record {
+      is_sound = (parts _ _ _ _ _ _ _ _ c.requires (c.in_ok-first.ensures ∙ ap (λ e. e ∷ c.in_ok-first.rest.now) c.in-Open.is) c.cut.ensures.front c.cut.ensures.back).back_is_flat;
+      same_limit = refl;
+    }
+
+pub returns-else-not-is_same_delim-clause-gives : goal.returns-else-not-is_same_delim-clause-gives
+returns-else-not-is_same_delim-clause-gives c =
+    let p : Parts c.in-Open.found c.in-Open.field-1 c.args.self.entries.now c.cut.result.0.now c.cut.result.1.now c.cut.result.2.now =
+    parts _ _ _ _ _ _ _ _ c.requires (c.in_ok-first.ensures ∙ ap (λ e. e ∷ c.in_ok-first.rest.now) c.in-Open.is) c.cut.ensures.front c.cut.ensures.back in
+    let d : same_delim c.in-Open.found c.args.delim ≡ true = cc in
+    let u : c.start_of.result ≡ p.upto.start = c.start_of.ensures ∙ ap entry_start p.closing_is in
+    gives_group _ _ _ _ _ _ _ _ p.trees_are d u

@@ -1,0 +1,301 @@
+ghost use Rattle.std.specs.Prelude.{◌≡◌, ◌↔◌, IsTrue, None, Some, MatchOption, IfSome, [], ◌∷◌, ◌<◌, ◌≤◌, ◌-◌, length, take, drop};
+ghost use Rattle.dm_tokens.specs.Trees.{no_trees, unflatten};
+ghost use Rattle.dm_tokens.specs.Cursors.{left, sound, first_ident, first_lifetime, first_punct, first_group, first_tree, first_span, token_span, trees_in, whole, IsPlaceAfter, IsFlat, IsTreeLen, IsCutAfter, split_trees, entry_start, entry_end, same_delim};
+
+use super::tokens::{Delim, Entry, Ident, Lifetime, Punct, Span, Token};
+
+/// A place in a list of trees.
+#[derive(Clone, Copy)]
+pub struct Cursor<'t, 'a> {
+    pub entries: &'t [Entry<'a>],
+    pub limit: usize,
+}
+
+/// A run of trees of one list.
+#[derive(Clone, Copy)]
+pub struct Piece<'t, 'a> {
+    pub entries: &'t [Entry<'a>],
+    pub limit: usize,
+}
+
+impl<'t, 'a> Cursor<'t, 'a> {
+    pub fn eof(self) -> bool
+        requires { sound self }
+        ensures { IsTrue result ↔ (left self.entry ≡ no_trees) }
+    {
+        self.entries.is_empty()
+    }
+
+    pub fn ident(self) -> Option<(&'t Ident<'a>, Cursor<'t, 'a>)>
+        requires { sound self }
+        ensures gives { MatchOption result (first_ident (left self.entry) ≡ None) (λ r. first_ident (left self.entry) ≡ Some (r.0.now, left r.1)) }
+        ensures place { IfSome result (λ r. IsPlaceAfter self.entry r.1) }
+    {
+        match self.entries {
+            [first, rest @ ..] => match first {
+                Entry::Token(Token::Ident(ident)) => Some((
+                    ident,
+                    Cursor {
+                        entries: rest,
+                        limit: self.limit,
+                    },
+                )),
+                _ => None,
+            },
+            [] => None,
+        }
+    }
+
+    pub fn lifetime(self) -> Option<(&'t Lifetime<'a>, Cursor<'t, 'a>)>
+        requires { sound self }
+        ensures gives { MatchOption result (first_lifetime (left self.entry) ≡ None) (λ r. first_lifetime (left self.entry) ≡ Some (r.0.now, left r.1)) }
+        ensures place { IfSome result (λ r. IsPlaceAfter self.entry r.1) }
+    {
+        match self.entries {
+            [first, rest @ ..] => match first {
+                Entry::Token(Token::Lifetime(lifetime)) => Some((
+                    lifetime,
+                    Cursor {
+                        entries: rest,
+                        limit: self.limit,
+                    },
+                )),
+                _ => None,
+            },
+            [] => None,
+        }
+    }
+
+    pub fn punct(self) -> Option<(&'t Punct, Cursor<'t, 'a>)>
+        requires { sound self }
+        ensures gives { MatchOption result (first_punct (left self.entry) ≡ None) (λ r. first_punct (left self.entry) ≡ Some (r.0.now, left r.1)) }
+        ensures place { IfSome result (λ r. IsPlaceAfter self.entry r.1) }
+    {
+        match self.entries {
+            [first, rest @ ..] => match first {
+                Entry::Token(Token::Punct(punct)) => Some((
+                    punct,
+                    Cursor {
+                        entries: rest,
+                        limit: self.limit,
+                    },
+                )),
+                _ => None,
+            },
+            [] => None,
+        }
+    }
+
+    pub fn token_tree(self) -> Option<(Piece<'t, 'a>, Cursor<'t, 'a>)>
+        requires { sound self }
+        ensures gives { MatchOption result (first_tree (left self.entry) ≡ None) (λ r. first_tree (left self.entry) ≡ Some (trees_in r.0, left r.1)) }
+        ensures whole { IfSome result (λ r. whole r.0) }
+        ensures place { IfSome result (λ r. IsPlaceAfter self.entry r.1) }
+    {
+        if self.entries.is_empty() {
+            return None;
+        }
+        let (front, back) = self.entries.split_at(tree_len(self.entries));
+        Some((
+            Piece {
+                entries: front,
+                limit: self.limit,
+            },
+            Cursor {
+                entries: back,
+                limit: self.limit,
+            },
+        ))
+    }
+
+    /// The first `count` trees, where there are so many.
+    pub fn take(self, count: usize) -> Option<(Piece<'t, 'a>, Cursor<'t, 'a>)>
+        requires { sound self }
+        ensures gives { MatchOption result (split_trees count (left self.entry) ≡ None) (λ r. split_trees count (left self.entry) ≡ Some (trees_in r.0, left r.1)) }
+        ensures whole { IfSome result (λ r. whole r.0) }
+        ensures place { IfSome result (λ r. IsPlaceAfter self.entry r.1) }
+    {
+        let at = entries_of(self.entries, count)?;
+        let (front, back) = self.entries.split_at(at);
+        Some((
+            Piece {
+                entries: front,
+                limit: self.limit,
+            },
+            Cursor {
+                entries: back,
+                limit: self.limit,
+            },
+        ))
+    }
+
+    pub fn span(self) -> Span
+        requires { sound self }
+        ensures { result ≡ first_span (left self.entry) self.entry.limit }
+    {
+        match first_and_rest(self.entries) {
+            None => Span {
+                start: self.limit,
+                end: self.limit,
+            },
+            Some((first, rest)) => match first {
+                Entry::Token(token) => span_of(token),
+                Entry::Open(_, from, count) => {
+                    let (_, closing, _) = cut(rest, *count);
+                    Span {
+                        start: from.start,
+                        end: end_of(closing),
+                    }
+                }
+                Entry::Close(_, upto) => *upto,
+            },
+        }
+    }
+
+    pub fn group(self, delim: Delim) -> Option<(Cursor<'t, 'a>, Cursor<'t, 'a>)>
+        requires { sound self }
+        ensures gives { MatchOption result (first_group delim (left self.entry) ≡ None) (λ r. first_group delim (left self.entry) ≡ Some (left r.0, r.0.limit, left r.1)) }
+        ensures inside { IfSome result (λ r. sound r.0) }
+        ensures place { IfSome result (λ r. IsPlaceAfter self.entry r.1) }
+    {
+        let (first, rest) = first_and_rest(self.entries)?;
+        match first {
+            Entry::Open(found, _, count) => {
+                if !is_same_delim(*found, delim) {
+                    return None;
+                }
+                let (inside, closing, others) = cut(rest, *count);
+                Some((
+                    Cursor {
+                        entries: inside,
+                        limit: start_of(closing),
+                    },
+                    Cursor {
+                        entries: others,
+                        limit: self.limit,
+                    },
+                ))
+            }
+            _ => None,
+        }
+    }
+}
+
+/// The first entry and the ones after it.
+fn first_and_rest<'t, 'a>(entries: &'t [Entry<'a>]) -> Option<(&'t Entry<'a>, &'t [Entry<'a>])>
+    ensures { MatchOption result (entries.now ≡ []) (λ r. entries.now ≡ r.0.now ∷ r.1.now) }
+{
+    match entries {
+        [first, rest @ ..] => Some((first, rest)),
+        [] => None,
+    }
+}
+
+/// The entries of a group's inside, which `count` entries end with the closing one, that one, and the others.
+fn cut<'t, 'a>(
+    entries: &'t [Entry<'a>],
+    count: usize,
+) -> (&'t [Entry<'a>], &'t Entry<'a>, &'t [Entry<'a>])
+    requires some { 0 < count }
+    requires fits { count ≤ length entries.now }
+    ensures front { result.0.now ≡ take (count - 1) entries.now }
+    ensures back { drop (count - 1) entries.now ≡ result.1.now ∷ result.2.now }
+{
+    let (front, back) = entries.split_at(count - 1);
+    match first_and_rest(back) {
+        Some((first, rest)) => (front, first, rest),
+        None => unreachable!(),
+    }
+}
+
+/// Where an entry starts.
+fn start_of(entry: &Entry<'_>) -> usize
+    ensures { result ≡ entry_start entry.now }
+{
+    match entry {
+        Entry::Token(_) => 0,
+        Entry::Open(_, from, _) => from.start,
+        Entry::Close(_, upto) => upto.start,
+    }
+}
+
+fn is_same_delim(a: Delim, b: Delim) -> bool
+    ensures { result ≡ same_delim a b }
+{
+    match (a, b) {
+        (Delim::Paren, Delim::Paren) => true,
+        (Delim::Bracket, Delim::Bracket) => true,
+        (Delim::Brace, Delim::Brace) => true,
+        _ => false,
+    }
+}
+
+impl<'t, 'a> Piece<'t, 'a> {
+    pub fn cursor(self) -> Cursor<'t, 'a>
+        requires { whole self }
+        ensures left { left result ≡ trees_in self.entry }
+        ensures sound { sound result }
+        ensures limit { result.limit ≡ self.entry.limit }
+    {
+        Cursor {
+            entries: self.entries,
+            limit: self.limit,
+        }
+    }
+}
+
+/// The number of entries of the first tree.
+fn tree_len(entries: &[Entry<'_>]) -> usize
+    requires flat { IsFlat entries.now }
+    requires some { 0 < length entries.now }
+    ensures { IsTreeLen entries.now result }
+{
+    match first_and_rest(entries) {
+        Some((first, _)) => match first {
+            Entry::Token(_) => 1,
+            Entry::Open(_, _, count) => *count + 1,
+            Entry::Close(_, _) => unreachable!(),
+        },
+        None => unreachable!(),
+    }
+}
+
+fn span_of(token: &Token<'_>) -> Span
+    ensures { result ≡ token_span token.now }
+{
+    match token {
+        Token::Ident(ident) => ident.span,
+        Token::Punct(punct) => punct.span,
+        Token::Literal(literal) => literal.span,
+        Token::Lifetime(lifetime) => lifetime.span,
+    }
+}
+
+/// Where an entry ends.
+fn end_of(entry: &Entry<'_>) -> usize
+    ensures { result ≡ entry_end entry.now }
+{
+    match entry {
+        Entry::Token(_) => 0,
+        Entry::Open(_, from, _) => from.end,
+        Entry::Close(_, upto) => upto.end,
+    }
+}
+
+/// The number of entries of the first `count` trees, where there are so many.
+fn entries_of(entries: &[Entry<'_>], count: usize) -> Option<usize>
+    requires { IsFlat entries.now }
+    ensures { MatchOption result (split_trees count (unflatten entries.now) ≡ None) (λ at. IsCutAfter entries.now count 0 at) }
+{
+    let mut at = 0;
+    let mut more = count;
+    while more > 0 {
+        let rest = &entries[at..];
+        if rest.is_empty() {
+            return None;
+        }
+        at += tree_len(rest);
+        more -= 1;
+    }
+    Some(at)
+}
