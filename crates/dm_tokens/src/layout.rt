@@ -5,7 +5,7 @@ ghost use Rattle.std.specs.Prelude.{◌≡◌, ◌++◌, false, IfOk, OnOk, stri
 ghost use Rattle.dm_tokens.specs.declared.tokens.Token.TheVariants as t;
 ghost use Rattle.dm_tokens.specs.declared.tokens.Entry.TheVariants as entry;
 ghost use Rattle.dm_tokens.specs.Trees.{flatten};
-ghost use Rattle.dm_tokens.specs.Cursors.{trees_in, whole};
+ghost use Rattle.dm_tokens.specs.Cursors.{trees_in, sound_piece};
 ghost use Rattle.dm_tokens.specs.Layout.{laid, laid_one, laid_start, layout, line_ended, nowhere, punct_token, spaced, word_token};
 
 use super::cursor::Piece;
@@ -118,7 +118,7 @@ impl Layout {
     }
 
     pub fn piece(&mut self, piece: Piece<'_, '_>) -> Result<(), AllocError>
-        requires { whole piece }
+        requires { sound_piece piece }
         ensures { OnOk result (self.new ≡ laid self.old (flatten (trees_in piece.entry))) }
     {
         self.entries(piece.entries)
@@ -200,7 +200,7 @@ pub fn print(alloc: Global, stream: &TokenStream<'_>) -> Result<String, AllocErr
 
 /// The text of a run of trees.
 pub fn print_piece(alloc: Global, piece: Piece<'_, '_>) -> Result<String, AllocError>
-    requires { whole piece }
+    requires { sound_piece piece }
     ensures { IfOk result (λ text. string_bytes text ≡ layout (trees_in piece.entry)) }
 {
     let mut text = Layout::new(alloc);
