@@ -8,6 +8,7 @@ use Rattle.dm_tokens.specs.declared.tokens.Span.{Span}
 use Rattle.dm_tokens.specs.declared.tokens.Ident.{Ident}
 use Rattle.dm_tokens.specs.declared.tokens.Lifetime.{Lifetime}
 use Rattle.dm_tokens.specs.declared.tokens.Punct.{Punct}
+use Rattle.dm_tokens.specs.declared.tokens.Literal.{Literal}
 use Rattle.dm_tokens.specs.declared.tokens.Token.TheVariants as t
 use Rattle.dm_tokens.specs.declared.tokens.Entry.TheVariants as entry
 use Rattle.dm_tokens.specs.Trees.{Trees, no_trees, token, group, join, flatten, unflatten}
@@ -16,6 +17,10 @@ use Rattle.dm_tokens.specs.Trees.{Trees, no_trees, token, group, join, flatten, 
 abbrev pub left : Cursor → Trees
 left c = unflatten c.entries.now
 
+-- the end of the list
+abbrev pub end_of : Cursor → ℕ
+end_of c = c.limit
+
 -- whether the entries are those of a list of trees
 abbrev pub sound : Cursor → Type 0
 sound c = flatten (unflatten c.entries.now) ≡ c.entries.now
@@ -23,7 +28,7 @@ sound c = flatten (unflatten c.entries.now) ≡ c.entries.now
 -- d is a place further on in the list of c
 pub record IsPlaceAfter (c d : Cursor) : Type 0 where
   pub is_sound : sound d
-  pub same_limit : d.limit ≡ c.limit
+  pub same_limit : end_of d ≡ end_of c
 
 abbrev pub ident_of : t.the_data → Option Ident
 ident_of (t.Ident i) = Some i
@@ -45,6 +50,14 @@ lifetime_of _ = None
 abbrev pub first_lifetime : Trees → Option (Lifetime × Trees)
 first_lifetime (token k rest) = then_left (lifetime_of k) rest
 first_lifetime _ = None
+
+abbrev pub literal_of : t.the_data → Option Literal
+literal_of (t.Literal l) = Some l
+literal_of _ = None
+
+abbrev pub first_literal : Trees → Option (Literal × Trees)
+first_literal (token k rest) = then_left (literal_of k) rest
+first_literal _ = None
 
 abbrev pub punct_of : t.the_data → Option Punct
 punct_of (t.Punct p) = Some p
@@ -103,11 +116,17 @@ first_span no_trees n = record { start = n; «end» = n }
 first_span (token k rest) n = token_span k
 first_span (group d from inside upto rest) n = record { start = from.start; «end» = upto.«end» }
 
+-- the trees of a run
 abbrev pub trees_in : Piece → Trees
 trees_in p = unflatten p.entries.now
 
-abbrev pub whole : Piece → Type 0
-whole p = flatten (unflatten p.entries.now) ≡ p.entries.now
+-- the end of the list from which a run was taken
+abbrev pub piece_end : Piece → ℕ
+piece_end p = p.limit
+
+-- whether the entries of a run are those of a list of trees
+abbrev pub sound_piece : Piece → Type 0
+sound_piece p = flatten (unflatten p.entries.now) ≡ p.entries.now
 
 abbrev pub entry_end : entry.the_data → ℕ
 entry_end (entry.Token t) = 0

@@ -1,8 +1,8 @@
 ghost use Rattle.std.specs.Prelude.{◌≡◌, ◌↔◌, IsTrue, None, Some, MatchOption, IfSome, [], ◌∷◌, ◌<◌, ◌≤◌, ◌-◌, length, take, drop};
 ghost use Rattle.dm_tokens.specs.Trees.{no_trees, unflatten};
-ghost use Rattle.dm_tokens.specs.Cursors.{left, sound, first_ident, first_lifetime, first_punct, first_group, first_tree, first_span, token_span, trees_in, whole, IsPlaceAfter, IsFlat, IsTreeLen, IsCutAfter, split_trees, entry_start, entry_end, same_delim};
+ghost use Rattle.dm_tokens.specs.Cursors.{left, end_of, sound, first_ident, first_lifetime, first_literal, first_punct, first_group, first_tree, first_span, token_span, trees_in, piece_end, sound_piece, IsPlaceAfter, IsFlat, IsTreeLen, IsCutAfter, split_trees, entry_start, entry_end, same_delim};
 
-use super::tokens::{Delim, Entry, Ident, Lifetime, Punct, Span, Token};
+use super::tokens::{Delim, Entry, Ident, Lifetime, Literal, Punct, Span, Token};
 
 /// A place in a list of trees.
 #[derive(Clone, Copy)]
@@ -86,10 +86,31 @@ impl<'t, 'a> Cursor<'t, 'a> {
         }
     }
 
+    pub fn literal(self) -> Option<(&'t Literal<'a>, Cursor<'t, 'a>)>
+        requires { sound self }
+        ensures gives { MatchOption result (first_literal (left self.entry) ≡ None) (λ r. first_literal (left self.entry) ≡ Some (r.0.now, left r.1)) }
+        ensures place { IfSome result (λ r. IsPlaceAfter self.entry r.1) }
+    {
+        match self.entries {
+            [first, rest @ ..] => match first {
+                Entry::Token(Token::Literal(literal)) => Some((
+                    literal,
+                    Cursor {
+                        entries: rest,
+                        limit: self.limit,
+                    },
+                )),
+                _ => None,
+            },
+            [] => None,
+        }
+    }
+
     pub fn token_tree(self) -> Option<(Piece<'t, 'a>, Cursor<'t, 'a>)>
         requires { sound self }
         ensures gives { MatchOption result (first_tree (left self.entry) ≡ None) (λ r. first_tree (left self.entry) ≡ Some (trees_in r.0, left r.1)) }
-        ensures whole { IfSome result (λ r. whole r.0) }
+        ensures sound { IfSome result (λ r. sound_piece r.0) }
+        ensures piece_end { IfSome result (λ r. piece_end r.0 ≡ end_of self.entry) }
         ensures place { IfSome result (λ r. IsPlaceAfter self.entry r.1) }
     {
         if self.entries.is_empty() {
@@ -112,7 +133,8 @@ impl<'t, 'a> Cursor<'t, 'a> {
     pub fn take(self, count: usize) -> Option<(Piece<'t, 'a>, Cursor<'t, 'a>)>
         requires { sound self }
         ensures gives { MatchOption result (split_trees count (left self.entry) ≡ None) (λ r. split_trees count (left self.entry) ≡ Some (trees_in r.0, left r.1)) }
-        ensures whole { IfSome result (λ r. whole r.0) }
+        ensures sound { IfSome result (λ r. sound_piece r.0) }
+        ensures piece_end { IfSome result (λ r. piece_end r.0 ≡ end_of self.entry) }
         ensures place { IfSome result (λ r. IsPlaceAfter self.entry r.1) }
     {
         let at = entries_of(self.entries, count)?;
@@ -131,7 +153,7 @@ impl<'t, 'a> Cursor<'t, 'a> {
 
     pub fn span(self) -> Span
         requires { sound self }
-        ensures { result ≡ first_span (left self.entry) self.entry.limit }
+        ensures { result ≡ first_span (left self.entry) (end_of self.entry) }
     {
         match first_and_rest(self.entries) {
             None => Span {
@@ -154,7 +176,7 @@ impl<'t, 'a> Cursor<'t, 'a> {
 
     pub fn group(self, delim: Delim) -> Option<(Cursor<'t, 'a>, Cursor<'t, 'a>)>
         requires { sound self }
-        ensures gives { MatchOption result (first_group delim (left self.entry) ≡ None) (λ r. first_group delim (left self.entry) ≡ Some (left r.0, r.0.limit, left r.1)) }
+        ensures gives { MatchOption result (first_group delim (left self.entry) ≡ None) (λ r. first_group delim (left self.entry) ≡ Some (left r.0, end_of r.0, left r.1)) }
         ensures inside { IfSome result (λ r. sound r.0) }
         ensures place { IfSome result (λ r. IsPlaceAfter self.entry r.1) }
     {
@@ -232,10 +254,10 @@ fn is_same_delim(a: Delim, b: Delim) -> bool
 
 impl<'t, 'a> Piece<'t, 'a> {
     pub fn cursor(self) -> Cursor<'t, 'a>
-        requires { whole self }
+        requires { sound_piece self }
         ensures left { left result ≡ trees_in self.entry }
         ensures sound { sound result }
-        ensures limit { result.limit ≡ self.entry.limit }
+        ensures limit { end_of result ≡ piece_end self.entry }
     {
         Cursor {
             entries: self.entries,

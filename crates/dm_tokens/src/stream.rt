@@ -1,15 +1,19 @@
 ghost use Rattle.std.specs.Prelude.{◌≡◌, OnOk, OnErr, IfOk, MatchResult, ◌++◌, ◌∷◌, ◌+◌, [], length};
-ghost use Rattle.dm_tokens.specs.Trees.{no_trees, token, group, join};
+ghost use Rattle.dm_tokens.specs.Trees.{no_trees, token, group, join, flatten};
 ghost use Rattle.dm_tokens.specs.declared.tokens.Entry.TheVariants as entry;
-ghost use Rattle.dm_tokens.specs.Cursors.{left, sound};
+ghost use Rattle.dm_tokens.specs.Cursors.{left, end_of, sound, trees_in, piece_end, sound_piece};
+ghost use Rattle.dm_tokens.specs.Layout.{nowhere};
 
 use super::copy::copy_entries;
-use super::cursor::Cursor;
+use super::cursor::{Cursor, Piece};
 use super::tokens::{Delim, Entry, Span, Token};
 use std::alloc::{AllocError, Global};
 use std::marker::Model;
 
-/// A list of token trees, which is kept flat.
+/// A list of token trees, with its end, a place in the text. It is kept flat: what `entries` lends.
+///
+/// The end is the length of the text that was read, for the inside of a group the start of the closing delimiter, and
+/// 0 for a list that `new` made.
 #[derive(Debug, Drop)]
 pub struct TokenStream<'a> {
     entries: Vec<Entry<'a>>,
@@ -30,16 +34,23 @@ impl<'a> Model for TokenStream<'a> {
 }
 
 impl<'a> TokenStream<'a> {
-    pub fn new(alloc: Global, limit: usize) -> TokenStream<'a>
+    /// The empty list. It keeps the allocator for what is added.
+    pub fn new(alloc: Global) -> TokenStream<'a>
         ensures trees { result.trees ≡ no_trees }
-        ensures limit { result.limit ≡ limit }
+        ensures limit { result.limit ≡ 0 }
     {
         TokenStream {
             entries: Vec::new(alloc),
-            limit,
+            limit: 0,
         }
     }
 
+    /// The allocator that the list was made with.
+    pub fn allocator(&self) -> Global {
+        *self.entries.allocator()
+    }
+
+    /// Adds a token at the end, or hands it back for want of memory.
     pub fn push(&mut self, item: Token<'a>) -> Result<(), Token<'a>>
         ensures pushed { OnOk result (self.new.trees ≡ join self.old.trees (token item.entry no_trees)) }
         ensures refused { MatchResult result (λ _. Unit {0}) (λ back. back ≡ item.entry) }
@@ -55,45 +66,43 @@ impl<'a> TokenStream<'a> {
         }
     }
 
-    pub fn push_group(
-        &mut self,
-        delim: Delim,
-        from: Span,
-        inner: TokenStream<'a>,
-        upto: Span,
-    ) -> Result<(), AllocError>
-        ensures pushed { OnOk result (self.new.trees ≡ join self.old.trees (group delim from inner.entry.trees upto no_trees)) }
+    /// Adds a group at the end. Both delimiters have the range 0..0, and the end of `inner` is dropped.
+    pub fn push_group(&mut self, delim: Delim, inner: TokenStream<'a>) -> Result<(), AllocError>
+        ensures pushed { OnOk result (self.new.trees ≡ join self.old.trees (group delim nowhere inner.entry.trees nowhere no_trees)) }
         ensures unchanged { OnErr result (self.new.trees ≡ self.old.trees) }
         ensures limit { self.new.limit ≡ self.old.limit }
     {
         let TokenStream { entries, limit: _ } = inner;
-        append_group(&mut self.entries, delim, from, entries, upto)
+        let nowhere = Span { start: 0, end: 0 };
+        append_group(&mut self.entries, delim, nowhere, entries, nowhere)
     }
 
-    /// Adds all of another stream.
-    pub fn extend(&mut self, other: TokenStream<'a>) -> Result<(), AllocError>
-        ensures pushed { OnOk result (self.new.trees ≡ join self.old.trees other.entry.trees) }
+    /// Adds a run of trees at the end.
+    pub fn extend(&mut self, piece: Piece<'_, 'a>) -> Result<(), AllocError>
+        requires { sound_piece piece }
+        ensures pushed { OnOk result (self.new.trees ≡ join self.old.trees (trees_in piece.entry)) }
+        ensures unchanged { OnErr result (self.new.trees ≡ self.old.trees) }
         ensures limit { self.new.limit ≡ self.old.limit }
     {
-        let TokenStream { mut entries, limit: _ } = other;
-        append_entries(&mut self.entries, &mut entries)
+        let alloc = *self.entries.allocator();
+        append_copies(alloc, &mut self.entries, piece.entries)
     }
 
-    /// Made in this module, which sees the fields.
-    pub fn copy_of(from: &TokenStream<'a>, alloc: Global) -> Result<TokenStream<'a>, AllocError>
-        ensures { IfOk result (λ r. r ≡ from.now) }
+    /// An equal value. Borrowed texts stay borrowed.
+    pub fn clone_in(&self, alloc: Global) -> Result<TokenStream<'a>, AllocError>
+        ensures { IfOk result (λ r. r ≡ self.now) }
     {
         Ok(TokenStream {
-            entries: copy_entries(alloc, from.entries.as_slice())?,
-            limit: from.limit,
+            entries: copy_entries(alloc, self.entries.as_slice())?,
+            limit: self.limit,
         })
     }
 
-    /// A copy of what is left.
+    /// A list of its own of what a cursor has left, with its end.
     pub fn from_cursor(alloc: Global, from: Cursor<'_, 'a>) -> Result<TokenStream<'a>, AllocError>
         requires { sound from }
         ensures trees { IfOk result (λ r. r.trees ≡ left from.entry) }
-        ensures limit { IfOk result (λ r. r.limit ≡ from.entry.limit) }
+        ensures limit { IfOk result (λ r. r.limit ≡ end_of from.entry) }
     {
         Ok(TokenStream {
             entries: copy_entries(alloc, from.entries)?,
@@ -101,12 +110,32 @@ impl<'a> TokenStream<'a> {
         })
     }
 
+    /// The list's own vector, in which each group is an `Open`, its inside and a `Close`.
+    pub fn entries(&self) -> &[Entry<'a>]
+        ensures { result.now ≡ flatten self.now.trees }
+    {
+        self.entries.as_slice()
+    }
+
+    /// The place before the first tree.
     pub fn cursor(&self) -> Cursor<'_, 'a>
         ensures left { left result ≡ self.now.trees }
         ensures sound { sound result }
-        ensures limit { result.limit ≡ self.now.limit }
+        ensures limit { end_of result ≡ self.now.limit }
     {
         Cursor {
+            entries: self.entries.as_slice(),
+            limit: self.limit,
+        }
+    }
+
+    /// The whole list as a run of trees.
+    pub fn piece(&self) -> Piece<'_, 'a>
+        ensures trees { trees_in result ≡ self.now.trees }
+        ensures sound { sound_piece result }
+        ensures limit { piece_end result ≡ self.now.limit }
+    {
+        Piece {
             entries: self.entries.as_slice(),
             limit: self.limit,
         }
@@ -125,21 +154,24 @@ fn append_group<'a>(
     ensures err { OnErr result (entries.new.items ≡ entries.old.items) }
 {
     inside.push(Entry::Close(delim, upto))?;
-    let count = inside.len();
+    let number = inside.len();
     let Some(room) = inside.len().checked_add(1) else {
         return Err(AllocError);
     };
     entries.reserve(room)?;
-    entries.push(Entry::Open(delim, from, count))?;
+    entries.push(Entry::Open(delim, from, number))?;
     entries.append(&mut inside)
 }
 
-fn append_entries<'a>(
+/// Adds copies of entries, or changes nothing for want of memory.
+fn append_copies<'a>(
+    alloc: Global,
     entries: &mut Vec<Entry<'a>>,
-    more: &mut Vec<Entry<'a>>,
+    more: &[Entry<'a>],
 ) -> Result<(), AllocError>
-    ensures ok { OnOk result (entries.new.items ≡ entries.old.items ++ more.old.items) }
+    ensures ok { OnOk result (entries.new.items ≡ entries.old.items ++ more.now) }
     ensures err { OnErr result (entries.new.items ≡ entries.old.items) }
 {
-    entries.append(more)
+    let mut copies = copy_entries(alloc, more)?;
+    entries.append(&mut copies)
 }

@@ -1,19 +1,34 @@
+ghost use Rattle.std.specs.Prelude.{◌≡◌, min, max};
+
 use super::text::Text;
 
-/// The bytes from `start` to before `end`.
+/// The bytes of a declaration's text from `start` to before `end`.
 #[derive(Clone, Copy, Debug, PartialEq, Eq)]
 pub struct Span {
     pub start: usize,
     pub end: usize,
 }
 
-/// Whether a punctuation character touches the next one.
+impl Span {
+    /// The least range that holds both.
+    pub fn join(self, other: Span) -> Span
+        ensures { result ≡ record { start = min self.start other.start; «end» = max self.«end» other.«end» } }
+    {
+        Span {
+            start: self.start.min(other.start),
+            end: self.end.max(other.end),
+        }
+    }
+}
+
+/// Whether a punct touches a punct that follows, as the first `:` of `::` does.
 #[derive(Clone, Copy, Debug, PartialEq, Eq)]
 pub enum Spacing {
     Joint,
     Alone,
 }
 
+/// `(..)`, `[..]` or `{..}`.
 #[derive(Clone, Copy, Debug, PartialEq, Eq)]
 pub enum Delim {
     Paren,
@@ -21,6 +36,7 @@ pub enum Delim {
     Brace,
 }
 
+/// The kinds of literals, as the Rust Reference has them. There are no floats.
 #[derive(Clone, Copy, Debug, PartialEq, Eq)]
 pub enum LitKind {
     Str,
@@ -34,6 +50,7 @@ pub enum LitKind {
     Int,
 }
 
+/// An identifier or a keyword. The name of a raw one, as `r#type`, is without its `r#`.
 #[derive(Debug, Drop)]
 pub struct Ident<'a> {
     pub name: Text<'a>,
@@ -41,6 +58,14 @@ pub struct Ident<'a> {
     pub span: Span,
 }
 
+/// A lifetime. Its name is without the `'`.
+#[derive(Debug, Drop)]
+pub struct Lifetime<'a> {
+    pub name: Text<'a>,
+    pub span: Span,
+}
+
+/// One character of punctuation.
 #[derive(Clone, Copy, Debug, PartialEq, Eq)]
 pub struct Punct {
     pub ch: char,
@@ -48,6 +73,7 @@ pub struct Punct {
     pub span: Span,
 }
 
+/// A literal, as it is spelled, with its quotes, escapes and suffix.
 #[derive(Debug, Drop)]
 pub struct Literal<'a> {
     pub kind: LitKind,
@@ -55,21 +81,17 @@ pub struct Literal<'a> {
     pub span: Span,
 }
 
-#[derive(Debug, Drop)]
-pub struct Lifetime<'a> {
-    pub name: Text<'a>,
-    pub span: Span,
-}
-
+/// A tree that is no group.
 #[derive(Debug, Drop)]
 pub enum Token<'a> {
     Ident(Ident<'a>),
+    Lifetime(Lifetime<'a>),
     Punct(Punct),
     Literal(Literal<'a>),
-    Lifetime(Lifetime<'a>),
 }
 
-/// A place in the flat form of a list of trees.
+/// A place in the flat form of a list of trees: a token, or where a group begins or ends, with the range of that
+/// delimiter. The number is that of the entries after `Open` up to the group's `Close`, with it.
 #[derive(Debug, Drop)]
 pub enum Entry<'a> {
     Token(Token<'a>),
