@@ -2,6 +2,7 @@
 #![tactic(auto)]
 
 mod decl;
+mod emit;
 mod plain;
 mod ty;
 
