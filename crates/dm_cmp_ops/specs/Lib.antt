@@ -1,0 +1,4 @@
+pub mod Skips
+pub mod Direct
+pub mod Heads
+pub mod Emitted
