@@ -1,0 +1,4 @@
+pub mod Names
+pub mod Bindings
+pub mod Chains
+pub mod Arms

@@ -2,3 +2,4 @@ pub mod Skips
 pub mod Direct
 pub mod Heads
 pub mod Emitted
+pub mod Named
