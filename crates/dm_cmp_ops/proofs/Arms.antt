@@ -1,10 +1,10 @@
 -- What the arms give at two values of one variant.
-use Rattle.std.proofs.Common.{◌≡◌, ◌≢◌, ℕ, zero, suc, ◌+◌, ◌<◌, ◌^◌, List, [], ◌∷◌, length, Bool, true, false, not, cond, ◌&&◌, Option, Some, None, slice_get, refl, sym, ap, ◌∙◌, subst, arith}
+use Rattle.std.proofs.Common.{◌≡◌, ◌≢◌, ℕ, zero, suc, ◌+◌, ◌<◌, ◌^◌, List, [], ◌∷◌, length, Bool, true, false, not, cond, ◌&&◌, Option, Some, slice_get, refl, sym, ap, ◌∙◌, arith}
 use Rattle.std.specs.Prelude.{option_and_then}
-use Rattle.dm_syntax.specs.Declarations.{Declaration, FieldTree, FieldsTree}
+use Rattle.dm_syntax.specs.Declarations.{Declaration, FieldTree}
 use Rattle.dm_emit.specs.Output.{ArmTree, arms_of, exprs_of}
 use Rattle.dm_emit.specs.Values.{Value, mine, theirs, Thing, truth, value, pair, Case, cases, field_list}
-use Rattle.dm_emit.specs.Run.{Env, run, run_arms, path_case, fields_of_case, brace_fields}
+use Rattle.dm_emit.specs.Run.{Env, run, run_arms, brace_fields}
 use Rattle.dm_cmp_ops.specs.declared.partial_eq.Comparing.{Comparing}
 use Rattle.dm_cmp_ops.specs.Skips.{is_skipped}
 use Rattle.dm_cmp_ops.specs.Heads.{keeps_some, is_compared}
@@ -21,7 +21,7 @@ two_values x y = pair (value mine x) (value theirs y)
 compared-keeps : (v : Case) → is_compared v ≡ true → keeps_some (field_list v.fields) ≡ true
 compared-keeps v h =
     (elim (is_skipped v.attrs) as (λ b. (not b && keeps_some (field_list v.fields)) ≡ true → keeps_some (field_list v.fields) ≡ true)
-      [ true ↦ λ k. cc | false ↦ λ k. k ]) h
+    [ true ↦ λ k. cc | false ↦ λ k. k ]) h
 
 -- the arm of the variant of both values
 arm-taken : (c : Comparing) (d : Declaration) (os : List Bool) (v : Case) (x y : Value) (env : Env) (more : List ArmTree) → AreNamed d →
@@ -36,13 +36,13 @@ arm-taken c d os v x y env more names at same compared small len =
     let keeps = compared-keeps v compared in
     let braces : (gs : List FieldTree) → brace_fields v.fields ≡ Some gs → AreFieldsNamed gs = λ gs e. names.fields x.variant v gs at e in
     let left = fits-side d self_name mine (case_path d v) v.fields x env (path-found d x.variant v names at)
-      (λ kind. ap (option_and_then (λ (b : Case). kind b.fields)) at) braces keeps in
+    (λ kind. ap (option_and_then (λ (b : Case). kind b.fields)) at) braces keeps in
     let right = fits-side d other_name theirs (case_path d v) v.fields y env1 (path-found d y.variant v names at')
-      (λ kind. ap (option_and_then (λ (b : Case). kind b.fields)) at') braces keeps in
+    (λ kind. ap (option_and_then (λ (b : Case). kind b.fields)) at') braces keeps in
     let all' : run (setting d os) (join_of c (exprs_of (tests c 0 fs))) env2 ≡ Some (truth (says c (all_kept fs os))) =
-      run-tests c d os env2 0 fs os (λ k. ap (slice_get os) (omega arith)) len
-        (knows-behind skips_field self_name other_name self-other mine theirs 0 fs fs env1 (knows skips_field self_name self-self mine 0 fs env (omega arith)))
-        (knows skips_field other_name other-other theirs 0 fs env1 (omega arith)) in
+    run-tests c d os env2 0 fs os (λ k. ap (slice_get os) (omega arith)) len
+    (knows-behind skips_field self_name other_name self-other mine theirs 0 fs fs env1 (knows skips_field self_name self-self mine 0 fs env (omega arith)))
+    (knows skips_field other_name other-other theirs 0 fs env1 (omega arith)) in
     rw (left, right) (run-chain c (setting d os) (tests c 0 fs) env2 (says c (all_kept fs os)) all')
 
 -- the arm of another variant
@@ -74,10 +74,11 @@ arms-past c d os x y env more [] n names from lt = refl
 arms-past c d os x y env more (v ∷ vs) n names from lt =
     let behind = arms-past c d os x y env more vs (n + 1) names (from-rest (cases d) n v vs from) (omega arith) in
     elim (is_compared v) as (λ b.
-      run_arms (setting d os) (arms_of (cond b (arm c d v ∷ arms c d vs more) (arms c d vs more))) (two_values x y) env ≡
-      run_arms (setting d os) (arms_of more) (two_values x y) env)
-    [ true ↦ arm-passed c d os v n x y env (arms c d vs more) names (from-first (cases d) n v vs from) (omega arith) ∙ behind
-    | false ↦ behind ]
+    run_arms (setting d os) (arms_of (cond b (arm c d v ∷ arms c d vs more) (arms c d vs more))) (two_values x y) env ≡
+    run_arms (setting d os) (arms_of more) (two_values x y) env) [
+      | true ↦ arm-passed c d os v n x y env (arms c d vs more) names (from-first (cases d) n v vs from) (omega arith) ∙ behind
+      | false ↦ behind
+    ]
 
 pub arms-run : (c : Comparing) (d : Declaration) (os : List Bool) (x y : Value) (env : Env) (more : List ArmTree) (u : Case) (vs : List Case) (n j : ℕ) → AreNamed d →
     AreFrom (cases d) n vs → slice_get vs j ≡ Some u → x.variant ≡ n + j → x.variant ≡ y.variant →
@@ -90,13 +91,14 @@ arms-run c d os x y env more u (v ∷ vs) n zero names from at is same small len
     let e : v ≡ u = cc in
     let here : slice_get (cases d) x.variant ≡ Some u = ap (slice_get (cases d)) (omega arith) ∙ from-first (cases d) n v vs from ∙ ap Some e in
     rw e ((elim (is_compared u) as (λ b. is_compared u ≡ b →
-        run_arms (setting d os) (arms_of (cond b (arm c d u ∷ arms c d vs more) (arms c d vs more))) (two_values x y) env ≡
-        answer c u b os (run_arms (setting d os) (arms_of more) (two_values x y) env))
-      [ true ↦ λ h. arm-taken c d os u x y env (arms c d vs more) names here same h small len | false ↦ λ h. behind ]) refl)
+    run_arms (setting d os) (arms_of (cond b (arm c d u ∷ arms c d vs more) (arms c d vs more))) (two_values x y) env ≡
+    answer c u b os (run_arms (setting d os) (arms_of more) (two_values x y) env))
+    [ true ↦ λ h. arm-taken c d os u x y env (arms c d vs more) names here same h small len | false ↦ λ h. behind ]) refl)
 arms-run c d os x y env more u (v ∷ vs) n (suc j) names from at is same small len =
     let further = arms-run c d os x y env more u vs (n + 1) j names (from-rest (cases d) n v vs from) at (omega arith) same small len in
     elim (is_compared v) as (λ b.
-      run_arms (setting d os) (arms_of (cond b (arm c d v ∷ arms c d vs more) (arms c d vs more))) (two_values x y) env ≡
-      answer c u (is_compared u) os (run_arms (setting d os) (arms_of more) (two_values x y) env))
-    [ true ↦ arm-passed c d os v n x y env (arms c d vs more) names (from-first (cases d) n v vs from) (omega arith) ∙ further
-    | false ↦ further ]
+    run_arms (setting d os) (arms_of (cond b (arm c d v ∷ arms c d vs more) (arms c d vs more))) (two_values x y) env ≡
+    answer c u (is_compared u) os (run_arms (setting d os) (arms_of more) (two_values x y) env)) [
+      | true ↦ arm-passed c d os v n x y env (arms c d vs more) names (from-first (cases d) n v vs from) (omega arith) ∙ further
+      | false ↦ further
+    ]

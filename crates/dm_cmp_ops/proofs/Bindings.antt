@@ -1,14 +1,13 @@
 -- What the patterns of a side bind: a name for each kept field, whichever fields are kept and however they are named.
-use Rattle.std.proofs.Common.{◌≡◌, ◌≢◌, ℕ, zero, suc, ◌+◌, ◌<◌, ◌≤◌, ◌^◌, List, [], ◌∷◌, length, Bool, true, false, not, cond, ◌&&◌, ◌||◌, eqb, Option, Some, None, slice_get, refl, sym, ap, ◌∙◌, subst, arith}
+use Rattle.std.proofs.Common.{◌≡◌, ◌≢◌, ℕ, suc, ◌+◌, ◌<◌, ◌≤◌, ◌^◌, List, [], ◌∷◌, length, Bool, true, false, cond, ◌||◌, eqb, Option, Some, None, slice_get, refl, ap, ◌∙◌, arith}
 use Rattle.std.specs.Prelude.{option_and_then}
 use Rattle.std.specs.Str.{bytes_eq}
-use Rattle.dm_tokens.specs.declared.tokens.Ident.{Ident}
 use Rattle.dm_syntax.specs.Tree.{PathTree}
 use Rattle.dm_syntax.specs.Declarations.{Declaration, Listed, FieldTree, FieldsTree, named, unnamed, unit}
 use Rattle.dm_emit.specs.declared.pattern.Binding.TheVariants.{Plain}
-use Rattle.dm_emit.specs.Output.{PatternTree, wild, bind, tuple_pattern, named_pattern, patterns_of, pattern_then, named_of, named_then}
-use Rattle.dm_emit.specs.Values.{Text, Value, Side, Thing, value, place, Case, cases, field_list}
-use Rattle.dm_emit.specs.Run.{Env, bound, path_case, side_of, paren_fields, brace_fields, fields_of_case, count_patterns, count_named, of_length, field_named, fits, fits_fields, fits_named}
+use Rattle.dm_emit.specs.Output.{bind, patterns_of, pattern_then, named_of}
+use Rattle.dm_emit.specs.Values.{Text, Value, Side, value, place, field_list}
+use Rattle.dm_emit.specs.Run.{Env, bound, path_case, paren_fields, brace_fields, fields_of_case, count_patterns, count_named, of_length, fits, fits_fields, fits_named}
 use Rattle.dm_cmp_ops.specs.Skips.{is_skipped}
 use Rattle.dm_cmp_ops.specs.Heads.{word, keeps_some}
 use Rattle.dm_cmp_ops.specs.Emitted.{binding, bindings, named_bindings, field_ident, some_skipped_field, side}
@@ -39,22 +38,22 @@ pub knows : (skips : FieldTree → Bool) (naming : ℕ → Text) (differ : Diffe
     n + length fs < 2 ^ 64 → Knows skips naming s (bound_side skips naming s n fs env) n fs
 knows skips naming differ s n [] env small = tt
 knows skips naming differ s n (f ∷ fs) env small = (
-    λ kept.
+  λ kept.
       bound-miss skips naming s (n + 1) fs (cond (skips f) env ((naming n, place s n) ∷ env)) (naming n)
-        (λ m a b. differ n m (omega arith) (omega arith) (omega arith)) ∙
+      (λ m a b. differ n m (omega arith) (omega arith) (omega arith)) ∙
       ap (λ b. bound (cond b env ((naming n, place s n) ∷ env)) (naming n)) kept ∙
       ap (λ c. cond c (Some (place s n)) (bound env (naming n))) (bytes_same (naming n)),
-    knows skips naming differ s (n + 1) fs (cond (skips f) env ((naming n, place s n) ∷ env)) (omega arith)
-  )
+  knows skips naming differ s (n + 1) fs (cond (skips f) env ((naming n, place s n) ∷ env)) (omega arith),
+)
 
 -- the names of a side stay known behind those of another
 pub knows-behind : (skips : FieldTree → Bool) (first second : ℕ → Text) (apart : Apart first second) (s t : Side) (n : ℕ) (fs gs : List FieldTree) (env : Env) →
     Knows skips first s env n fs → Knows skips first s (bound_side skips second t 0 gs env) n fs
 knows-behind skips first second apart s t n [] gs env k = tt
 knows-behind skips first second apart s t n (f ∷ fs) gs env k = (
-    λ kept. bound-miss skips second t 0 gs env (first n) (λ m a b. apart n m) ∙ k.0 kept,
-    knows-behind skips first second apart s t (n + 1) fs gs env k.1
-  )
+  λ kept. bound-miss skips second t 0 gs env (first n) (λ m a b. apart n m) ∙ k.0 kept,
+  knows-behind skips first second apart s t (n + 1) fs gs env k.1,
+)
 
 -- ---- the patterns that bind them
 
@@ -67,8 +66,8 @@ fits-bindings : (d : Declaration) (naming : ℕ → Text) (s : Side) (n : ℕ) (
 fits-bindings d naming s n [] env = refl
 fits-bindings d naming s n (f ∷ fs) env =
     elim (is_skipped f.attrs) as (λ b.
-      fits_fields d (pattern_then (binding b (naming n)) (patterns_of (bindings naming (n + 1) fs))) s n env ≡
-      Some (bound_side skips_field naming s (n + 1) fs (cond b env ((naming n, place s n) ∷ env))))
+    fits_fields d (pattern_then (binding b (naming n)) (patterns_of (bindings naming (n + 1) fs))) s n env ≡
+    Some (bound_side skips_field naming s (n + 1) fs (cond b env ((naming n, place s n) ∷ env))))
     [ true ↦ fits-bindings d naming s (n + 1) fs env | false ↦ fits-bindings d naming s (n + 1) fs ((naming n, place s n) ∷ env) ]
 
 count-bindings : (naming : ℕ → Text) (n : ℕ) (fs : List FieldTree) → count_patterns (patterns_of (bindings naming n fs)) ≡ length fs
@@ -81,10 +80,11 @@ fits-named-bindings : (d : Declaration) (naming : ℕ → Text) (s : Side) (all 
 fits-named-bindings d naming s all n [] env found = refl
 fits-named-bindings d naming s all n (f ∷ fs) env found =
     elim (is_skipped f.attrs) as (λ b.
-      fits_named d (named_of (cond b (named_bindings naming (n + 1) fs) ((field_ident f.ident, bind Plain (word (naming n))) ∷ named_bindings naming (n + 1) fs))) all s env ≡
-      Some (bound_side skips_field naming s (n + 1) fs (cond b env ((naming n, place s n) ∷ env))))
-    [ true ↦ fits-named-bindings d naming s all (n + 1) fs env found.1
-    | false ↦ rw found.0 (fits-named-bindings d naming s all (n + 1) fs ((naming n, place s n) ∷ env) found.1) ]
+    fits_named d (named_of (cond b (named_bindings naming (n + 1) fs) ((field_ident f.ident, bind Plain (word (naming n))) ∷ named_bindings naming (n + 1) fs))) all s env ≡
+    Some (bound_side skips_field naming s (n + 1) fs (cond b env ((naming n, place s n) ∷ env)))) [
+      | true ↦ fits-named-bindings d naming s all (n + 1) fs env found.1
+      | false ↦ rw found.0 (fits-named-bindings d naming s all (n + 1) fs ((naming n, place s n) ∷ env) found.1)
+    ]
 
 -- the fields that are all kept
 count-named-bindings : (naming : ℕ → Text) (n : ℕ) (fs : List FieldTree) → some_skipped_field fs ≡ false →
@@ -92,7 +92,7 @@ count-named-bindings : (naming : ℕ → Text) (n : ℕ) (fs : List FieldTree) �
 count-named-bindings naming n [] kept = refl
 count-named-bindings naming n (f ∷ fs) kept =
     (elim (is_skipped f.attrs) as (λ b. (b || some_skipped_field fs) ≡ false →
-      count_named (named_of (cond b (named_bindings naming (n + 1) fs) ((field_ident f.ident, bind Plain (word (naming n))) ∷ named_bindings naming (n + 1) fs))) ≡ suc (length fs))
+    count_named (named_of (cond b (named_bindings naming (n + 1) fs) ((field_ident f.ident, bind Plain (word (naming n))) ∷ named_bindings naming (n + 1) fs))) ≡ suc (length fs))
     [ true ↦ λ k. cc | false ↦ λ k. ap suc (count-named-bindings naming (n + 1) fs k) ]) kept
 
 -- ---- a side
@@ -116,11 +116,12 @@ fits-brace d naming s p fs x env at has names =
     let whole = fits-named-bindings d naming s fs.items 0 fs.items env (are-found fs.items 0 fs.items names (λ k. ap (slice_get fs.items) (omega arith))) in
     rw (at, eqb-same x.variant, has)
     ((elim (some_skipped_field fs.items) as (λ b. some_skipped_field fs.items ≡ b →
-        option_and_then (λ gs. fits_named d (named_of (named_bindings naming 0 fs.items)) gs s env)
-          (cond b (Some fs.items) (of_length (count_named (named_of (named_bindings naming 0 fs.items))) (Some fs.items))) ≡
-        Some (bound_side skips_field naming s 0 fs.items env))
-      [ true ↦ λ h. whole
-      | false ↦ λ h. rw (count-named-bindings naming 0 fs.items h, eqb-same (length fs.items)) whole ]) refl)
+    option_and_then (λ gs. fits_named d (named_of (named_bindings naming 0 fs.items)) gs s env)
+    (cond b (Some fs.items) (of_length (count_named (named_of (named_bindings naming 0 fs.items))) (Some fs.items))) ≡
+    Some (bound_side skips_field naming s 0 fs.items env)) [
+      | true ↦ λ h. whole
+      | false ↦ λ h. rw (count-named-bindings naming 0 fs.items h, eqb-same (length fs.items)) whole
+    ]) refl)
 
 -- a side of a variant with a kept field, at a value of the variant
 pub fits-side : (d : Declaration) (naming : ℕ → Text) (s : Side) (p : PathTree) (fs : FieldsTree) (x : Value) (env : Env) →

@@ -1,14 +1,14 @@
 -- What a chain of tests gives.
-use Rattle.std.proofs.Common.{◌≡◌, ℕ, zero, suc, ◌+◌, List, [], ◌∷◌, length, Bool, true, false, not, cond, ◌&&◌, ◌||◌, eqb, Option, Some, None, slice_get, refl, sym, ap, ◌∙◌, arith}
+use Rattle.std.proofs.Common.{◌≡◌, ℕ, zero, suc, ◌+◌, List, [], ◌∷◌, length, Bool, true, false, cond, ◌&&◌, ◌||◌, Option, Some, None, slice_get, refl, ap, ◌∙◌, arith}
 use Rattle.dm_syntax.specs.Declarations.{Declaration, FieldTree}
-use Rattle.dm_emit.specs.Output.{ExprTree, ExprTrees, exprs_of}
-use Rattle.dm_emit.specs.Values.{Text, mine, theirs, Thing, truth, value, pair, place, discriminant, term}
+use Rattle.dm_emit.specs.Output.{ExprTree, exprs_of}
+use Rattle.dm_emit.specs.Values.{mine, theirs, Thing, truth, value, pair, place, discriminant, term}
 use Rattle.dm_emit.specs.Run.{Env, Setting, bound, run, if_truth}
 use Rattle.dm_cmp_ops.specs.declared.partial_eq.Comparing.{Comparing}
 use Rattle.dm_cmp_ops.specs.declared.partial_eq.Comparing.TheVariants.{Equal, Unequal}
 use Rattle.dm_cmp_ops.specs.Skips.{is_skipped}
 use Rattle.dm_cmp_ops.specs.Direct.{all_kept}
-use Rattle.dm_cmp_ops.specs.Emitted.{says, neutral_of, join_of, test_of, name, self_name, other_name, test, tests, chain}
+use Rattle.dm_cmp_ops.specs.Emitted.{says, neutral_of, join_of, self_name, other_name, test, tests, chain}
 use Rattle.dm_cmp_ops.proofs.Bindings.{Knows, skips_field, eqb-same}
 
 abbrev pub setting : Declaration → List Bool → Setting
@@ -31,6 +31,11 @@ join-then Equal s e es env true b h k = rw h k
 join-then Equal s e es env false b h k = rw h refl
 join-then Unequal s e es env true b h k = rw h k
 join-then Unequal s e es env false b h k = rw h refl
+
+pub join-stops : (c : Comparing) (s : Setting) (e : ExprTree) (es : List ExprTree) (env : Env) →
+    run s e env ≡ Some (truth (says c false)) → run s (join_of c (exprs_of (e ∷ es))) env ≡ Some (truth (says c false))
+join-stops Equal s e es env h = rw h refl
+join-stops Unequal s e es env h = rw h refl
 
 pub join-one : (c : Comparing) (s : Setting) (e : ExprTree) (env : Env) (o : Bool) →
     run s e env ≡ Some (truth (says c o)) → run s (join_of c (exprs_of (e ∷ []))) env ≡ Some (truth (says c o))
@@ -77,9 +82,10 @@ run-tests c d outcomes env n (f ∷ fs) (o ∷ os) at len a b =
     let more = run-tests c d outcomes env (n + 1) fs os (λ k. ap (slice_get outcomes) (omega arith) ∙ at (suc k)) (omega arith) a.1 b.1 in
     let here : slice_get outcomes n ≡ Some o = ap (slice_get outcomes) (omega arith) ∙ at zero in
     (elim (is_skipped f.attrs) as (λ s. (s ≡ false → bound env (self_name n) ≡ Some (place mine n)) → (s ≡ false → bound env (other_name n) ≡ Some (place theirs n)) →
-        run (setting d outcomes) (join_of c (exprs_of (cond s (tests c (n + 1) fs) (test c n ∷ tests c (n + 1) fs)))) env ≡
-        Some (truth (says c ((s || o) && all_kept fs os))))
-      [ true ↦ λ a' b'. more
+    run (setting d outcomes) (join_of c (exprs_of (cond s (tests c (n + 1) fs) (test c n ∷ tests c (n + 1) fs)))) env ≡
+    Some (truth (says c ((s || o) && all_kept fs os)))) [
+      | true ↦ λ a' b'. more
       | false ↦ λ a' b'. join-then c (setting d outcomes) (test c n) (tests c (n + 1) fs) env o (all_kept fs os)
-          (run-test c d outcomes env n o here (a' refl) (b' refl)) more ])
+          (run-test c d outcomes env n o here (a' refl) (b' refl)) more
+    ])
     a.0 b.0
