@@ -1,0 +1,5 @@
+pub mod Names
+pub mod Bindings
+pub mod Chains
+pub mod Arms
+pub mod PartialEqLaws

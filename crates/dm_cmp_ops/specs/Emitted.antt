@@ -1,0 +1,155 @@
+-- The bodies that are emitted for `eq` and `ne`: one form, with the test, the join and the neutral truth of each.
+use Rattle.std.specs.Prelude.{◌≡◌, ℕ, ◌+◌, List, [], ◌∷◌, ◌++◌, length, Bool, true, false, not, cond, ◌&&◌, ◌||◌, eqb, nat_lt, Option, Some, None, codes}
+use Rattle.std.specs.Fmt.{decimal}
+use Rattle.dm_tokens.specs.declared.tokens.Ident.{Ident}
+use Rattle.dm_syntax.specs.Tree.{PathTree, no_self}
+use Rattle.dm_syntax.specs.Declarations.{Declaration, FieldTree, FieldsTree, named, unnamed, unit}
+use Rattle.dm_emit.specs.declared.pattern.Binding.TheVariants.{Plain}
+use Rattle.dm_emit.specs.Output.{PatternTree, wild, bind, tuple_pattern, named_pattern, pair_pattern, patterns_of, named_of, ExprTree, or_expr, and_expr, equal, unequal, deref, path_expr, call, tuple, bool, match_expr, unsafe_expr, ExprTrees, no_exprs, expr_then, exprs_of, no_expr, some_expr, ArmTree, no_arms, arms_of, block_body, expr_body, BlockTree, last_expr}
+use Rattle.dm_emit.specs.Values.{Text, Case, cases, is_enum, field_list}
+use Rattle.dm_emit.specs.Run.{discriminant_names}
+use Rattle.dm_cmp_ops.specs.declared.partial_eq.Comparing.{Comparing}
+use Rattle.dm_cmp_ops.specs.declared.partial_eq.Comparing.TheVariants.{Equal, Unequal}
+use Rattle.dm_cmp_ops.specs.Skips.{is_skipped}
+use Rattle.dm_cmp_ops.specs.Heads.{word, words, plain_path, is_compared, some_compared}
+
+-- ---- `eq` and `ne`
+
+abbrev pub test_of : Comparing → ExprTree → ExprTree → ExprTree
+test_of Equal a b = equal a b
+test_of Unequal a b = unequal a b
+
+abbrev pub join_of : Comparing → ExprTrees → ExprTree
+join_of Equal es = and_expr es
+join_of Unequal es = or_expr es
+
+abbrev pub neutral_of : Comparing → Bool
+neutral_of Equal = true
+neutral_of Unequal = false
+
+-- what the method gives where its operands compare so
+abbrev pub says : Comparing → Bool → Bool
+says Equal b = b
+says Unequal b = not b
+
+-- ---- names and patterns
+
+abbrev pub self_name : ℕ → Text
+self_name n = codes "__self_" ++ decimal n
+
+abbrev pub other_name : ℕ → Text
+other_name n = codes "__other_" ++ decimal n
+
+abbrev pub name : Text → ExprTree
+name x = path_expr no_self (plain_path (word x ∷ []))
+
+abbrev pub binding : Bool → Text → PatternTree
+binding skip x = cond skip wild (bind Plain (word x))
+
+abbrev pub bindings : (ℕ → Text) → ℕ → List FieldTree → List PatternTree
+bindings naming n [] = []
+bindings naming n (f ∷ fs) = binding (is_skipped f.attrs) (naming n) ∷ bindings naming (n + 1) fs
+
+abbrev pub field_ident : Option Ident → Ident
+field_ident None = word []
+field_ident (Some i) = i
+
+-- the kept fields between braces
+abbrev pub named_bindings : (ℕ → Text) → ℕ → List FieldTree → List (Ident × PatternTree)
+named_bindings naming n [] = []
+named_bindings naming n (f ∷ fs) =
+    cond (is_skipped f.attrs) (named_bindings naming (n + 1) fs) ((field_ident f.ident, bind Plain (word (naming n))) ∷ named_bindings naming (n + 1) fs)
+
+abbrev pub some_skipped_field : List FieldTree → Bool
+some_skipped_field [] = false
+some_skipped_field (f ∷ fs) = is_skipped f.attrs || some_skipped_field fs
+
+-- `Self`, or `Self::V`
+abbrev pub case_path : Declaration → Case → PathTree
+case_path d c = cond (is_enum d) (plain_path (word (codes "Self") ∷ c.ident ∷ [])) (plain_path (word (codes "Self") ∷ []))
+
+abbrev pub side : (ℕ → Text) → PathTree → FieldsTree → PatternTree
+side naming p (named fs) = named_pattern p (named_of (named_bindings naming 0 fs.items)) (some_skipped_field fs.items)
+side naming p (unnamed fs) = tuple_pattern p (patterns_of (bindings naming 0 fs.items))
+side naming p unit = tuple_pattern p (patterns_of [])
+
+-- ---- one arm for each variant that is compared
+
+abbrev pub test : Comparing → ℕ → ExprTree
+test c n = test_of c (name (self_name n)) (name (other_name n))
+
+abbrev pub tests : Comparing → ℕ → List FieldTree → List ExprTree
+tests c n [] = []
+tests c n (f ∷ fs) = cond (is_skipped f.attrs) (tests c (n + 1) fs) (test c n ∷ tests c (n + 1) fs)
+
+-- a chain holds two parts or more
+abbrev pub chain : Comparing → List ExprTree → ExprTree
+chain c [] = bool (neutral_of c)
+chain c (e ∷ []) = e
+chain c (e ∷ f ∷ es) = join_of c (exprs_of (e ∷ f ∷ es))
+
+abbrev pub block_arm : PatternTree → ExprTree → ArmTree
+block_arm p e = record { patterns = patterns_of (p ∷ []); guard = no_expr; body = block_body (last_expr (some_expr e)) }
+
+abbrev pub arm : Comparing → Declaration → Case → ArmTree
+arm c d v =
+    block_arm (pair_pattern (side self_name (case_path d v) v.fields) (side other_name (case_path d v) v.fields)) (chain c (tests c 0 (field_list v.fields)))
+
+abbrev pub arms : Comparing → Declaration → List Case → List ArmTree → List ArmTree
+arms c d [] more = more
+arms c d (v ∷ vs) more = cond (is_compared v) (arm c d v ∷ arms c d vs more) (arms c d vs more)
+
+-- ---- the last arm
+
+abbrev pub all_compared : List Case → Bool
+all_compared [] = true
+all_compared (v ∷ vs) = is_compared v && all_compared vs
+
+-- derive_more::core::hint::unreachable_unchecked()
+abbrev pub unreachable_call : ExprTree
+unreachable_call = call no_self (plain_path (words (codes "derive_more" ∷ codes "core" ∷ codes "hint" ∷ codes "unreachable_unchecked" ∷ []))) no_exprs
+
+abbrev pub otherwise : ExprTree → List ArmTree
+otherwise e = record { patterns = patterns_of (wild ∷ []); guard = no_expr; body = expr_body e } ∷ []
+
+-- the neutral truth where some variant has no arm; unreachable where every variant has one and there are several
+abbrev pub rest : Comparing → List Case → List ArmTree
+rest c vs = cond (all_compared vs) (cond (nat_lt 1 (length vs)) (otherwise (unsafe_expr unreachable_call)) []) (otherwise (bool (neutral_of c)))
+
+-- ---- the body
+
+abbrev pub both : ExprTree
+both = tuple (expr_then (name (codes "self")) (expr_then (name (codes "__other")) no_exprs))
+
+abbrev pub matching : Comparing → Declaration → ExprTree
+matching c d = match_expr both (arms_of (arms c d (cases d) (rest c (cases d))))
+
+abbrev pub discriminant_call : Text → ExprTree
+discriminant_call x = call no_self (plain_path (words discriminant_names)) (expr_then (name x) no_exprs)
+
+abbrev pub discriminants : Comparing → ExprTree
+discriminants c = test_of c (discriminant_call (codes "self")) (discriminant_call (codes "__other"))
+
+abbrev pub some_skipped_case : List Case → Bool
+some_skipped_case [] = false
+some_skipped_case (v ∷ vs) = is_skipped v.attrs || some_skipped_case vs
+
+-- an enum with a skipped variant or with several
+abbrev pub needs_discriminants : Declaration → Bool
+needs_discriminants d = is_enum d && (some_skipped_case (cases d) || nat_lt 1 (length (cases d)))
+
+abbrev pub match_part : Comparing → Declaration → Bool → List ExprTree
+match_part c d b = cond b (matching c d ∷ []) []
+
+abbrev pub with_discriminants : Comparing → Bool → List ExprTree → List ExprTree
+with_discriminants c b es = cond b (discriminants c ∷ es) es
+
+abbrev pub parts : Comparing → Declaration → List ExprTree
+parts c d = with_discriminants c (needs_discriminants d) (match_part c d (some_compared (cases d)))
+
+-- `match *self {}` for an enum without variants
+abbrev pub body_expr : Comparing → Declaration → ExprTree
+body_expr c d = cond (eqb (length (cases d)) 0) (match_expr (deref (name (codes "self"))) no_arms) (chain c (parts c d))
+
+abbrev pub body : Comparing → Declaration → BlockTree
+body c d = last_expr (some_expr (body_expr c d))

@@ -1,0 +1,62 @@
+//! Implementations.
+
+use crate::expr::Block;
+use dm_syntax::{GenericParam, Path, Ty, WherePredicate};
+use dm_tokens::{Ident, Seq};
+
+/// An attribute of an implementation or a method, in `#[..]`.
+#[derive(Clone, Copy, Debug, PartialEq, Eq)]
+pub enum ItemAttr {
+    /// `allow(private_bounds)`
+    AllowPrivateBounds,
+    /// `automatically_derived`
+    AutomaticallyDerived,
+    /// `inline`
+    Inline,
+}
+
+/// An implementation of a trait, or an inherent one where there is no trait's path.
+/// Empty `params` and empty `predicates` stand for the part that is absent.
+#[derive(Debug, Drop)]
+pub struct Item<'a> {
+    pub attrs: Seq<ItemAttr>,
+    pub params: Seq<GenericParam<'a>>,
+    pub trait_path: Option<Path<'a>>,
+    pub ty: Ty<'a>,
+    pub predicates: Seq<WherePredicate<'a>>,
+    pub assocs: Seq<Assoc<'a>>,
+    pub methods: Seq<Method<'a>>,
+}
+
+/// An associated type: `type NAME = TY;`.
+#[derive(Debug, Drop)]
+pub struct Assoc<'a> {
+    pub name: Ident<'a>,
+    pub ty: Ty<'a>,
+}
+
+#[derive(Debug, Drop)]
+pub struct Method<'a> {
+    pub attrs: Seq<ItemAttr>,
+    pub is_const: bool,
+    pub name: Ident<'a>,
+    pub receiver: Option<Receiver>,
+    pub param: Option<MethodParam<'a>>,
+    pub output: Option<Ty<'a>>,
+    pub body: Block<'a>,
+}
+
+/// The parameter behind the receiver.
+#[derive(Debug, Drop)]
+pub struct MethodParam<'a> {
+    pub name: Ident<'a>,
+    pub ty: Ty<'a>,
+}
+
+/// `self`, `&self` or `&mut self`.
+#[derive(Clone, Copy, Debug, PartialEq, Eq)]
+pub enum Receiver {
+    Value,
+    Ref,
+    RefMut,
+}

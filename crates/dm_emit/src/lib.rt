@@ -1,0 +1,10 @@
+//! The output language: implementations as trees, what their methods give, and their text.
+#![tactic(auto)]
+
+mod expr;
+mod item;
+mod pattern;
+
+pub use expr::{Arm, ArmBody, Block, Expr, PathExpr, Stmt};
+pub use item::{Assoc, Item, ItemAttr, Method, MethodParam, Receiver};
+pub use pattern::{Binding, NamedPattern, Pattern};

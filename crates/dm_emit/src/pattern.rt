@@ -1,0 +1,31 @@
+//! Patterns.
+
+use dm_syntax::Path;
+use dm_tokens::{Ident, Seq};
+
+/// How a name in a pattern binds: `x`, `ref x` or `ref mut x`.
+#[derive(Clone, Copy, Debug, PartialEq, Eq)]
+pub enum Binding {
+    Plain,
+    Ref,
+    RefMut,
+}
+
+/// A pattern. The truth value of `Named` says whether `..` stands behind its fields.
+#[cycle(pattern)]
+#[derive(Debug, Drop)]
+pub enum Pattern<'a> {
+    Wild,
+    Bind(Binding, Ident<'a>),
+    Tuple(Path<'a>, Seq<Pattern<'a>>),
+    Named(Path<'a>, Seq<NamedPattern<'a>>, bool),
+    Pair(Box<Pattern<'a>>, Box<Pattern<'a>>),
+}
+
+/// A field of a pattern in braces.
+#[cycle(pattern)]
+#[derive(Debug, Drop)]
+pub struct NamedPattern<'a> {
+    pub name: Ident<'a>,
+    pub pattern: Pattern<'a>,
+}
