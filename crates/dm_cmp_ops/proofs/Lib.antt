@@ -1,5 +1,5 @@
-pub mod Names
-pub mod Bindings
-pub mod Chains
-pub mod Arms
+pub mod NameLaws
+pub mod BindingLaws
+pub mod ChainLaws
+pub mod ArmLaws
 pub mod PartialEqLaws

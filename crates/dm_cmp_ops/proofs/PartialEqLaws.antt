@@ -15,10 +15,10 @@ use Rattle.dm_cmp_ops.specs.Direct.{all_kept, direct_in, direct_eq, direct_ne, G
 use Rattle.dm_cmp_ops.specs.Heads.{keeps_some, is_compared, some_compared, IsComparison}
 use Rattle.dm_cmp_ops.specs.Emitted.{says, join_of, all_compared, some_skipped_case, rest, matching, match_part, with_discriminants, discriminants, needs_discriminants, parts, body}
 use Rattle.dm_cmp_ops.specs.Named.{AreNamed, AreSmall}
-use Rattle.dm_cmp_ops.proofs.Names.{only-case}
-use Rattle.dm_cmp_ops.proofs.Bindings.{eqb-same}
-use Rattle.dm_cmp_ops.proofs.Chains.{setting, says-true, join-none, join-then, join-stops, join-one, run-chain}
-use Rattle.dm_cmp_ops.proofs.Arms.{two_values, answer, arms-run}
+use Rattle.dm_cmp_ops.proofs.NameLaws.{only-case}
+use Rattle.dm_cmp_ops.proofs.BindingLaws.{eqb-same}
+use Rattle.dm_cmp_ops.proofs.ChainLaws.{setting, says-true, join-none, join-then, join-stops, join-one, run-chain}
+use Rattle.dm_cmp_ops.proofs.ArmLaws.{two_values, answer, arms-run}
 
 -- self and the right side
 abbrev pub operands : Value → Value → Env

@@ -11,9 +11,9 @@ use Rattle.dm_cmp_ops.specs.Heads.{keeps_some, is_compared}
 use Rattle.dm_cmp_ops.specs.Direct.{all_kept}
 use Rattle.dm_cmp_ops.specs.Emitted.{says, join_of, self_name, other_name, tests, case_path, arm, arms}
 use Rattle.dm_cmp_ops.specs.Named.{AreNamed, AreFieldsNamed}
-use Rattle.dm_cmp_ops.proofs.Names.{self-other, self-self, other-other, path-found}
-use Rattle.dm_cmp_ops.proofs.Bindings.{skips_field, bound_side, knows, knows-behind, fits-side, misses-side}
-use Rattle.dm_cmp_ops.proofs.Chains.{setting, run-tests, run-chain}
+use Rattle.dm_cmp_ops.proofs.NameLaws.{self-other, self-self, other-other, path-found}
+use Rattle.dm_cmp_ops.proofs.BindingLaws.{skips_field, bound_side, knows, knows-behind, fits-side, misses-side}
+use Rattle.dm_cmp_ops.proofs.ChainLaws.{setting, run-tests, run-chain}
 
 abbrev pub two_values : Value → Value → Thing
 two_values x y = pair (value mine x) (value theirs y)

@@ -12,7 +12,7 @@ use Rattle.dm_cmp_ops.specs.Skips.{is_skipped}
 use Rattle.dm_cmp_ops.specs.Heads.{word, keeps_some}
 use Rattle.dm_cmp_ops.specs.Emitted.{binding, bindings, named_bindings, field_ident, some_skipped_field, side}
 use Rattle.dm_cmp_ops.specs.Named.{AreFieldsNamed}
-use Rattle.dm_cmp_ops.proofs.Names.{Differ, Apart, bytes_same, AreFound, are-found}
+use Rattle.dm_cmp_ops.proofs.NameLaws.{Differ, Apart, bytes_same, AreFound, are-found}
 
 -- ---- names for the kept fields from number n on
 

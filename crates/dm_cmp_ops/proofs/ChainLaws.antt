@@ -9,7 +9,7 @@ use Rattle.dm_cmp_ops.specs.declared.partial_eq.Comparing.TheVariants.{Equal, Un
 use Rattle.dm_cmp_ops.specs.Skips.{is_skipped}
 use Rattle.dm_cmp_ops.specs.Direct.{all_kept}
 use Rattle.dm_cmp_ops.specs.Emitted.{says, neutral_of, join_of, self_name, other_name, test, tests, chain}
-use Rattle.dm_cmp_ops.proofs.Bindings.{Knows, skips_field, eqb-same}
+use Rattle.dm_cmp_ops.proofs.BindingLaws.{Knows, skips_field, eqb-same}
 
 abbrev pub setting : Declaration → List Bool → Setting
 setting d os = record { decl = d; outcomes = os }
