@@ -4,14 +4,14 @@ ghost use Rattle.dm_tokens.specs.Cursors.{left, end_of, sound, first_ident, firs
 
 use super::tokens::{Delim, Entry, Ident, Lifetime, Literal, Punct, Span, Token};
 
-/// A place in a list of trees.
+/// A place in a list of trees, before the trees that are left. A clause speaks of it by `left` and `end_of`.
 #[derive(Clone, Copy)]
 pub struct Cursor<'t, 'a> {
     pub entries: &'t [Entry<'a>],
     pub limit: usize,
 }
 
-/// A run of trees of one list.
+/// A run of trees of one list, which lends them. A clause speaks of it by `trees_in` and `piece_end`.
 #[derive(Clone, Copy)]
 pub struct Piece<'t, 'a> {
     pub entries: &'t [Entry<'a>],
@@ -19,6 +19,7 @@ pub struct Piece<'t, 'a> {
 }
 
 impl<'t, 'a> Cursor<'t, 'a> {
+    /// Whether no tree is left.
     pub fn eof(self) -> bool
         requires { sound self }
         ensures { IsTrue result ↔ (left self.entry ≡ no_trees) }
@@ -26,6 +27,7 @@ impl<'t, 'a> Cursor<'t, 'a> {
         self.entries.is_empty()
     }
 
+    /// The next token where it is an identifier, keywords among them, and the place after it.
     pub fn ident(self) -> Option<(&'t Ident<'a>, Cursor<'t, 'a>)>
         requires { sound self }
         ensures gives { MatchOption result (first_ident (left self.entry) ≡ None) (λ r. first_ident (left self.entry) ≡ Some (r.0.now, left r.1)) }
@@ -46,6 +48,7 @@ impl<'t, 'a> Cursor<'t, 'a> {
         }
     }
 
+    /// The next token where it is a lifetime, and the place after it.
     pub fn lifetime(self) -> Option<(&'t Lifetime<'a>, Cursor<'t, 'a>)>
         requires { sound self }
         ensures gives { MatchOption result (first_lifetime (left self.entry) ≡ None) (λ r. first_lifetime (left self.entry) ≡ Some (r.0.now, left r.1)) }
@@ -66,6 +69,7 @@ impl<'t, 'a> Cursor<'t, 'a> {
         }
     }
 
+    /// The next token where it is a punct, and the place after it.
     pub fn punct(self) -> Option<(&'t Punct, Cursor<'t, 'a>)>
         requires { sound self }
         ensures gives { MatchOption result (first_punct (left self.entry) ≡ None) (λ r. first_punct (left self.entry) ≡ Some (r.0.now, left r.1)) }
@@ -86,6 +90,7 @@ impl<'t, 'a> Cursor<'t, 'a> {
         }
     }
 
+    /// The next token where it is a literal, and the place after it.
     pub fn literal(self) -> Option<(&'t Literal<'a>, Cursor<'t, 'a>)>
         requires { sound self }
         ensures gives { MatchOption result (first_literal (left self.entry) ≡ None) (λ r. first_literal (left self.entry) ≡ Some (r.0.now, left r.1)) }
@@ -106,6 +111,7 @@ impl<'t, 'a> Cursor<'t, 'a> {
         }
     }
 
+    /// The next tree and the place after it, or nothing at the end.
     pub fn token_tree(self) -> Option<(Piece<'t, 'a>, Cursor<'t, 'a>)>
         requires { sound self }
         ensures gives { MatchOption result (first_tree (left self.entry) ≡ None) (λ r. first_tree (left self.entry) ≡ Some (trees_in r.0, left r.1)) }
@@ -129,7 +135,7 @@ impl<'t, 'a> Cursor<'t, 'a> {
         ))
     }
 
-    /// The first `count` trees, where there are so many.
+    /// The next `count` trees as one run, and the place after them, or nothing where fewer are left.
     pub fn take(self, count: usize) -> Option<(Piece<'t, 'a>, Cursor<'t, 'a>)>
         requires { sound self }
         ensures gives { MatchOption result (split_trees count (left self.entry) ≡ None) (λ r. split_trees count (left self.entry) ≡ Some (trees_in r.0, left r.1)) }
@@ -151,6 +157,7 @@ impl<'t, 'a> Cursor<'t, 'a> {
         ))
     }
 
+    /// The range of the next tree, of a group with both delimiters. At the end it is the empty range at the list's end.
     pub fn span(self) -> Span
         requires { sound self }
         ensures { result ≡ first_span (left self.entry) (end_of self.entry) }
@@ -166,7 +173,7 @@ impl<'t, 'a> Cursor<'t, 'a> {
                     let (_, closing, _) = cut(rest, *count);
                     Span {
                         start: from.start,
-                        end: end_of(closing),
+                        end: ends_at(closing),
                     }
                 }
                 Entry::Close(_, upto) => *upto,
@@ -174,6 +181,8 @@ impl<'t, 'a> Cursor<'t, 'a> {
         }
     }
 
+    /// The inside of the next tree where it is a group with this delimiter, and the place after the group. The end of the
+    /// inside is the start of the closing delimiter.
     pub fn group(self, delim: Delim) -> Option<(Cursor<'t, 'a>, Cursor<'t, 'a>)>
         requires { sound self }
         ensures gives { MatchOption result (first_group delim (left self.entry) ≡ None) (λ r. first_group delim (left self.entry) ≡ Some (left r.0, end_of r.0, left r.1)) }
@@ -190,7 +199,7 @@ impl<'t, 'a> Cursor<'t, 'a> {
                 Some((
                     Cursor {
                         entries: inside,
-                        limit: start_of(closing),
+                        limit: starts_at(closing),
                     },
                     Cursor {
                         entries: others,
@@ -199,6 +208,21 @@ impl<'t, 'a> Cursor<'t, 'a> {
                 ))
             }
             _ => None,
+        }
+    }
+}
+
+impl<'t, 'a> Piece<'t, 'a> {
+    /// The run as a list, with the end of the list from which it was taken.
+    pub fn cursor(self) -> Cursor<'t, 'a>
+        requires { sound_piece self }
+        ensures left { left result ≡ trees_in self.entry }
+        ensures sound { sound result }
+        ensures limit { end_of result ≡ piece_end self.entry }
+    {
+        Cursor {
+            entries: self.entries,
+            limit: self.limit,
         }
     }
 }
@@ -213,17 +237,17 @@ fn first_and_rest<'t, 'a>(entries: &'t [Entry<'a>]) -> Option<(&'t Entry<'a>, &'
     }
 }
 
-/// The entries of a group's inside, which `count` entries end with the closing one, that one, and the others.
+/// The entries of a group's inside, its closing entry, which is the one at `number`, and the others.
 fn cut<'t, 'a>(
     entries: &'t [Entry<'a>],
-    count: usize,
+    number: usize,
 ) -> (&'t [Entry<'a>], &'t Entry<'a>, &'t [Entry<'a>])
-    requires some { 0 < count }
-    requires fits { count ≤ length entries.now }
-    ensures front { result.0.now ≡ take (count - 1) entries.now }
-    ensures back { drop (count - 1) entries.now ≡ result.1.now ∷ result.2.now }
+    requires some { 0 < number }
+    requires fits { number ≤ length entries.now }
+    ensures front { result.0.now ≡ take (number - 1) entries.now }
+    ensures back { drop (number - 1) entries.now ≡ result.1.now ∷ result.2.now }
 {
-    let (front, back) = entries.split_at(count - 1);
+    let (front, back) = entries.split_at(number - 1);
     match first_and_rest(back) {
         Some((first, rest)) => (front, first, rest),
         None => unreachable!(),
@@ -231,7 +255,7 @@ fn cut<'t, 'a>(
 }
 
 /// Where an entry starts.
-fn start_of(entry: &Entry<'_>) -> usize
+fn starts_at(entry: &Entry<'_>) -> usize
     ensures { result ≡ entry_start entry.now }
 {
     match entry {
@@ -241,6 +265,7 @@ fn start_of(entry: &Entry<'_>) -> usize
     }
 }
 
+/// Whether two delimiters are the same.
 fn is_same_delim(a: Delim, b: Delim) -> bool
     ensures { result ≡ same_delim a b }
 {
@@ -249,20 +274,6 @@ fn is_same_delim(a: Delim, b: Delim) -> bool
         (Delim::Bracket, Delim::Bracket) => true,
         (Delim::Brace, Delim::Brace) => true,
         _ => false,
-    }
-}
-
-impl<'t, 'a> Piece<'t, 'a> {
-    pub fn cursor(self) -> Cursor<'t, 'a>
-        requires { sound_piece self }
-        ensures left { left result ≡ trees_in self.entry }
-        ensures sound { sound result }
-        ensures limit { end_of result ≡ piece_end self.entry }
-    {
-        Cursor {
-            entries: self.entries,
-            limit: self.limit,
-        }
     }
 }
 
@@ -282,6 +293,7 @@ fn tree_len(entries: &[Entry<'_>]) -> usize
     }
 }
 
+/// Where a token stands.
 fn span_of(token: &Token<'_>) -> Span
     ensures { result ≡ token_span token.now }
 {
@@ -294,7 +306,7 @@ fn span_of(token: &Token<'_>) -> Span
 }
 
 /// Where an entry ends.
-fn end_of(entry: &Entry<'_>) -> usize
+fn ends_at(entry: &Entry<'_>) -> usize
     ensures { result ≡ entry_end entry.now }
 {
     match entry {

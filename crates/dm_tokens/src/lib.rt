@@ -6,6 +6,8 @@ mod cursor;
 mod layout;
 mod seq;
 mod stream;
+#[cfg(test)]
+mod tests;
 mod text;
 mod to_tokens;
 mod tokens;

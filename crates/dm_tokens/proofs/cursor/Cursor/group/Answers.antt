@@ -32,5 +32,5 @@ returns-else-not-is_same_delim-clause-gives c =
     let p : Parts c.in-Open.found c.in-Open.field-1 c.args.self.entries.now c.cut.result.0.now c.cut.result.1.now c.cut.result.2.now =
     parts _ _ _ _ _ _ _ _ c.requires (c.in_ok-first.ensures ∙ ap (λ e. e ∷ c.in_ok-first.rest.now) c.in-Open.is) c.cut.ensures.front c.cut.ensures.back in
     let d : same_delim c.in-Open.found c.args.delim ≡ true = cc in
-    let u : c.start_of.result ≡ p.upto.start = c.start_of.ensures ∙ ap entry_start p.closing_is in
+    let u : c.starts_at.result ≡ p.upto.start = c.starts_at.ensures ∙ ap entry_start p.closing_is in
     gives_group _ _ _ _ _ _ _ _ p.trees_are d u
