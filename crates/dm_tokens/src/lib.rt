@@ -3,12 +3,19 @@
 
 mod copy;
 mod cursor;
+mod error;
+mod lexing;
+mod nesting;
 mod seq;
 mod stream;
+#[cfg(test)]
+mod tests;
 mod text;
 mod tokens;
 
 pub use cursor::{Cursor, Piece};
+pub use error::{Error, Kind, Refusal};
+pub use lexing::lex;
 pub use seq::{Punctuated, Seq};
 pub use stream::TokenStream;
 pub use text::{Text, is_same};
