@@ -97,10 +97,10 @@ text-begins text u z = some_chars (chars text) (chars-some text u z)
 no_blank : (text : List ℕ) (blanks n : ℕ) → IsUtf8 text → 0 < length text → IsFront text blanks n → blanks ≡ 0 → n ≡ 0
 no_blank text blanks n u z f q =
     elim (text-begins text u z) [
-      begins c ds e ↦
-        let l : length (encode_utf8_all (take n (c ∷ ds))) ≡ 0 =
-            ap (λ k. length (encode_utf8_all (take n k))) (sym e) ∙ sym (front-length text blanks n f) ∙ q in
-        taken-none n c ds l
+      | begins c ds e ↦
+          let l : length (encode_utf8_all (take n (c ∷ ds))) ≡ 0 =
+          ap (λ k. length (encode_utf8_all (take n k))) (sym e) ∙ sym (front-length text blanks n f) ∙ q in
+          taken-none n c ds l
     ]
 
 found-next : (at next : ℕ) (text rest : List ℕ) (ls : List Level) (here : Trees) → lexemes at 0 (chars text) ≡ lexemes next 0 (chars rest) →
@@ -127,9 +127,9 @@ pub step-none : (old : Nesting) (at blanks : ℕ) (text : List ℕ) → IsUtf8 t
 step-none old at blanks text u z f q r ls here n =
     let b : blank (chars text) ≡ 0 = no_blank text blanks (blank (chars text)) u z f q in
     elim (text-begins text u z) [
-      begins c ds e ↦
-        let P : List ℕ → Type 0 = λ l. blank l ≡ 0 → row at l ≡ None → nest_all ls here (lexemes at 0 l) ≡ None in
-        subst P (sym e) (λ h k. ap (nest_all ls here) (lexemes-none at c ds h k)) b r
+      | begins c ds e ↦
+          let P : List ℕ → Type 0 = λ l. blank l ≡ 0 → row at l ≡ None → nest_all ls here (lexemes at 0 l) ≡ None in
+          subst P (sym e) (λ h k. ap (nest_all ls here) (lexemes-none at c ds h k)) b r
     ]
 
 lexeme-goes_on : (at size : ℕ) (text : List ℕ) (x : Lexeme) → blank (chars text) ≡ 0 → IsLexeme x size at text →
@@ -283,7 +283,7 @@ front-positive : (text cs : List ℕ) (c size n : ℕ) → IsFront text size n �
 front-positive text cs c size zero f k z = absurd (omega arith)
 front-positive text cs c size (suc n) f k z =
     let e : size ≡ length (encode_utf8 c ++ encode_utf8_all (take n cs)) =
-        front-length text size (suc n) f ∙ ap (λ l. length (encode_utf8_all (take (suc n) l))) k in
+    front-length text size (suc n) f ∙ ap (λ l. length (encode_utf8_all (take (suc n) l))) k in
     omega (arith, e, length-append (encode_utf8 c) (encode_utf8_all (take n cs)), length-encode c, len_utf8_bounds c)
 
 row-word_text : (at c : ℕ) (cs l : List ℕ) → l ≡ c ∷ cs → begins_raw l ≡ false → starts_word c ≡ true →
@@ -334,15 +334,18 @@ lex-step text rest at size old new o s r t h =
     let a : Advances new at (drop at text) size s.levels s.here = subst Q r (subst S h t s.levels s.here s.nested) in
     let d : drop (at + size) text ≡ drop size (drop at text) = drop-more at size text s.fits in
     let b : size ≤ length (drop at text) = a.boundary.0 in
-    let fits : at + size ≤ length text = omega (arith, s.fits, b, length-drop at text) in
-    (record {
-      fits = fits;
-      utf8 = let P : List ℕ → Type 0 = λ l. IsUtf8 l in subst P (sym d) (IsUtf8-drop (drop at text) size s.utf8 a.boundary);
-      levels = a.levels;
-      here = a.trees;
-      nested = a.nested;
-      steps = s.steps ∙ a.steps ∙ ap (λ l. found (at + size) l a.levels a.trees) (sym d);
-    }, a.positive, fits)
+    let fits : at + size ≤ length text = omega (arith, s.fits, b, length-drop at text) in (
+      record {
+        fits = fits;
+        utf8 = let P : List ℕ → Type 0 = λ l. IsUtf8 l in subst P (sym d) (IsUtf8-drop (drop at text) size s.utf8 a.boundary);
+        levels = a.levels;
+        here = a.trees;
+        nested = a.nested;
+        steps = s.steps ∙ a.steps ∙ ap (λ l. found (at + size) l a.levels a.trees) (sym d);
+      },
+      a.positive,
+      fits,
+    )
 
 no-trees : (text : List ℕ) → found 0 text [] no_trees ≡ None → (ts : Trees) → IsTreesOf text ts → ⊥
 no-trees text h ts e = let c : Some ts ≡ None = sym (nest_all-complete (lexemes 0 0 (chars text)) ts e) ∙ h in cc

@@ -197,7 +197,7 @@ nesting-close old new d upto rest o e h r k (l ∷ ls) here n =
     let count : length old.entries.items - o.place ≡ length (flatten here) + 1 = omega (arith, all, pp) in
     let entries : old.entries.items ≡ so_far ls l.before ++ entry.Open l.delim l.from 0 ∷ flatten here = n.entries_are in
     let patched : set old.entries.items o.place (entry.Open o.delim o.from (length old.entries.items - o.place)) ≡
-        set (so_far ls l.before ++ entry.Open l.delim l.from 0 ∷ flatten here) (length (so_far ls l.before)) (entry.Open l.delim l.from (length (flatten here) + 1)) =
+    set (so_far ls l.before ++ entry.Open l.delim l.from 0 ∷ flatten here) (length (so_far ls l.before)) (entry.Open l.delim l.from (length (flatten here) + 1)) =
     cc in
     record {
       levels = ls;

@@ -202,13 +202,7 @@ fn blank_len(text: &str) -> usize
     ensures { IsFront text.now result (blank (chars text.now)) }
 {
     match first_char(text) {
-        Some((c, _)) => {
-            if is_space_char(c) {
-                c.len_utf8()
-            } else {
-                0
-            }
-        }
+        Some((c, _)) => { if is_space_char(c) { c.len_utf8() } else { 0 } }
         None => 0,
     }
 }

@@ -19,6 +19,4 @@ pub use lexing::lex;
 pub use seq::{Punctuated, Seq};
 pub use stream::TokenStream;
 pub use text::{Text, is_same};
-pub use tokens::{
-    Delim, Entry, Ident, Lifetime, Literal, LitKind, Punct, Spacing, Span, Token,
-};
+pub use tokens::{Delim, Entry, Ident, Lifetime, LitKind, Literal, Punct, Spacing, Span, Token};

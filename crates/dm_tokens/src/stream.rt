@@ -75,7 +75,10 @@ impl<'a> TokenStream<'a> {
         ensures pushed { OnOk result (self.new.trees ≡ join self.old.trees other.entry.trees) }
         ensures limit { self.new.limit ≡ self.old.limit }
     {
-        let TokenStream { mut entries, limit: _ } = other;
+        let TokenStream {
+            mut entries,
+            limit: _,
+        } = other;
         append_entries(&mut self.entries, &mut entries)
     }
 

@@ -10,13 +10,16 @@ fn is_refused(alloc: Global, text: &str) -> bool {
     match lex(alloc, text) {
         Ok(_) => false,
         Err(Error::NoMemory) => false,
-        Err(Error::Refused(refusal)) => matches!(refusal.kind, Kind::NotYet) && refusal.span.end == text.len(),
+        Err(Error::Refused(refusal)) => matches!(refusal.kind, Kind::NotYet)
+            && refusal.span.end == text.len(),
     }
 }
 
 #[test]
 fn lexes_an_attribute(rt: HostRuntime) -> Result<(), Fail> {
-    let stream: TokenStream<'_> = lex(rt.alloc(), "#[a::b]\n\tstruct _x9 { r: T, }").ok().ok_or("lexes")?;
+    let stream: TokenStream<'_> = lex(rt.alloc(), "#[a::b]\n\tstruct _x9 { r: T, }")
+        .ok()
+        .ok_or("lexes")?;
     let (first, rest) = stream.cursor().punct().ok_or("punct")?;
     assert!(rt; first.ch == '#');
     assert!(rt; first.spacing == Spacing::Alone);
