@@ -3,7 +3,12 @@
 
 mod copy;
 mod cursor;
+mod error;
 mod layout;
+mod lexing;
+#[cfg(test)]
+mod lexing_tests;
+mod nesting;
 mod seq;
 mod stream;
 #[cfg(test)]
@@ -13,7 +18,9 @@ mod to_tokens;
 mod tokens;
 
 pub use cursor::{Cursor, Piece};
+pub use error::{Error, Kind, Refusal};
 pub use layout::{Layout, print, print_piece};
+pub use lexing::lex;
 pub use seq::{Punctuated, Seq};
 pub use stream::TokenStream;
 pub use text::{Text, is_same};

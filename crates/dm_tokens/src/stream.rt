@@ -1,5 +1,5 @@
 ghost use Rattle.std.specs.Prelude.{◌≡◌, OnOk, OnErr, IfOk, MatchResult, ◌++◌, ◌∷◌, ◌+◌, [], length};
-ghost use Rattle.dm_tokens.specs.Trees.{no_trees, token, group, join, flatten};
+ghost use Rattle.dm_tokens.specs.Trees.{no_trees, token, group, join, flatten, unflatten};
 ghost use Rattle.dm_tokens.specs.declared.tokens.Entry.TheVariants as entry;
 ghost use Rattle.dm_tokens.specs.Cursors.{left, end_of, sound, trees_in, piece_end, sound_piece};
 ghost use Rattle.dm_tokens.specs.Layout.{nowhere};
@@ -108,6 +108,15 @@ impl<'a> TokenStream<'a> {
             entries: copy_entries(alloc, from.entries)?,
             limit: from.limit,
         })
+    }
+
+    /// The stream of a finished flat form.
+    pub(crate) fn from_entries(entries: Vec<Entry<'a>>, limit: usize) -> TokenStream<'a>
+        requires { flatten (unflatten entries.items) ≡ entries.items }
+        ensures trees { result.trees ≡ unflatten entries.entry.items }
+        ensures limit { result.limit ≡ limit }
+    {
+        TokenStream { entries, limit }
     }
 
     /// The list's own vector, in which each group is an `Open`, its inside and a `Close`.

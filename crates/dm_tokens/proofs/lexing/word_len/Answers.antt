@@ -1,0 +1,12 @@
+use Rattle.std.proofs.Common.{◌≡◌, true, false}
+use Rattle.dm_tokens.specs.Lexemes.{goes_on}
+use Rattle.dm_tokens.proofs.LexChars.{run-start, run-next, run-end_text, run-end_char}
+use Rattle.dm_tokens.proofs.lexing.word_len.Goals as goal
+
+pub loop-c-init : goal.loop-c-init
+loop-c-init c = run-start goes_on _ c.utf8.text
+
+pub loop-c-preserved : goal.loop-c-preserved
+loop-c-preserved c =
+    let h : goes_on c.in-Some.c ≡ true = cc in
+    rw c.len_utf8-at.ensures.value (run-next goes_on _ _ _ _ _ c.loop-c.invariant h c.in-Some.ensures.bytes c.in-Some.ensures.chars)

@@ -1,0 +1,20 @@
+use Rattle.std.proofs.Common.{◌≡◌, ◌<◌, true, arith, length, refl}
+use Rattle.dm_tokens.specs.Cursors.{same_delim}
+use Rattle.dm_tokens.proofs.Nestings.{nesting-close, place-within}
+use Rattle.dm_tokens.proofs.nesting.Nesting.close.Goals as goal
+
+pub overflow_sub-count : goal.overflow_sub-count
+overflow_sub-count c =
+    let p : c.in-Some.innermost.place < length c.args.self.now.entries.items = place-within _ _ _ c.requires c.in-Some.ensures.items in
+    omega arith
+
+pub put-requires : goal.put-requires
+put-requires c =
+    let p : c.in-Some.innermost.place < length c.args.self.now.entries.items = place-within _ _ _ c.requires c.in-Some.ensures.items in
+    omega arith
+
+pub returns : goal.returns
+returns c =
+    let same : same_delim c.in-Some.innermost.delim c.args.delim ≡ true = cc in
+    let count : c.len.result ≡ length c.args.self.now.entries.items = omega arith in
+    nesting-close _ _ _ _ _ _ c.in-Some.ensures.items same refl (cc (c.in_ok-push.ensures.items, c.put.ensures, count))
