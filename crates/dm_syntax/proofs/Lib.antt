@@ -1,1 +1,4 @@
 pub mod View
+pub mod Fronts
+pub mod Slots
+pub mod Declared

@@ -1,2 +1,4 @@
 pub mod Tree
 pub mod Declarations
+pub mod Spells
+pub mod Reading

@@ -3,12 +3,14 @@
 
 mod copy;
 mod cursor;
+mod error;
 mod seq;
 mod stream;
 mod text;
 mod tokens;
 
 pub use cursor::{Cursor, Piece};
+pub use error::{Error, Kind, Refusal};
 pub use seq::{Punctuated, Seq};
 pub use stream::TokenStream;
 pub use text::{Text, is_same};
