@@ -2,3 +2,5 @@ pub mod View
 pub mod Fronts
 pub mod Slots
 pub mod Declared
+pub mod Chain
+pub mod Whole

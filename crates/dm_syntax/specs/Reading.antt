@@ -113,3 +113,8 @@ if_head (Some h) = with_fields h (read_slots h.inside)
 
 unfoldable pub read_declaration : Trees → Option Declaration
 read_declaration ts = if_head (read_head ts)
+
+-- ---- what the reader's functions ensure
+
+abbrev pub IsHead : Trees → Span → Ident → Trees → Type 0
+IsHead ts s i inside = read_head ts ≡ Some (record { word = s; ident = i; inside = inside })

@@ -7,7 +7,11 @@ use Rattle.dm_tokens.specs.declared.tokens.Ident.{Ident}
 use Rattle.dm_tokens.specs.declared.tokens.Punct.{Punct}
 use Rattle.dm_tokens.specs.declared.tokens.Delim.TheVariants.{Paren}
 use Rattle.dm_tokens.specs.declared.tokens.Token.TheVariants as t
-use Rattle.dm_tokens.specs.Trees.{Trees, no_trees, token, group}
+use Rattle.dm_tokens.specs.Trees.{Trees, no_trees, token, group, Stream}
+use Rattle.dm_tokens.specs.declared.error.Error.{Error}
+use Rattle.dm_tokens.specs.declared.error.Error.TheVariants as error
+use Rattle.dm_tokens.specs.declared.error.Refusal.{Refusal}
+use Rattle.dm_tokens.specs.declared.error.Kind.TheVariants as kind
 use Rattle.dm_tokens.specs.Cursors.{first_span}
 use Rattle.dm_syntax.specs.Tree.{TypeTree, type_tree, TypeNode, path, no_self, MaybeSelf, PathTree, path_tree, SegmentTree, segment, SegmentTrees, no_segments, segment_then, absent}
 use Rattle.dm_syntax.specs.Declarations.{Listed, FieldTree, FieldsTree, unnamed, ShapeTree, struct_shape, GenericsTree, Declaration}
@@ -161,6 +165,16 @@ pub record DeclarationOf (d : Declaration) (ts : Trees) : Type 0 where
 pub record IsTheDeclaration (d : Declaration) (ts : Trees) : Type 0 where
   pub spelled : DeclarationOf d ts
   pub only : (e : Declaration) → DeclarationOf e ts → e ≡ d
+
+-- a refusal of the whole text as a form that isn't read yet: no declaration has these trees. Want of memory is free.
+pub record IsNotYet (r : Refusal) (s : Stream) : Type 0 where
+  pub is_kind : r.kind ≡ kind.NotYet
+  pub is_whole : r.span ≡ record { start = 0; «end» = s.limit }
+  pub none : (d : Declaration) → ¬ DeclarationOf d s.trees
+
+abbrev pub IsRefused : Error → Stream → Type 0
+IsRefused error.NoMemory s = Unit {0}
+IsRefused (error.Refused r) s = IsNotYet r s
 
 -- ---- names that are kept for what is emitted
 

@@ -2,12 +2,14 @@
 #![tactic(auto)]
 
 mod decl;
+mod parse;
 mod plain;
 mod ty;
 
 pub use decl::{
     Data, DataEnum, DataStruct, DataUnion, DeriveInput, Field, Fields, Generics, Variant,
 };
+pub use parse::parse_decl;
 pub use plain::{AttrArgs, Attribute, ConstArg, Opaque, PlainPath, Vis};
 pub use ty::{
     BareFn, Bound, FnArg, GenericArgument, Path, PathArguments, PathSegment, QSelf, TraitBound, Ty,
