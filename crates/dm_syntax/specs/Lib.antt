@@ -1,3 +1,5 @@
 pub mod Tree
 pub mod Declarations
 pub mod TypeTokens
+pub mod Spells
+pub mod Reading

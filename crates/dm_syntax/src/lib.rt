@@ -3,12 +3,14 @@
 
 mod decl;
 mod emit;
+mod parse;
 mod plain;
 mod ty;
 
 pub use decl::{
     Data, DataEnum, DataStruct, DataUnion, DeriveInput, Field, Fields, Generics, Variant,
 };
+pub use parse::parse_decl;
 pub use plain::{AttrArgs, Attribute, ConstArg, Opaque, PlainPath, Vis};
 pub use ty::{
     BareFn, Bound, FnArg, GenericArgument, Path, PathArguments, PathSegment, QSelf, TraitBound, Ty,
