@@ -1,5 +1,5 @@
 -- The tokens that types, paths, bounds and arguments are written with. A node's own tokens stand at the range of the
--- innermost type around them, those of an attribute at the attribute's. `::` and `->` are joint, other puncts alone.
+-- innermost type around them, those of an attribute at the attribute's, and delimiters at no place of a text. `::` and `->` are joint, other puncts alone.
 -- Parts that are not read give their own trees.
 use Rattle.std.specs.Prelude.{ℕ, List, [], ◌∷◌, map, take, drop, ◌==◌, Bool, true, false, cond, codes, Option, Some, None}
 use Rattle.dm_tokens.specs.declared.tokens.Span.{Span}
@@ -11,6 +11,7 @@ use Rattle.dm_tokens.specs.declared.tokens.Lifetime.{Lifetime}
 use Rattle.dm_tokens.specs.declared.tokens.Spacing.TheVariants.{Joint, Alone}
 use Rattle.dm_tokens.specs.declared.tokens.Token.{Token}
 use Rattle.dm_tokens.specs.declared.tokens.Token.TheVariants as t
+use Rattle.dm_tokens.specs.Layout.{nowhere}
 use Rattle.dm_tokens.specs.Trees.{Trees, no_trees, token, group, join}
 use Rattle.dm_syntax.specs.declared.plain.PlainPath.{PlainPath}
 use Rattle.dm_syntax.specs.declared.plain.AttrArgs.{AttrArgs}
@@ -50,9 +51,9 @@ lifetime l = one (t.Lifetime l)
 abbrev pub literal : Literal → Trees
 literal l = one (t.Literal l)
 
--- trees between two delimiters
-abbrev pub grouped : Delim → Span → Trees → Trees
-grouped d s inside = group d s inside s no_trees
+-- trees between two delimiters, which stand at no place of a text
+abbrev pub grouped : Delim → Trees → Trees
+grouped d inside = group d nowhere inside nowhere no_trees
 
 -- ---- what may be missing
 
@@ -95,18 +96,18 @@ for_trees s (Some ls) = join (word (codes "for") s) (angle_trees s (map lifetime
 abbrev pub const_trees : Span → ConstArg → Trees
 const_trees s (c.Literal minus l) = join (given minus (punct 45 s)) (literal l)
 const_trees s (c.Bool i) = name i
-const_trees s (c.Block ts) = grouped Brace s ts.trees
+const_trees s (c.Block ts) = grouped Brace ts.trees
 const_trees s (c.Name i) = name i
 
 abbrev pub attr_args_trees : Span → AttrArgs → Trees
 attr_args_trees s attr.Absent = no_trees
-attr_args_trees s (attr.List d ts) = grouped d s ts.trees
+attr_args_trees s (attr.List d ts) = grouped d ts.trees
 attr_args_trees s (attr.Value o) = join (punct 61 s) o.tokens.trees
 
 -- `#[path args]`
 abbrev pub attribute_trees : Attribute → Trees
 attribute_trees a =
-    join (punct 35 a.span) (grouped Bracket a.span (join (plain_trees a.span a.path) (attr_args_trees a.span a.args)))
+    join (punct 35 a.span) (grouped Bracket (join (plain_trees a.span a.path) (attr_args_trees a.span a.args)))
 
 abbrev pub attributes_trees : List Attribute → Trees
 attributes_trees [] = no_trees
@@ -140,10 +141,10 @@ abbrev mutual
   type_trees (type_tree n s) = node_trees s n
 
   pub node_trees : Span → TypeNode → Trees
-  node_trees s (paren t) = grouped Paren s (type_trees t)
-  node_trees s (tuple ts trailing) = grouped Paren s (listed 44 s (each_type ts) trailing)
-  node_trees s (slice t) = grouped Bracket s (type_trees t)
-  node_trees s (array t size) = grouped Bracket s (join (type_trees t) (join (punct 59 s) size.tokens.trees))
+  node_trees s (paren t) = grouped Paren (type_trees t)
+  node_trees s (tuple ts trailing) = grouped Paren (listed 44 s (each_type ts) trailing)
+  node_trees s (slice t) = grouped Bracket (type_trees t)
+  node_trees s (array t size) = grouped Bracket (join (type_trees t) (join (punct 59 s) size.tokens.trees))
   node_trees s (reference l is_mut t) =
       join (punct 38 s) (join (maybe_lifetime l) (join (given is_mut (word (codes "mut") s)) (type_trees t)))
   node_trees s (pointer is_mut t) =
@@ -156,7 +157,7 @@ abbrev mutual
   node_trees s (path no_self p) = path_trees s p
   node_trees s (path (some_self t position) (path_tree leading_colon ss)) =
       qualified_trees s (type_trees t) position leading_colon (each_segment s ss)
-  node_trees s (macro_type p d ts) = join (plain_trees s p) (join (punct 33 s) (grouped d s ts.trees))
+  node_trees s (macro_type p d ts) = join (plain_trees s p) (join (punct 33 s) (grouped d ts.trees))
 
   pub each_type : TypeTrees → List Trees
   each_type no_types = []
@@ -173,12 +174,12 @@ abbrev mutual
   pub trait_bound_trees : Span → TraitBoundTree → Trees
   trait_bound_trees s (trait_bound in_parens maybe ls p) =
       let inside = join (given maybe (punct 63 s)) (join (for_trees s ls) (path_trees s p)) in
-      cond in_parens (grouped Paren s inside) inside
+      cond in_parens (grouped Paren inside) inside
 
   pub fn_trees : Span → FnTree → Trees
   fn_trees s (fn_tree ls is_unsafe abi inputs trailing output) =
       join (for_trees s ls) (join (given is_unsafe (word (codes "unsafe") s)) (join (abi_trees s abi) (join (word (codes "fn") s)
-      (join (grouped Paren s (listed 44 s (each_input s inputs) trailing)) (output_trees s output)))))
+      (join (grouped Paren (listed 44 s (each_input s inputs) trailing)) (output_trees s output)))))
 
   pub each_input : Span → InputTrees → List Trees
   each_input s no_inputs = []
@@ -205,7 +206,7 @@ abbrev mutual
   pub arguments_trees : Span → ArgumentsTree → Trees
   arguments_trees s absent = no_trees
   arguments_trees s (angle has_colons gs trailing) = join (given has_colons (colons s)) (angle_trees s (each_argument s gs) trailing)
-  arguments_trees s (parens ts trailing output) = join (grouped Paren s (listed 44 s (each_type ts) trailing)) (output_trees s output)
+  arguments_trees s (parens ts trailing output) = join (grouped Paren (listed 44 s (each_type ts) trailing)) (output_trees s output)
 
   pub maybe_angle_trees : Span → MaybeArguments → Trees
   maybe_angle_trees s arguments_absent = no_trees

@@ -33,21 +33,16 @@ fn group<'a>(
     out: &mut TokenStream<'a>,
     delim: Delim,
     inside: TokenStream<'a>,
-    span: Span,
 ) -> Result<(), AllocError>
-    ensures { OnOk result (out.new.trees ≡ join out.old.trees (spec.grouped delim span inside.entry.trees)) }
+    ensures { OnOk result (out.new.trees ≡ join out.old.trees (spec.grouped delim inside.entry.trees)) }
 {
-    out.push_group(delim, span, inside, span)
+    out.push_group(delim, inside)
 }
 
-fn append<'a>(
-    alloc: Global,
-    out: &mut TokenStream<'a>,
-    stream: &TokenStream<'a>,
-) -> Result<(), AllocError>
+fn append<'a>(out: &mut TokenStream<'a>, stream: &TokenStream<'a>) -> Result<(), AllocError>
     ensures { OnOk result (out.new.trees ≡ join out.old.trees stream.now.trees) }
 {
-    out.extend(stream.clone_in(alloc)?)
+    out.extend(stream.piece())
 }
 
 fn punct(out: &mut TokenStream<'_>, ch: char, span: Span) -> Result<(), AllocError>
@@ -242,7 +237,7 @@ fn write_const<'a>(
             literal(alloc, out, value)
         }
         ConstArg::Bool(value) => name(alloc, out, value),
-        ConstArg::Block(tokens) => group(out, Delim::Brace, tokens.clone_in(alloc)?, span),
+        ConstArg::Block(tokens) => group(out, Delim::Brace, tokens.clone_in(alloc)?),
         ConstArg::Name(value) => name(alloc, out, value),
     }
 }
@@ -257,10 +252,10 @@ fn write_attr_args<'a>(
 {
     match args {
         AttrArgs::Absent => Ok(()),
-        AttrArgs::List(delim, tokens) => group(out, *delim, tokens.clone_in(alloc)?, span),
+        AttrArgs::List(delim, tokens) => group(out, *delim, tokens.clone_in(alloc)?),
         AttrArgs::Value(value) => {
             punct(out, '=', span)?;
-            append(alloc, out, &value.tokens)
+            append(out, &value.tokens)
         }
     }
 }
@@ -274,11 +269,11 @@ pub fn write_attribute<'a>(
     ensures { OnOk result (out.new.trees ≡ join out.old.trees (spec.attribute_trees attribute.now)) }
 {
     let span = attribute.span;
-    let mut inside = TokenStream::new(alloc, span.end);
+    let mut inside = TokenStream::new(alloc);
     write_plain(alloc, &mut inside, &attribute.path, span)?;
     write_attr_args(alloc, &mut inside, &attribute.args, span)?;
     punct(out, '#', span)?;
-    group(out, Delim::Bracket, inside, span)
+    group(out, Delim::Bracket, inside)
 }
 
 fn write_attributes<'a>(
@@ -414,7 +409,7 @@ fn write_macro<'a>(
 {
     write_plain(alloc, out, path, span)?;
     punct(out, '!', span)?;
-    group(out, delim, tokens.clone_in(alloc)?, span)
+    group(out, delim, tokens.clone_in(alloc)?)
 }
 
 #[cycle(emit)]
@@ -425,11 +420,11 @@ fn write_enclosed<'a>(
     inner: &Ty<'a>,
     span: Span,
 ) -> Result<(), AllocError>
-    ensures { OnOk result (out.new.trees ≡ join out.old.trees (spec.grouped delim span (spec.type_trees (ty_view inner.now)))) }
+    ensures { OnOk result (out.new.trees ≡ join out.old.trees (spec.grouped delim (spec.type_trees (ty_view inner.now)))) }
 {
-    let mut inside = TokenStream::new(alloc, span.end);
+    let mut inside = TokenStream::new(alloc);
     write_type(alloc, &mut inside, inner)?;
-    group(out, delim, inside, span)
+    group(out, delim, inside)
 }
 
 #[cycle(emit)]
@@ -442,11 +437,11 @@ fn write_array<'a>(
 ) -> Result<(), AllocError>
     ensures { OnOk result (out.new.trees ≡ join out.old.trees (spec.node_trees span (array (ty_view inner.now) size.now))) }
 {
-    let mut inside = TokenStream::new(alloc, span.end);
+    let mut inside = TokenStream::new(alloc);
     write_type(alloc, &mut inside, inner)?;
     punct(&mut inside, ';', span)?;
-    append(alloc, &mut inside, &size.tokens)?;
-    group(out, Delim::Bracket, inside, span)
+    append(&mut inside, &size.tokens)?;
+    group(out, Delim::Bracket, inside)
 }
 
 #[cycle(emit)]
@@ -459,9 +454,9 @@ fn write_tuple<'a>(
 ) -> Result<(), AllocError>
     ensures { OnOk result (out.new.trees ≡ join out.old.trees (spec.node_trees span (tuple (types_of (map ty_view all.now)) trailing))) }
 {
-    let mut inside = TokenStream::new(alloc, span.end);
+    let mut inside = TokenStream::new(alloc);
     write_types(alloc, &mut inside, all, trailing, span)?;
-    group(out, Delim::Paren, inside, span)
+    group(out, Delim::Paren, inside)
 }
 
 #[cycle(emit)]
@@ -526,14 +521,14 @@ fn write_trait_bound<'a>(
 ) -> Result<(), AllocError>
     ensures { OnOk result (out.new.trees ≡ join out.old.trees (spec.trait_bound_trees span (trait_view bound.now))) }
 {
-    let mut inside = TokenStream::new(alloc, span.end);
+    let mut inside = TokenStream::new(alloc);
     punct_if(&mut inside, bound.maybe, '?', span)?;
     write_for(alloc, &mut inside, &bound.lifetimes, span)?;
     write_path(alloc, &mut inside, &bound.path, span)?;
     if bound.parens {
-        return group(out, Delim::Paren, inside, span);
+        return group(out, Delim::Paren, inside);
     }
-    out.extend(inside)
+    out.extend(inside.piece())
 }
 
 #[cycle(emit)]
@@ -549,10 +544,10 @@ fn write_fn<'a>(
     word_if(out, function.is_unsafe, "unsafe", span)?;
     write_abi(alloc, out, &function.abi, span)?;
     word(out, "fn", span)?;
-    let mut inside = TokenStream::new(alloc, span.end);
+    let mut inside = TokenStream::new(alloc);
     let inputs = &function.inputs;
     write_inputs(alloc, &mut inside, inputs.items.as_slice(), inputs.trailing, span)?;
-    group(out, Delim::Paren, inside, span)?;
+    group(out, Delim::Paren, inside)?;
     match &function.output {
         None => Ok(()),
         Some(ty) => write_output(alloc, out, ty, span),
