@@ -4,7 +4,9 @@
 mod expr;
 mod item;
 mod pattern;
+mod print;
 
 pub use expr::{Arm, ArmBody, Block, Expr, PathExpr, Stmt};
 pub use item::{Assoc, Item, ItemAttr, Method, MethodParam, Receiver};
 pub use pattern::{Binding, NamedPattern, Pattern};
+pub use print::{Expansion, print_items, with_text};

@@ -1,0 +1,169 @@
+//! Expressions, blocks and arms.
+#![tactic(auto, using(crate::proofs::Laying::print_steps))]
+
+ghost use Rattle.std.specs.Prelude.{◌≡◌, map, OnOk, true, option_map};
+ghost use Rattle.dm_syntax.specs.TypeTokens as syntax;
+ghost use Rattle.dm_emit.specs.Output.{expr_view, arm_view, body_view, block_view, stmt_view, statements, exprs_of, arms_of, maybe_expr};
+ghost use Rattle.dm_emit.specs.Tokens as spec;
+ghost use Rattle.dm_emit.specs.Laying.{lay, LaysStatement};
+
+use super::path::path_expr;
+use super::pattern::patterns;
+use super::token::{close, joint, name, open, punct, word};
+use crate::expr::{Arm, ArmBody, Block, Expr, Stmt};
+use dm_tokens::{Delim, Layout};
+use std::alloc::{AllocError, Global};
+
+#[cycle(print)]
+fn expr(alloc: Global, out: &mut Layout, tree: &Expr<'_>) -> Result<(), AllocError>
+    ensures { OnOk result (out.new ≡ lay out.old (spec.expr_trees (expr_view tree.now))) }
+{
+    match tree {
+        Expr::Or(parts) => chain(alloc, out, '|', parts.as_slice()),
+        Expr::And(parts) => chain(alloc, out, '&', parts.as_slice()),
+        Expr::Equal(left, right) => {
+            expr(alloc, out, left)?;
+            joint(out, '=', '=')?;
+            expr(alloc, out, right)
+        }
+        Expr::Unequal(left, right) => {
+            expr(alloc, out, left)?;
+            joint(out, '!', '=')?;
+            expr(alloc, out, right)
+        }
+        Expr::Deref(inner) => {
+            punct(out, '*')?;
+            expr(alloc, out, inner)
+        }
+        Expr::Path(path) => path_expr(alloc, out, path),
+        Expr::Call(path, arguments) => {
+            path_expr(alloc, out, path)?;
+            open(out, Delim::Paren)?;
+            list(alloc, out, arguments.as_slice())?;
+            close(out, Delim::Paren)
+        }
+        Expr::Tuple(parts) => {
+            open(out, Delim::Paren)?;
+            list(alloc, out, parts.as_slice())?;
+            close(out, Delim::Paren)
+        }
+        Expr::Bool(true) => word(out, "true"),
+        Expr::Bool(false) => word(out, "false"),
+        Expr::Match(subject, all) => {
+            word(out, "match")?;
+            expr(alloc, out, subject)?;
+            open(out, Delim::Brace)?;
+            arms(alloc, out, all.as_slice())?;
+            close(out, Delim::Brace)
+        }
+        Expr::Unsafe(inner) => {
+            word(out, "unsafe")?;
+            open(out, Delim::Brace)?;
+            expr(alloc, out, inner)?;
+            close(out, Delim::Brace)
+        }
+    }
+}
+
+/// Expressions with an operator of two equal puncts between them.
+#[cycle(print)]
+fn chain(alloc: Global, out: &mut Layout, ch: char, all: &[Expr<'_>]) -> Result<(), AllocError>
+    ensures { OnOk result (out.new ≡ lay out.old (syntax.spaced (spec.joint ch ch) true (spec.each_expr (exprs_of (map expr_view all.now))))) }
+{
+    for (i, one) in all.iter().enumerate() {
+        if i > 0 {
+            joint(out, ch, ch)?;
+        }
+        expr(alloc, out, one)?;
+    }
+    Ok(())
+}
+
+/// Expressions with commas between them.
+#[cycle(print)]
+fn list(alloc: Global, out: &mut Layout, all: &[Expr<'_>]) -> Result<(), AllocError>
+    ensures { OnOk result (out.new ≡ lay out.old (syntax.spaced spec.comma true (spec.each_expr (exprs_of (map expr_view all.now))))) }
+{
+    for (i, one) in all.iter().enumerate() {
+        if i > 0 {
+            punct(out, ',')?;
+        }
+        expr(alloc, out, one)?;
+    }
+    Ok(())
+}
+
+#[cycle(print)]
+fn arms(alloc: Global, out: &mut Layout, all: &[Arm<'_>]) -> Result<(), AllocError>
+    ensures { OnOk result (out.new ≡ lay out.old (spec.arms_trees (arms_of (map arm_view all.now)))) }
+{
+    for one in all {
+        arm(alloc, out, one)?;
+    }
+    Ok(())
+}
+
+#[cycle(print)]
+fn arm(alloc: Global, out: &mut Layout, tree: &Arm<'_>) -> Result<(), AllocError>
+    ensures { OnOk result (out.new ≡ lay out.old (spec.arm_trees (arm_view tree.now))) }
+{
+    patterns(alloc, out, tree.patterns.as_slice())?;
+    if let Some(test) = &tree.guard {
+        word(out, "if")?;
+        expr(alloc, out, test)?;
+    }
+    joint(out, '=', '>')?;
+    body(alloc, out, &tree.body)?;
+    punct(out, ',')
+}
+
+#[cycle(print)]
+fn body(alloc: Global, out: &mut Layout, tree: &ArmBody<'_>) -> Result<(), AllocError>
+    ensures { OnOk result (out.new ≡ lay out.old (spec.body_trees (body_view tree.now))) }
+{
+    match tree {
+        ArmBody::Block(inner) => block(alloc, out, inner),
+        ArmBody::Expr(inner) => expr(alloc, out, inner),
+    }
+}
+
+#[cycle(print)]
+pub fn block(alloc: Global, out: &mut Layout, tree: &Block<'_>) -> Result<(), AllocError>
+    ensures { OnOk result (out.new ≡ lay out.old (spec.block_trees (block_view tree.now))) }
+{
+    open(out, Delim::Brace)?;
+    stmts(alloc, out, tree.stmts.as_slice())?;
+    if let Some(last) = &tree.last {
+        expr(alloc, out, last)?;
+    }
+    close(out, Delim::Brace)
+}
+
+#[cycle(print)]
+fn stmts(alloc: Global, out: &mut Layout, all: &[Stmt<'_>]) -> Result<(), AllocError>
+    ensures { OnOk result (LaysStatement out.old (statements (map stmt_view all.now)) out.new) }
+{
+    for one in all {
+        stmt(alloc, out, one)?;
+    }
+    Ok(())
+}
+
+#[cycle(print)]
+fn stmt(alloc: Global, out: &mut Layout, tree: &Stmt<'_>) -> Result<(), AllocError>
+    ensures { OnOk result (LaysStatement out.old (stmt_view tree.now) out.new) }
+{
+    match tree {
+        Stmt::Let(ident, value) => {
+            word(out, "let")?;
+            name(out, ident)?;
+            punct(out, '=')?;
+            expr(alloc, out, value)?;
+            punct(out, ';')
+        }
+        Stmt::Expr(value) => {
+            expr(alloc, out, value)?;
+            punct(out, ';')
+        }
+    }
+}

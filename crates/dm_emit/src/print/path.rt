@@ -1,0 +1,88 @@
+//! Paths and types.
+#![tactic(auto, using(crate::proofs::Laying::print_steps))]
+
+ghost use Rattle.std.specs.Prelude.{◌≡◌, map, OnOk, true};
+ghost use Rattle.dm_syntax.specs.Tree.{ty_view, some_self, path_view, segment_view, self_view, arguments_view, maybe_self_view, segments_of};
+ghost use Rattle.dm_syntax.specs.TypeTokens as syntax;
+ghost use Rattle.dm_emit.specs.Tokens as spec;
+ghost use Rattle.dm_emit.specs.Laying.{lay};
+
+use super::token::{emitted, joint, joint_if, name, stream};
+use crate::expr::PathExpr;
+use dm_syntax::{
+    Path, PathArguments, PathSegment, QSelf, Ty, write_arguments, write_qualified, write_type,
+};
+use dm_tokens::{Layout, TokenStream};
+use std::alloc::{AllocError, Global};
+
+pub fn ty(alloc: Global, out: &mut Layout, ty: &Ty<'_>) -> Result<(), AllocError>
+    ensures { OnOk result (out.new ≡ lay out.old (syntax.type_trees (ty_view ty.now))) }
+{
+    let mut tokens = TokenStream::new(alloc, 0);
+    write_type(alloc, &mut tokens, ty)?;
+    stream(out, &tokens)
+}
+
+pub fn path(alloc: Global, out: &mut Layout, path: &Path<'_>) -> Result<(), AllocError>
+    ensures { OnOk result (out.new ≡ lay out.old (syntax.path_trees spec.emitted (path_view path.now))) }
+{
+    joint_if(out, path.leading_colon, ':', ':')?;
+    segments(alloc, out, path.segments.as_slice())
+}
+
+fn segments(alloc: Global, out: &mut Layout, all: &[PathSegment<'_>]) -> Result<(), AllocError>
+    ensures { OnOk result (out.new ≡ lay out.old (syntax.spaced (syntax.colons spec.emitted) true (syntax.each_segment spec.emitted (segments_of (map segment_view all.now))))) }
+{
+    for (i, one) in all.iter().enumerate() {
+        if i > 0 {
+            joint(out, ':', ':')?;
+        }
+        segment(alloc, out, one)?;
+    }
+    Ok(())
+}
+
+fn segment(alloc: Global, out: &mut Layout, segment: &PathSegment<'_>) -> Result<(), AllocError>
+    ensures { OnOk result (out.new ≡ lay out.old (syntax.segment_trees spec.emitted (segment_view segment.now))) }
+{
+    name(out, &segment.ident)?;
+    arguments(alloc, out, &segment.arguments)
+}
+
+fn arguments(
+    alloc: Global,
+    out: &mut Layout,
+    arguments: &PathArguments<'_>,
+) -> Result<(), AllocError>
+    ensures { OnOk result (out.new ≡ lay out.old (syntax.arguments_trees spec.emitted (arguments_view arguments.now))) }
+{
+    if let PathArguments::Absent = arguments {
+        return Ok(());
+    }
+    let mut tokens = TokenStream::new(alloc, 0);
+    write_arguments(alloc, &mut tokens, arguments, emitted())?;
+    stream(out, &tokens)
+}
+
+pub fn path_expr(alloc: Global, out: &mut Layout, expr: &PathExpr<'_>) -> Result<(), AllocError>
+    ensures { OnOk result (out.new ≡ lay out.old (spec.path_expr_trees (maybe_self_view expr.now.qself) (path_view expr.now.path))) }
+{
+    match &expr.qself {
+        None => path(alloc, out, &expr.path),
+        Some(qself) => qualified(alloc, out, qself, &expr.path),
+    }
+}
+
+fn qualified(
+    alloc: Global,
+    out: &mut Layout,
+    qself: &QSelf<'_>,
+    path: &Path<'_>,
+) -> Result<(), AllocError>
+    ensures { OnOk result (out.new ≡ lay out.old (spec.path_expr_trees (some_self (self_view qself.now).0 (self_view qself.now).1) (path_view path.now))) }
+{
+    let mut tokens = TokenStream::new(alloc, 0);
+    let segments = path.segments.as_slice();
+    write_qualified(alloc, &mut tokens, qself, path.leading_colon, segments, emitted())?;
+    stream(out, &tokens)
+}

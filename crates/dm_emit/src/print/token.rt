@@ -1,0 +1,94 @@
+//! Single tokens.
+#![tactic(auto, using(crate::proofs::Laying::token_steps))]
+
+ghost use Rattle.std.specs.Prelude.{◌≡◌, OnOk};
+ghost use Rattle.dm_syntax.specs.TypeTokens as syntax;
+ghost use Rattle.dm_emit.specs.Tokens as spec;
+ghost use Rattle.dm_emit.specs.Laying.{lay, begun, done};
+
+use dm_tokens::{Delim, Ident, Layout, Lifetime, Spacing, Span, TokenStream};
+use std::alloc::AllocError;
+
+/// The range of what is printed from no source.
+pub fn emitted() -> Span
+    ensures { result ≡ spec.emitted }
+{
+    Span { start: 0, end: 0 }
+}
+
+pub fn word(out: &mut Layout, text: &str) -> Result<(), AllocError>
+    ensures { OnOk result (out.new ≡ lay out.old (spec.word text.now)) }
+{
+    out.word(text)
+}
+
+pub fn word_if(out: &mut Layout, here: bool, text: &str) -> Result<(), AllocError>
+    ensures { OnOk result (out.new ≡ lay out.old (syntax.given here (spec.word text.now))) }
+{
+    if here {
+        return word(out, text);
+    }
+    Ok(())
+}
+
+pub fn name(out: &mut Layout, ident: &Ident<'_>) -> Result<(), AllocError>
+    ensures { OnOk result (out.new ≡ lay out.old (syntax.name ident.now)) }
+{
+    out.ident(ident)
+}
+
+pub fn lifetime(out: &mut Layout, lifetime: &Lifetime<'_>) -> Result<(), AllocError>
+    ensures { OnOk result (out.new ≡ lay out.old (syntax.lifetime lifetime.now)) }
+{
+    out.lifetime(lifetime)
+}
+
+pub fn punct(out: &mut Layout, ch: char) -> Result<(), AllocError>
+    ensures { OnOk result (out.new ≡ lay out.old (spec.punct ch)) }
+{
+    out.punct(ch, Spacing::Alone)
+}
+
+pub fn punct_if(out: &mut Layout, here: bool, ch: char) -> Result<(), AllocError>
+    ensures { OnOk result (out.new ≡ lay out.old (syntax.given here (spec.punct ch))) }
+{
+    if here {
+        return punct(out, ch);
+    }
+    Ok(())
+}
+
+pub fn joint(out: &mut Layout, ch: char, next: char) -> Result<(), AllocError>
+    ensures { OnOk result (out.new ≡ lay out.old (spec.joint ch next)) }
+{
+    out.punct(ch, Spacing::Joint)?;
+    out.punct(next, Spacing::Alone)
+}
+
+pub fn joint_if(out: &mut Layout, here: bool, ch: char, next: char) -> Result<(), AllocError>
+    ensures { OnOk result (out.new ≡ lay out.old (syntax.given here (spec.joint ch next))) }
+{
+    if here {
+        return joint(out, ch, next);
+    }
+    Ok(())
+}
+
+pub fn open(out: &mut Layout, delim: Delim) -> Result<(), AllocError>
+    ensures { OnOk result (out.new ≡ begun out.old delim) }
+{
+    out.open(delim)
+}
+
+pub fn close(out: &mut Layout, delim: Delim) -> Result<(), AllocError>
+    ensures { OnOk result (out.new ≡ done out.old delim) }
+{
+    out.close(delim)
+}
+
+/// Adds a stream's tokens.
+pub fn stream(out: &mut Layout, tokens: &TokenStream<'_>) -> Result<(), AllocError>
+    ensures { OnOk result (out.new ≡ lay out.old tokens.now.trees) }
+{
+    out.stream(tokens)
+}
