@@ -15,7 +15,6 @@ use Rattle.dm_emit.specs.declared.expr.Block.{Block}
 use Rattle.dm_emit.specs.declared.expr.Stmt.{Stmt}
 use Rattle.dm_emit.specs.declared.expr.Arm.{Arm}
 use Rattle.dm_emit.specs.declared.expr.ArmBody.{ArmBody}
-use Rattle.dm_emit.specs.declared.expr.PathExpr.{PathExpr}
 use Rattle.dm_emit.specs.declared.expr.ArmBody.TheOpen.{Expr-F, Block-F, Stmt-F, Arm-F, ArmBody-F}
 use Rattle.dm_emit.specs.declared.expr.ArmBody.TheFolds.{fold-Expr, fold-Block, fold-Stmt, fold-Arm, fold-ArmBody}
 use Rattle.dm_emit.specs.declared.item.ItemAttr.{ItemAttr}

@@ -1,5 +1,5 @@
 ghost use Rattle.std.specs.Prelude.{◌≡◌, OnOk, OnErr, IfOk, MatchResult, ◌++◌, ◌∷◌, ◌+◌, [], length};
-ghost use Rattle.dm_tokens.specs.Trees.{no_trees, token, group, join};
+ghost use Rattle.dm_tokens.specs.Trees.{no_trees, token, group, join, flatten};
 ghost use Rattle.dm_tokens.specs.declared.tokens.Entry.TheVariants as entry;
 ghost use Rattle.dm_tokens.specs.Cursors.{left, sound};
 
@@ -75,7 +75,10 @@ impl<'a> TokenStream<'a> {
         ensures pushed { OnOk result (self.new.trees ≡ join self.old.trees other.entry.trees) }
         ensures limit { self.new.limit ≡ self.old.limit }
     {
-        let TokenStream { mut entries, limit: _ } = other;
+        let TokenStream {
+            mut entries,
+            limit: _,
+        } = other;
         append_entries(&mut self.entries, &mut entries)
     }
 
@@ -99,6 +102,14 @@ impl<'a> TokenStream<'a> {
             entries: copy_entries(alloc, from.entries)?,
             limit: from.limit,
         })
+    }
+
+    /// The stream's own vector: each token, and each group as an `Open`, its inside and a `Close`. The number in an
+    /// `Open` is that of the entries up to the group's `Close`, with it.
+    pub fn entries(&self) -> &[Entry<'a>]
+        ensures { result.now ≡ flatten self.now.trees }
+    {
+        self.entries.as_slice()
     }
 
     pub fn cursor(&self) -> Cursor<'_, 'a>
