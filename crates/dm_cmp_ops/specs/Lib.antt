@@ -1,4 +1,6 @@
 pub mod Skips
+pub mod Found
 pub mod Direct
 pub mod Heads
 pub mod Emitted
+pub mod CaseViews

@@ -1,4 +1,8 @@
 //! Comparison traits: from a declaration to implementations.
 #![tactic(auto)]
 
+mod cases;
+mod names;
 pub mod partial_eq;
+mod sides;
+mod skips;
