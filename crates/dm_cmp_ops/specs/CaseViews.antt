@@ -1,7 +1,8 @@
 -- The variants of a declaration as the program lends them, and which operand a name belongs to.
-use Rattle.std.specs.Prelude.{ℕ}
-use Rattle.dm_syntax.specs.Declarations.{FieldsTree, named, unnamed, unit, listed, field_view}
-use Rattle.dm_emit.specs.Values.{Text, Case}
+use Rattle.std.specs.Prelude.{◌≡◌, ℕ, List, map}
+use Rattle.dm_syntax.specs.Declarations.{FieldsTree, named, unnamed, unit, listed, field_view, declaration_view}
+use Rattle.dm_syntax.specs.declared.decl.DeriveInput.{DeriveInput}
+use Rattle.dm_emit.specs.Values.{Text, Case, cases}
 use Rattle.dm_cmp_ops.specs.declared.cases.FieldsRef.{FieldsRef}
 use Rattle.dm_cmp_ops.specs.declared.cases.FieldsRef.TheVariants as fields
 use Rattle.dm_cmp_ops.specs.declared.cases.CaseRef.{CaseRef}
@@ -21,3 +22,7 @@ case_view c = record { attrs = c.attrs.now; ident = c.ident.now; fields = fields
 abbrev pub naming : Operand → ℕ → Text
 naming Mine n = self_name n
 naming Theirs n = other_name n
+
+-- these are the variants of the declaration
+abbrev pub IsCasesOf : DeriveInput → List CaseRef → Type 0
+IsCasesOf d cs = map case_view cs ≡ cases (declaration_view d)

@@ -101,17 +101,6 @@ pub(crate) fn is_enum(input: &DeriveInput<'_>) -> bool
     }
 }
 
-/// The fields of a variant, in order.
-pub(crate) fn field_items<'x, 'a>(fields: FieldsRef<'x, 'a>) -> &'x [Field<'a>]
-    ensures { map field_view result.now ≡ values.field_list (fields_ref_view fields.entry) }
-{
-    match fields {
-        FieldsRef::Named(all) => all.items.as_slice(),
-        FieldsRef::Unnamed(all) => all.items.as_slice(),
-        FieldsRef::Unit => &[],
-    }
-}
-
 fn keeps_some(fields: &[Field<'_>]) -> bool
     ensures { result ≡ heads.keeps_some (map field_view fields.now) }
 {
@@ -121,6 +110,16 @@ fn keeps_some(fields: &[Field<'_>]) -> bool
         }
     }
     false
+}
+
+fn keeps_some_in(fields: FieldsRef<'_, '_>) -> bool
+    ensures { result ≡ heads.keeps_some (values.field_list (fields_ref_view fields.entry)) }
+{
+    match fields {
+        FieldsRef::Named(all) => keeps_some(all.items.as_slice()),
+        FieldsRef::Unnamed(all) => keeps_some(all.items.as_slice()),
+        FieldsRef::Unit => false,
+    }
 }
 
 pub(crate) fn some_skipped_field(fields: &[Field<'_>]) -> bool
@@ -138,7 +137,7 @@ pub(crate) fn some_skipped_field(fields: &[Field<'_>]) -> bool
 pub(crate) fn is_compared(case: &CaseRef<'_, '_>) -> bool
     ensures { result ≡ heads.is_compared (case_view case.now) }
 {
-    !is_skipped(case.attrs) && keeps_some(field_items(case.fields))
+    !is_skipped(case.attrs) && keeps_some_in(case.fields)
 }
 
 pub(crate) fn some_compared(cases: &[CaseRef<'_, '_>]) -> bool

@@ -2,6 +2,8 @@
 #![tactic(auto)]
 
 mod cases;
+mod comparing;
+mod heads;
 mod names;
 pub mod partial_eq;
 mod sides;

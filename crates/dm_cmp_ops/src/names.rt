@@ -20,6 +20,12 @@ pub(crate) fn add<T: Drop>(list: &mut Seq<T>, item: T) -> Result<(), AllocError>
     }
 }
 
+pub(crate) fn append<T: Drop>(list: &mut Vec<T>, item: T) -> Result<(), AllocError>
+    ensures { OnOk result (list.new.items ≡ list.old.items ++ item ∷ []) }
+{
+    Ok(list.push(item)?)
+}
+
 pub(crate) fn one<T: Drop>(alloc: Global, item: T) -> Result<Seq<T>, AllocError>
     ensures { IfOk result (λ it. it ≡ item ∷ []) }
 {
