@@ -3,3 +3,5 @@ pub mod BindingLaws
 pub mod ChainLaws
 pub mod ArmLaws
 pub mod PartialEqLaws
+mod Builders
+mod SkipSteps

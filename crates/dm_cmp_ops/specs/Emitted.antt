@@ -5,13 +5,15 @@ use Rattle.dm_tokens.specs.declared.tokens.Ident.{Ident}
 use Rattle.dm_syntax.specs.Tree.{PathTree, no_self}
 use Rattle.dm_syntax.specs.Declarations.{Declaration, FieldTree, FieldsTree, named, unnamed, unit}
 use Rattle.dm_emit.specs.declared.pattern.Binding.TheVariants.{Plain}
-use Rattle.dm_emit.specs.Output.{PatternTree, wild, bind, tuple_pattern, named_pattern, pair_pattern, patterns_of, named_of, ExprTree, or_expr, and_expr, equal, unequal, deref, path_expr, call, tuple, bool, match_expr, unsafe_expr, ExprTrees, no_exprs, expr_then, exprs_of, no_expr, some_expr, ArmTree, no_arms, arms_of, block_body, expr_body, BlockTree, last_expr}
+use Rattle.dm_emit.specs.Output.{PatternTree, wild, bind, tuple_pattern, named_pattern, pair_pattern, patterns_of, named_of, ExprTree, or_expr, and_expr, equal, unequal, deref, path_expr, call, tuple, bool, match_expr, unsafe_expr, ExprTrees, no_exprs, expr_then, exprs_of, no_expr, some_expr, ArmTree, no_arms, arms_of, block_body, expr_body, BlockTree, last_expr, MethodTree, ItemTree}
 use Rattle.dm_emit.specs.Values.{Text, Case, cases, is_enum, field_list}
 use Rattle.dm_emit.specs.Run.{discriminant_names}
 use Rattle.dm_cmp_ops.specs.declared.partial_eq.Comparing.{Comparing}
 use Rattle.dm_cmp_ops.specs.declared.partial_eq.Comparing.TheVariants.{Equal, Unequal}
 use Rattle.dm_cmp_ops.specs.Skips.{is_skipped}
-use Rattle.dm_cmp_ops.specs.Heads.{word, words, plain_path, is_compared, some_compared}
+use Rattle.dm_cmp_ops.specs.Heads.{word, words, plain_path, is_compared, some_compared, ref_self, name_type, partial_eq_path, implementor}
+use Rattle.dm_emit.specs.declared.item.ItemAttr.TheVariants.{AllowPrivateBounds, AutomaticallyDerived, Inline}
+use Rattle.dm_emit.specs.declared.item.Receiver.TheVariants.{Ref}
 
 -- ---- `eq` and `ne`
 
@@ -153,3 +155,28 @@ body_expr c d = cond (eqb (length (cases d)) 0) (match_expr (deref (name (codes 
 
 abbrev pub body : Comparing → Declaration → BlockTree
 body c d = last_expr (some_expr (body_expr c d))
+
+-- ---- the implementation
+
+abbrev pub method_name : Comparing → Text
+method_name Equal = codes "eq"
+method_name Unequal = codes "ne"
+
+-- #[inline] fn NAME(&self, __other: &Self) -> bool { BODY }
+abbrev pub method : Comparing → Declaration → MethodTree
+method c d =
+    record {
+      attrs = Inline ∷ []; is_const = false; name = word (method_name c); receiver = Some Ref;
+      param = Some (record { name = word (codes "__other"); ty = ref_self }); output = Some (name_type (word (codes "bool"))); body = body c d;
+    }
+
+-- `ne` too exactly where some variant is compared
+abbrev pub methods : Declaration → List MethodTree
+methods d = cond (some_compared (cases d)) (method Equal d ∷ method Unequal d ∷ []) (method Equal d ∷ [])
+
+abbrev pub item : Declaration → ItemTree
+item d =
+    record {
+      attrs = AllowPrivateBounds ∷ AutomaticallyDerived ∷ []; params = []; trait_path = Some partial_eq_path; ty = implementor d;
+      predicates = []; assocs = []; methods = methods d;
+    }

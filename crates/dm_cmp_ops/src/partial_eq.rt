@@ -1,8 +1,233 @@
 //! `PartialEq`.
+#![tactic(auto, using(crate::proofs::Builders::builder_steps))]
+
+ghost use Rattle.std.specs.Prelude.{◌≡◌, ◌∷◌, [], map, ◌++◌, codes, IfOk, OnOk};
+ghost use Rattle.dm_syntax.specs.Declarations.{declaration_view};
+ghost use Rattle.dm_emit.specs.Output.{expr_view, block_view, method_view, item_view, match_expr, deref, no_arms};
+ghost use Rattle.dm_emit.specs.Values as values;
+ghost use Rattle.dm_cmp_ops.specs.Heads as heads;
+ghost use Rattle.dm_cmp_ops.specs.Emitted as spec;
+ghost use Rattle.dm_cmp_ops.specs.CaseViews.{case_view, IsCasesOf};
+
+use crate::cases::{CaseRef, cases_of, is_enum, some_compared, some_skipped_case};
+use crate::comparing::{arms, block_of, chain, test_of};
+use crate::heads::{implementor, other_param, partial_eq_path, word_type};
+use crate::names::{append, boxed, name, one, path_of, two, word};
+use dm_emit::{Block, Expr, Item, ItemAttr, Method, PathExpr, Receiver};
+use dm_syntax::DeriveInput;
+use dm_tokens::{Ident, Seq};
+use std::alloc::{AllocError, Global};
 
 /// Which of the two methods is made.
 #[derive(Clone, Copy, Debug, PartialEq, Eq)]
 pub enum Comparing {
     Equal,
     Unequal,
+}
+
+fn word_name<'a>(alloc: Global, text: &'a str) -> Result<Expr<'a>, AllocError>
+    ensures { IfOk result (λ e. expr_view e ≡ spec.name text.now) }
+{
+    name(alloc, word(text))
+}
+
+/// The pair of the operands.
+fn both<'a>(alloc: Global) -> Result<Box<Expr<'a>>, AllocError>
+    ensures { IfOk result (λ e. expr_view e.value ≡ spec.both) }
+{
+    let mine = word_name(alloc, "self")?;
+    let theirs = word_name(alloc, "__other")?;
+    boxed(alloc, Expr::Tuple(two(alloc, mine, theirs)?))
+}
+
+fn matching<'a>(
+    alloc: Global,
+    comparing: Comparing,
+    input: &DeriveInput<'a>,
+    cases: &[CaseRef<'_, 'a>],
+) -> Result<Expr<'a>, AllocError>
+    requires { IsCasesOf input.now cases.now }
+    ensures { IfOk result (λ e. expr_view e ≡ spec.matching comparing (declaration_view input.now)) }
+{
+    let operands = both(alloc)?;
+    let all = arms(alloc, comparing, input, cases)?;
+    Ok(Expr::Match(operands, all))
+}
+
+fn discriminant_call<'a>(alloc: Global, text: &'a str) -> Result<Box<Expr<'a>>, AllocError>
+    ensures { IfOk result (λ e. expr_view e.value ≡ spec.discriminant_call text.now) }
+{
+    let path = path_of(alloc, &["derive_more", "core", "mem", "discriminant"])?;
+    let operand = one(alloc, word_name(alloc, text)?)?;
+    boxed(alloc, Expr::Call(PathExpr { qself: None, path }, operand))
+}
+
+fn discriminants<'a>(alloc: Global, comparing: Comparing) -> Result<Expr<'a>, AllocError>
+    ensures { IfOk result (λ e. expr_view e ≡ spec.discriminants comparing) }
+{
+    let mine = discriminant_call(alloc, "self")?;
+    let theirs = discriminant_call(alloc, "__other")?;
+    Ok(test_of(comparing, mine, theirs))
+}
+
+/// Whether values of two variants have to be told apart.
+fn needs_discriminants(input: &DeriveInput<'_>, cases: &[CaseRef<'_, '_>]) -> bool
+    requires { IsCasesOf input.now cases.now }
+    ensures { result ≡ spec.needs_discriminants (declaration_view input.now) }
+{
+    is_enum(input) && (some_skipped_case(cases) || cases.len() > 1)
+}
+
+fn match_part<'a>(
+    alloc: Global,
+    comparing: Comparing,
+    input: &DeriveInput<'a>,
+    cases: &[CaseRef<'_, 'a>],
+    parts: &mut Vec<Expr<'a>>,
+) -> Result<(), AllocError>
+    requires { IsCasesOf input.now cases.now }
+    ensures { OnOk result (map expr_view parts.new.items ≡ map expr_view parts.old.items ++ spec.match_part comparing (declaration_view input.now) (heads.some_compared (values.cases (declaration_view input.now)))) }
+{
+    if some_compared(cases) {
+        let next = matching(alloc, comparing, input, cases)?;
+        append(parts, next)?;
+    }
+    Ok(())
+}
+
+fn discriminants_part<'a>(
+    alloc: Global,
+    comparing: Comparing,
+    wanted: bool,
+) -> Result<Vec<Expr<'a>>, AllocError>
+    ensures { IfOk result (λ es. map expr_view es.items ≡ spec.with_discriminants comparing wanted []) }
+{
+    let mut parts = Vec::new(alloc);
+    if wanted {
+        let next = discriminants(alloc, comparing)?;
+        append(&mut parts, next)?;
+    }
+    Ok(parts)
+}
+
+fn parts<'a>(
+    alloc: Global,
+    comparing: Comparing,
+    input: &DeriveInput<'a>,
+    cases: &[CaseRef<'_, 'a>],
+) -> Result<Vec<Expr<'a>>, AllocError>
+    requires { IsCasesOf input.now cases.now }
+    ensures { IfOk result (λ es. map expr_view es.items ≡ spec.parts comparing (declaration_view input.now)) }
+{
+    let wanted = needs_discriminants(input, cases);
+    let mut made = discriminants_part(alloc, comparing, wanted)?;
+    match_part(alloc, comparing, input, cases, &mut made)?;
+    Ok(made)
+}
+
+/// `match *self {}`.
+fn no_match<'a>(alloc: Global) -> Result<Expr<'a>, AllocError>
+    ensures { IfOk result (λ e. expr_view e ≡ match_expr (deref (spec.name (codes "self"))) no_arms) }
+{
+    let this = boxed(alloc, word_name(alloc, "self")?)?;
+    let value = boxed(alloc, Expr::Deref(this))?;
+    Ok(Expr::Match(value, Seq::new(alloc)))
+}
+
+fn body_expr<'a>(
+    alloc: Global,
+    comparing: Comparing,
+    input: &DeriveInput<'a>,
+    cases: &[CaseRef<'_, 'a>],
+) -> Result<Expr<'a>, AllocError>
+    requires { IsCasesOf input.now cases.now }
+    ensures { IfOk result (λ e. expr_view e ≡ spec.body_expr comparing (declaration_view input.now)) }
+{
+    if cases.len() == 0 {
+        return no_match(alloc);
+    }
+    let all = parts(alloc, comparing, input, cases)?;
+    chain(alloc, comparing, all)
+}
+
+fn body<'a>(
+    alloc: Global,
+    comparing: Comparing,
+    input: &DeriveInput<'a>,
+    cases: &[CaseRef<'_, 'a>],
+) -> Result<Block<'a>, AllocError>
+    requires { IsCasesOf input.now cases.now }
+    ensures { IfOk result (λ b. block_view b ≡ spec.body comparing (declaration_view input.now)) }
+{
+    let e = boxed(alloc, body_expr(alloc, comparing, input, cases)?)?;
+    Ok(block_of(alloc, e))
+}
+
+fn method_name<'a>(comparing: Comparing) -> Ident<'a>
+    ensures { result ≡ heads.word (spec.method_name comparing) }
+{
+    match comparing {
+        Comparing::Equal => word("eq"),
+        Comparing::Unequal => word("ne"),
+    }
+}
+
+/// `#[inline] fn NAME(&self, __other: &Self) -> bool { .. }`.
+fn method<'a>(
+    alloc: Global,
+    comparing: Comparing,
+    input: &DeriveInput<'a>,
+    cases: &[CaseRef<'_, 'a>],
+) -> Result<Method<'a>, AllocError>
+    requires { IsCasesOf input.now cases.now }
+    ensures { IfOk result (λ m. method_view m ≡ spec.method comparing (declaration_view input.now)) }
+{
+    let body = body(alloc, comparing, input, cases)?;
+    Ok(Method {
+        attrs: one(alloc, ItemAttr::Inline)?,
+        is_const: false,
+        name: method_name(comparing),
+        receiver: Some(Receiver::Ref),
+        param: Some(other_param(alloc)?),
+        output: Some(word_type(alloc, "bool")?),
+        body,
+    })
+}
+
+/// `eq`, and `ne` where some variant is compared.
+fn methods<'a>(
+    alloc: Global,
+    input: &DeriveInput<'a>,
+    cases: &[CaseRef<'_, 'a>],
+) -> Result<Seq<Method<'a>>, AllocError>
+    requires { IsCasesOf input.now cases.now }
+    ensures { IfOk result (λ ms. map method_view ms ≡ spec.methods (declaration_view input.now)) }
+{
+    let equal = method(alloc, Comparing::Equal, input, cases)?;
+    if some_compared(cases) {
+        let unequal = method(alloc, Comparing::Unequal, input, cases)?;
+        return two(alloc, equal, unequal);
+    }
+    one(alloc, equal)
+}
+
+/// The implementation for a declaration without parameters.
+pub(crate) fn item<'a>(alloc: Global, input: &DeriveInput<'a>) -> Result<Item<'a>, AllocError>
+    ensures { IfOk result (λ i. item_view i ≡ spec.item (declaration_view input.now)) }
+{
+    let cases = cases_of(alloc, input)?;
+    let methods = methods(alloc, input, cases.as_slice())?;
+    Ok(Item {
+        attrs: two(
+            alloc,
+            ItemAttr::AllowPrivateBounds,
+            ItemAttr::AutomaticallyDerived,
+        )?,
+        params: Seq::new(alloc),
+        trait_path: Some(partial_eq_path(alloc)?),
+        ty: implementor(alloc, input)?,
+        predicates: Seq::new(alloc),
+        assocs: Seq::new(alloc),
+        methods,
+    })
 }

@@ -1,0 +1,68 @@
+//! The head of the implementation of `PartialEq`, and the types that it names.
+#![tactic(auto, using(crate::proofs::Builders::builder_steps))]
+
+ghost use Rattle.std.specs.Prelude.{◌≡◌, codes, IfOk};
+ghost use Rattle.dm_syntax.specs.Tree.{ty_view, path_view};
+ghost use Rattle.dm_syntax.specs.Declarations.{declaration_view};
+ghost use Rattle.dm_emit.specs.Output.{method_param_view};
+ghost use Rattle.dm_cmp_ops.specs.Heads as spec;
+
+use crate::names::{nowhere, path_of, path_of_one, word};
+use dm_emit::MethodParam;
+use dm_syntax::{DeriveInput, Path, Ty, TyNode};
+use dm_tokens::Ident;
+use std::alloc::{AllocError, Global};
+
+fn name_type(alloc: Global, ident: Ident<'_>) -> Result<Ty<'_>, AllocError>
+    ensures { IfOk result (λ t. ty_view t ≡ spec.name_type ident.entry) }
+{
+    Ok(Ty {
+        node: TyNode::Path(None, path_of_one(alloc, ident)?),
+        span: nowhere(),
+    })
+}
+
+/// The type of that name.
+pub(crate) fn word_type<'a>(alloc: Global, name: &'a str) -> Result<Ty<'a>, AllocError>
+    ensures { IfOk result (λ t. ty_view t ≡ spec.name_type (spec.word name.now)) }
+{
+    name_type(alloc, word(name))
+}
+
+/// `&Self`.
+fn ref_self<'a>(alloc: Global) -> Result<Ty<'a>, AllocError>
+    ensures { IfOk result (λ t. ty_view t ≡ spec.ref_self) }
+{
+    let this = Box::new(alloc, word_type(alloc, "Self")?)?;
+    Ok(Ty {
+        node: TyNode::Reference(None, false, this),
+        span: nowhere(),
+    })
+}
+
+/// `__other: &Self`.
+pub(crate) fn other_param<'a>(alloc: Global) -> Result<MethodParam<'a>, AllocError>
+    ensures { IfOk result (λ p. method_param_view p ≡ record { name = spec.word (codes "__other"); ty = spec.ref_self }) }
+{
+    Ok(MethodParam {
+        name: word("__other"),
+        ty: ref_self(alloc)?,
+    })
+}
+
+pub(crate) fn partial_eq_path<'a>(alloc: Global) -> Result<Path<'a>, AllocError>
+    ensures { IfOk result (λ p. path_view p ≡ spec.partial_eq_path) }
+{
+    path_of(alloc, &["derive_more", "core", "cmp", "PartialEq"])
+}
+
+/// The declared type.
+pub(crate) fn implementor<'a>(
+    alloc: Global,
+    input: &DeriveInput<'a>,
+) -> Result<Ty<'a>, AllocError>
+    ensures { IfOk result (λ t. ty_view t ≡ spec.implementor (declaration_view input.now)) }
+{
+    let ident = input.ident.clone_in(alloc)?;
+    name_type(alloc, ident)
+}
