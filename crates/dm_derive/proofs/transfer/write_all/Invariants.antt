@@ -1,0 +1,15 @@
+use Rattle.std.proofs.Common.{◌≤◌, ◌-◌, take, length}
+use Rattle.std.specs.Io.KnownBytes.{Appends}
+use Rattle.dm_derive.proofs.transfer.write_all.Given as goal
+
+abbrev pub decreases-turns : goal.decreases-turns
+decreases-turns g l = length l.text - l.at
+
+-- the text up to here is written, and the count hasn't fallen
+abbrev pub invariant-turns : goal.invariant-turns
+invariant-turns g l =
+    record {
+      within : l.at ≤ length l.text;
+      put : Appends (g.K.Sink.written l.fn.sink) (g.K.Sink.written l.sink) (take l.at l.text);
+      later : g.K.Sink.faults l.fn.sink ≤ g.K.Sink.faults l.sink;
+    }

@@ -1,0 +1,21 @@
+//! The derives from bytes to bytes: what the program reads and writes, and the calls over it.
+#![tactic(auto)]
+
+mod derive;
+mod input;
+mod line;
+mod memory;
+mod outside;
+mod top;
+mod transfer;
+
+pub use derive::{Expansion, derive_text};
+pub use input::split;
+pub use line::refusal_line;
+pub use memory::{MemSink, MemSource};
+pub use outside::{Failed, Sink, Source};
+pub use top::{Status, derive_main};
+pub use transfer::{LIMIT, ReadError, read_all, write_all};
+
+#[cfg(test)]
+mod tests;

@@ -1,0 +1,33 @@
+ghost use Rattle.std.specs.Prelude.{ℕ, List, Option, IfOk, ◌<◌, length};
+ghost use Rattle.std.specs.Io.{ReadsAtMost, WritesAtMost};
+ghost use Rattle.std.specs.Io.KnownBytes.{ReadConsumes, WriteAppends};
+ghost use Rattle.dm_derive.specs.Causes.{HasCause};
+
+/// The outside failed.
+#[derive(Clone, Copy, Debug, PartialEq, Eq)]
+pub struct Failed;
+
+pub trait Source {
+    /// The bytes still to come, where they are told.
+    ghost left: { Self → Option (List ℕ) };
+    /// How often it has failed.
+    ghost faults: { Self → ℕ };
+
+    fn read(&mut self, buf: &mut [u8]) -> Result<usize, Failed>
+        ensures bound { ReadsAtMost result buf.new }
+        ensures bytes { ReadConsumes (left self.old) (left self.new) result buf.new }
+        ensures cause { HasCause (faults self.old) (faults self.new) result };
+}
+
+pub trait Sink {
+    /// The bytes taken, where they are told.
+    ghost written: { Self → Option (List ℕ) };
+    /// How often it has failed.
+    ghost faults: { Self → ℕ };
+
+    fn write(&mut self, piece: &[u8]) -> Result<usize, Failed>
+        ensures bound { WritesAtMost result piece.now }
+        ensures bytes { WriteAppends (written self.old) (written self.new) result piece.now }
+        ensures some { IfOk result (λ n. 0 < length piece.now → 0 < n) }
+        ensures cause { HasCause (faults self.old) (faults self.new) result };
+}

@@ -1,0 +1,110 @@
+ghost use Rattle.std.specs.Prelude.{◌≡◌, ◌≢◌, ◌↔◌, ℕ, [], IfSome};
+ghost use Rattle.dm_derive.specs.Causes.{Rose};
+ghost use Rattle.dm_derive.specs.Runs.{exit_code, Responds, Ran, Means, IsSilent};
+
+use super::derive::derive_text;
+use super::input::split;
+use super::line::refusal_line;
+use super::outside::{Failed, Sink, Source};
+use super::transfer::{ReadError, read_all, write_all};
+use dm_tokens::{Error, Refusal};
+use std::alloc::Global;
+
+/// How a run ended.
+#[derive(Clone, Copy, Debug, PartialEq, Eq)]
+pub enum Status {
+    /// The implementations were written.
+    Done,
+    /// The derive refused the declaration, and the refusal's line was written.
+    Refused,
+    /// There were too many bytes, or no trait's name and declaration.
+    BadInput,
+    /// The source failed.
+    ReadFault,
+    /// The sink failed.
+    WriteFault,
+    /// There was no memory.
+    NoMemory,
+    /// The words are no words of this program.
+    Usage,
+}
+
+impl Status {
+    /// The exit code of a process that ends so.
+    pub fn code(self) -> u8
+        ensures { result ≡ exit_code self }
+    {
+        match self {
+            Status::Done => 0,
+            Status::Refused => 1,
+            Status::BadInput => 2,
+            Status::ReadFault => 3,
+            Status::WriteFault => 4,
+            Status::NoMemory => 5,
+            Status::Usage => 6,
+        }
+    }
+}
+
+/// Answers bytes that were read to the end, and writes the answer whole.
+fn respond<K: Sink>(alloc: Global, bytes: &[u8], sink: &mut K) -> Status
+    ensures responds { Responds bytes.now (K.written sink.old) (K.written sink.new) result }
+    ensures write { result ≡ Status.WriteFault → Rose (K.faults sink.old) (K.faults sink.new) }
+    ensures silent { IsSilent result → sink.new ≡ sink.old }
+{
+    let (name, declaration) = match split(bytes) {
+        Some(parts) => parts,
+        None => return Status::BadInput,
+    };
+    match derive_text(alloc, name, declaration) {
+        Ok(expansion) => match write_all(sink, expansion.text.as_str().as_bytes()) {
+            Ok(()) => Status::Done,
+            Err(Failed) => Status::WriteFault,
+        },
+        Err(Error::Refused(refusal)) => match refusal_line(alloc, &refusal) {
+            Ok(line) => match write_all(sink, line.as_bytes()) {
+                Ok(()) => Status::Refused,
+                Err(Failed) => Status::WriteFault,
+            },
+            Err(_) => Status::NoMemory,
+        },
+        Err(Error::NoMemory) => Status::NoMemory,
+    }
+}
+
+/// Reads all, answers, and writes the whole answer.
+fn run<S: Source, K: Sink>(alloc: Global, source: &mut S, sink: &mut K) -> Status
+    ensures ran { Ran (S.left source.old) (S.left source.new) (K.written sink.old) (K.written sink.new) result }
+    ensures read { result ≡ Status.ReadFault → Rose (S.faults source.old) (S.faults source.new) }
+    ensures write { result ≡ Status.WriteFault → Rose (K.faults sink.old) (K.faults sink.new) }
+    ensures silent { IsSilent result → sink.new ≡ sink.old }
+{
+    match read_all(alloc, source) {
+        Ok(bytes) => respond(alloc, bytes.as_slice(), sink),
+        Err(ReadError::NoMemory) => Status::NoMemory,
+        Err(ReadError::Fault) => Status::ReadFault,
+        Err(ReadError::TooMuch) => Status::BadInput,
+    }
+}
+
+/// Does all that the program does: without words it reads a trait's name and a declaration, and writes the
+/// implementations or the line of the refusal.
+pub fn derive_main<S: Source, K: Sink>(
+    alloc: Global,
+    words: &[String],
+    source: &mut S,
+    sink: &mut K,
+) -> Status
+    ensures usage { result ≡ Status.Usage ↔ words.now ≢ [] }
+    ensures idle { result ≡ Status.Usage → source.new ≡ source.old }
+    ensures silent { IsSilent result → sink.new ≡ sink.old }
+    ensures ran { words.now ≡ [] → Ran (S.left source.old) (S.left source.new) (K.written sink.old) (K.written sink.new) result }
+    ensures told { words.now ≡ [] → IfSome (S.left source.old) (λ bytes. Means bytes (K.written sink.old) (K.written sink.new) result) }
+    ensures read { result ≡ Status.ReadFault → Rose (S.faults source.old) (S.faults source.new) }
+    ensures write { result ≡ Status.WriteFault → Rose (K.faults sink.old) (K.faults sink.new) }
+{
+    match words {
+        [] => run(alloc, source, sink),
+        _ => Status::Usage,
+    }
+}
