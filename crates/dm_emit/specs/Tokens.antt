@@ -51,7 +51,7 @@ abbrev pub assigns : Trees
 assigns = punct 61
 
 abbrev pub enclosed : Delim → Trees → Trees
-enclosed d ts = syntax.grouped d emitted ts
+enclosed d ts = syntax.grouped d ts
 
 -- each with a comma behind it
 abbrev pub ended : List Trees → Trees
