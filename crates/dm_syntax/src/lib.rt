@@ -2,6 +2,7 @@
 #![tactic(auto)]
 
 mod decl;
+mod names;
 mod parse;
 mod plain;
 mod ty;
@@ -9,6 +10,7 @@ mod ty;
 pub use decl::{
     Data, DataEnum, DataStruct, DataUnion, DeriveInput, Field, Fields, Generics, Variant,
 };
+pub use names::check_names;
 pub use parse::parse_decl;
 pub use plain::{AttrArgs, Attribute, ConstArg, Opaque, PlainPath, Vis};
 pub use ty::{
