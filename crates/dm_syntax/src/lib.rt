@@ -8,7 +8,8 @@ mod plain;
 mod ty;
 
 pub use decl::{
-    Data, DataEnum, DataStruct, DataUnion, DeriveInput, Field, Fields, Generics, Variant,
+    ConstParam, Data, DataEnum, DataStruct, DataUnion, DeriveInput, Field, Fields, GenericParam,
+    Generics, LifetimeParam, TyParam, Variant, WherePredicate,
 };
 pub use names::check_names;
 pub use parse::parse_decl;
@@ -17,4 +18,6 @@ pub use ty::{
     BareFn, Bound, FnArg, GenericArgument, Path, PathArguments, PathSegment, QSelf, TraitBound, Ty,
     TyNode,
 };
-pub use decl::{ConstParam, GenericParam, LifetimeParam, TyParam, WherePredicate};
+
+#[cfg(test)]
+mod tests;
