@@ -25,7 +25,7 @@ pub named_type_view : (i : Ident) (ss : List PathSegment) → map segment_view s
 named_type_view i ss e =
     view-Ty (roll-Ty (record { node = n.Path None (roll-Path (record { leading_colon = false; segments = ss })); span = i.span })) ∙
     ap (λ x. type_tree x i.span) (view_TyNode-Path None (roll-Path (record { leading_colon = false; segments = ss })) ∙
-        ap (path no_self) (view_roll-Path false ss ∙ ap (λ x. path_tree false (segments_of x)) e))
+    ap (path no_self) (view_roll-Path false ss ∙ ap (λ x. path_tree false (segments_of x)) e))
 
 -- ---- the head
 

@@ -27,8 +27,14 @@ pub record HeadOf (h : Head) (ts : Trees) : Type 0 where
 end_gives : (ts : Trees) (s : Span) (i : Ident) (us inside vs rest : Trees) → ts ≡ token (t.Ident (word (codes "struct") s)) us → NameAt i us vs →
     (g : IsGroupAt vs inside rest) (others : Trees) → IsMarkAt 59 rest others → IfSome (if_end (record { word = s; ident = i; inside = inside }) others) (λ h. HeadOf h ts)
 end_gives ts s i us inside vs rest e n g no_trees m =
-    record { opener = g.opener; closer = g.closer; semicolon = m.mark; is_name = n.is_name; is_semicolon = m.is_mark;
-        spelled = e ∙ ap (token (t.Ident (word (codes "struct") s))) (n.spelled ∙ ap (token (t.Ident i)) (g.spelled ∙ ap (group Paren g.opener inside g.closer) m.spelled)) }
+    record {
+      opener = g.opener;
+      closer = g.closer;
+      semicolon = m.mark;
+      is_name = n.is_name;
+      is_semicolon = m.is_mark;
+      spelled = e ∙ ap (token (t.Ident (word (codes "struct") s))) (n.spelled ∙ ap (token (t.Ident i)) (g.spelled ∙ ap (group Paren g.opener inside g.closer) m.spelled));
+    }
 end_gives ts s i us inside vs rest e n g _ m = tt
 
 mark_end_gives : (ts : Trees) (s : Span) (i : Ident) (us inside vs rest : Trees) → ts ≡ token (t.Ident (word (codes "struct") s)) us → NameAt i us vs →
@@ -65,9 +71,23 @@ head_complete h ts k =
 fields_end_give : (ts : Trees) (h : Head) → HeadOf h ts → (o : Option (Listed FieldTree)) → IfSome o (λ fs. Slots fs h.inside) → IfSome (with_fields h o) (λ d. DeclarationOf d ts)
 fields_end_give ts h k None s = tt
 fields_end_give ts h k (Some fs) s =
-    record { no_attributes = refl; no_visibility = refl; not_generic = refl; is_shape =
-        record { opener = k.opener; inside = h.inside; closer = k.closer; semicolon = k.semicolon; is_name = k.is_name; are_fields = s.are_fields; some_field = s.some_field;
-            is_semicolon = k.is_semicolon; spelled = k.spelled } }
+    record {
+      no_attributes = refl;
+      no_visibility = refl;
+      not_generic = refl;
+      is_shape =
+          record {
+            opener = k.opener;
+            inside = h.inside;
+            closer = k.closer;
+            semicolon = k.semicolon;
+            is_name = k.is_name;
+            are_fields = s.are_fields;
+            some_field = s.some_field;
+            is_semicolon = k.is_semicolon;
+            spelled = k.spelled;
+          };
+    }
 
 head_end_gives : (ts : Trees) (o : Option Head) → IfSome o (λ h. HeadOf h ts) → IfSome (if_head o) (λ d. DeclarationOf d ts)
 head_end_gives ts None k = tt

@@ -5,3 +5,4 @@ pub mod Slots
 pub mod Declared
 pub mod Chain
 pub mod Whole
+pub mod Named

@@ -44,12 +44,16 @@ pub record IsSlotOf (f : FieldTree) (ts others : Trees) : Type 0 where
 pub slot_named : (f : FieldTree) (ts others : Trees) → SlotAt f ts others → IsSlotOf f ts others
 slot_named f ts others h =
     let n : IsNamed f.ty ts others = type_named f.ty ts others h.is_type in
-    record { name = n.name; here = n.here; is_it =
-        ap (λ x. record { attrs = x; vis = f.vis; ident = f.ident; ty = f.ty; span = f.span }) h.no_attributes ∙
-        ap (λ x. record { attrs = []; vis = x; ident = f.ident; ty = f.ty; span = f.span }) h.no_visibility ∙
-        ap (λ x. record { attrs = []; vis = None; ident = x; ty = f.ty; span = f.span }) h.no_name ∙
-        ap (λ x. record { attrs = []; vis = None; ident = None; ty = x; span = f.span }) n.is_it ∙
-        ap (λ x. record { attrs = []; vis = None; ident = None; ty = named_type n.name; span = x }) (h.is_range ∙ ap range_of n.is_it) }
+    record {
+      name = n.name;
+      here = n.here;
+      is_it =
+          ap (λ x. record { attrs = x; vis = f.vis; ident = f.ident; ty = f.ty; span = f.span }) h.no_attributes ∙
+          ap (λ x. record { attrs = []; vis = x; ident = f.ident; ty = f.ty; span = f.span }) h.no_visibility ∙
+          ap (λ x. record { attrs = []; vis = None; ident = x; ty = f.ty; span = f.span }) h.no_name ∙
+          ap (λ x. record { attrs = []; vis = None; ident = None; ty = x; span = f.span }) n.is_it ∙
+          ap (λ x. record { attrs = []; vis = None; ident = None; ty = named_type n.name; span = x }) (h.is_range ∙ ap range_of n.is_it);
+    }
 
 -- ---- what is read, step by step
 
@@ -149,14 +153,23 @@ one_more : (i : Ident) (p : Punct) (fs : List FieldTree) (trailing : Bool) (vs :
     ListOf SlotAt (slot_of i ∷ fs) trailing (token (t.Ident i) (token (t.Punct p) vs))
 one_more i p [] trailing vs n c some h = absurd (some refl)
 one_more i p (g ∷ fs) trailing vs n c some h =
-    record { others = token (t.Punct p) vs; first = slot_here i (token (t.Ident i) (token (t.Punct p) vs)) (token (t.Punct p) vs) (record { is_name = n; spelled = refl });
-        goes_on = record { comma = p; others = vs; is_comma = c; spelled = refl; goes_on = h } }
+    record {
+      others = token (t.Punct p) vs;
+      first = slot_here i (token (t.Ident i) (token (t.Punct p) vs)) (token (t.Punct p) vs) (record { is_name = n; spelled = refl });
+      goes_on = record { comma = p; others = vs; is_comma = c; spelled = refl; goes_on = h };
+    }
 
 behind_gives : (i : Ident) (p : Punct) (vs : Trees) → is_name i ≡ true → p.ch ≡ 44 → (o : Option (Listed FieldTree)) → IfSome o (λ fs. Slots fs vs) →
     IfSome (behind_comma i vs o) (λ fs. Slots fs (token (t.Ident i) (token (t.Punct p) vs)))
 behind_gives i p no_trees n c o h =
-    record { are_fields = record { others = token (t.Punct p) no_trees; first = slot_here i (token (t.Ident i) (token (t.Punct p) no_trees)) (token (t.Punct p) no_trees) (record { is_name = n; spelled = refl });
-        goes_on = record { comma = p; others = no_trees; is_comma = c; spelled = refl; goes_on = refl } }; some_field = cons_not_nil (slot_of i) [] }
+    record {
+      are_fields = record {
+        others = token (t.Punct p) no_trees;
+        first = slot_here i (token (t.Ident i) (token (t.Punct p) no_trees)) (token (t.Punct p) no_trees) (record { is_name = n; spelled = refl });
+        goes_on = record { comma = p; others = no_trees; is_comma = c; spelled = refl; goes_on = refl };
+      };
+      some_field = cons_not_nil (slot_of i) [];
+    }
 behind_gives i p (token k vs) n c None h = tt
 behind_gives i p (token k vs) n c (Some fs) h =
     record { are_fields = one_more i p fs.items fs.trailing (token k vs) n c h.some_field h.are_fields; some_field = cons_not_nil (slot_of i) fs.items }
@@ -168,8 +181,10 @@ pub slots_give : (ts : Trees) → IfSome (read_slots ts) (λ fs. Slots fs ts)
 unfolding read_slots
 slots_give (token (t.Ident i) no_trees) =
     cond_both (is_name i) (Some (alone i false)) None (λ o. IfSome o (λ fs. Slots fs (token (t.Ident i) no_trees)))
-    (λ n. record { are_fields = record { others = no_trees; first = slot_here i (token (t.Ident i) no_trees) no_trees (record { is_name = n; spelled = refl }); goes_on = refl };
-        some_field = cons_not_nil (slot_of i) [] })
+    (λ n. record {
+      are_fields = record { others = no_trees; first = slot_here i (token (t.Ident i) no_trees) no_trees (record { is_name = n; spelled = refl }); goes_on = refl };
+      some_field = cons_not_nil (slot_of i) [];
+    })
     (λ _. tt)
 slots_give (token (t.Ident i) (token (t.Punct p) rest)) =
     cond_both (is_name i && (p.ch == 44)) (behind_comma i rest (read_slots rest)) None (λ o. IfSome o (λ fs. Slots fs (token (t.Ident i) (token (t.Punct p) rest))))

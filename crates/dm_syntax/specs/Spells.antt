@@ -1,7 +1,7 @@
 -- Which trees a declaration is spelled by: one case for each row of its grammar. A row that isn't read yet has no trees.
-use Rattle.std.specs.Prelude.{◌≡◌, ◌≢◌, ℕ, Bool, true, false, not, ◌&&◌, ◌||◌, IsTrue, List, [], ◌∷◌, codes, Option, Some, None, All, nat_eq}
+use Rattle.std.specs.Prelude.{◌≡◌, ◌≢◌, ℕ, Bool, true, false, not, ◌&&◌, ◌||◌, IsTrue, List, [], ◌∷◌, codes, Option, Some, None, nat_eq}
 use Rattle.std.specs.Str.{bytes_eq}
-use Rattle.std.specs.List.{list_any, starts_with}
+use Rattle.std.specs.List.{list_any, list_all, starts_with}
 use Rattle.dm_tokens.specs.declared.tokens.Span.{Span}
 use Rattle.dm_tokens.specs.declared.tokens.Ident.{Ident}
 use Rattle.dm_tokens.specs.declared.tokens.Punct.{Punct}
@@ -179,13 +179,19 @@ IsRefused (error.Refused r) s = IsNotYet r s
 -- ---- names that are kept for what is emitted
 
 -- whether a name begins with `__`
-abbrev pub IsReserved : Ident → Type 0
-IsReserved i = IsTrue (starts_with nat_eq i.name (codes "__"))
+abbrev pub is_reserved : Ident → Bool
+is_reserved i = starts_with nat_eq i.name (codes "__")
 
 -- the names that a declaration declares: its own
 abbrev pub declared_names : Declaration → List Ident
 declared_names d = d.ident ∷ []
 
 pub record Named (d : Declaration) : Type 0 where
-  pub none_is_reserved : All (λ i. ¬ IsReserved i) (declared_names d)
+  pub none_is_reserved : IsTrue (list_all (λ i. not (is_reserved i)) (declared_names d))
   pub not_derive_more : d.ident.name ≢ codes "derive_more"
+
+-- the refusal of a declaration's own name
+pub record IsMisnamed (r : Refusal) (d : Declaration) : Type 0 where
+  pub is_kind : r.kind ≡ kind.NotYet
+  pub at_name : r.span ≡ d.ident.span
+  pub not_named : ¬ Named d

@@ -14,6 +14,6 @@ returns-in_default-2 c =
 pub returns : goal.returns
 returns c =
     let read : Some (listed field_view c.in-Some-2.fields) ≡ read_slots (left c.in-Some.head.inside) =
-        sym (ap (option_map (listed field_view)) c.in-Some-2.is) ∙ c.in_ok-fields.ensures in
+    sym (ap (option_map (listed field_view)) c.in-Some-2.is) ∙ c.in_ok-fields.ensures in
     declaration_read (left c.args.cursor) c.in-Some.head.word c.in-Some.head.ident.now c.in_ok-clone_in.field-0 (left c.in-Some.head.inside) c.in-Some-2.fields c.no_generics.result c.new.result
     c.in-Some.ensures.gives read c.new.ensures c.in_ok-clone_in.ensures c.no_generics.ensures

@@ -15,6 +15,9 @@ returns-then-eof-2 c =
 pub loop-ident-preserved : goal.loop-ident-preserved
 loop-ident-preserved c =
     let more : left c.in-Some-mark.next ≢ no_trees = λ e. both_ways c.eof-in-Some.result c.if-eof-2.false (c.eof-in-Some.ensures.1 e) in
-    record { is_sound = c.in-Some-mark.ensures.place.is_sound; so_far =
-        loop_next c.loop-ident.items c.put.new.all c.in_ok-field.field c.in-Some.ident.now (left c.loop-ident.rest) (left c.in-Some.others) (left c.args.inside) (left c.in-Some-mark.next)
-        c.loop-ident.invariant.so_far c.in_ok-put.ensures c.in_ok-field.ensures c.in-Some.ensures.gives c.in-Some-mark.ensures.gives more }
+    record {
+      is_sound = c.in-Some-mark.ensures.place.is_sound;
+      so_far =
+          loop_next c.loop-ident.items c.put.new.all c.in_ok-field.field c.in-Some.ident.now (left c.loop-ident.rest) (left c.in-Some.others) (left c.args.inside) (left c.in-Some-mark.next)
+          c.loop-ident.invariant.so_far c.in_ok-put.ensures c.in_ok-field.ensures c.in-Some.ensures.gives c.in-Some-mark.ensures.gives more;
+    }
