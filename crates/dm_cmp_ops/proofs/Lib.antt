@@ -5,3 +5,4 @@ pub mod ArmLaws
 pub mod PartialEqLaws
 mod Builders
 mod SkipSteps
+mod Expansions

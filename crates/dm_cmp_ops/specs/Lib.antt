@@ -5,3 +5,4 @@ pub mod Heads
 pub mod Emitted
 pub mod Named
 pub mod CaseViews
+pub mod Expanded

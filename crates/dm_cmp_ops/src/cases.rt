@@ -1,11 +1,12 @@
 //! The variants of a declaration, in one form for structs, enums and unions.
 
-ghost use Rattle.std.specs.Prelude.{◌≡◌, [], ◌∷◌, map, IfOk};
+ghost use Rattle.std.specs.Prelude.{◌≡◌, [], ◌∷◌, map, length, IfOk};
 ghost use Rattle.dm_syntax.specs.Declarations.{declaration_view, variant_view, fields_view, field_view};
 ghost use Rattle.dm_emit.specs.Values as values;
 ghost use Rattle.dm_cmp_ops.specs.Heads as heads;
 ghost use Rattle.dm_cmp_ops.specs.Emitted as spec;
 ghost use Rattle.dm_cmp_ops.specs.CaseViews.{case_view, fields_ref_view};
+ghost use Rattle.dm_cmp_ops.specs.Named.{AreSmall};
 
 use crate::skips::is_skipped;
 use dm_syntax::{Attribute, Data, DeriveInput, Field, Fields, Variant};
@@ -171,4 +172,23 @@ pub(crate) fn some_skipped_case(cases: &[CaseRef<'_, '_>]) -> bool
         }
     }
     false
+}
+
+fn field_count(case: &CaseRef<'_, '_>) -> usize
+    ensures { result ≡ length (values.field_list (case_view case.now).fields) }
+{
+    match case.fields {
+        FieldsRef::Named(all) => all.items.len(),
+        FieldsRef::Unnamed(all) => all.items.len(),
+        FieldsRef::Unit => 0,
+    }
+}
+
+/// The fields of each variant can be counted in 64 bits.
+pub(crate) fn count_fields(cases: &[CaseRef<'_, '_>])
+    ensures { AreSmall (map case_view cases.now) }
+{
+    for case in cases {
+        let _count = field_count(case);
+    }
 }

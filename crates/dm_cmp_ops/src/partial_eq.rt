@@ -1,21 +1,23 @@
 //! `PartialEq`.
 #![tactic(auto, using(crate::proofs::Builders::builder_steps))]
 
-ghost use Rattle.std.specs.Prelude.{◌≡◌, ◌∷◌, [], map, ◌++◌, codes, IfOk, OnOk};
+ghost use Rattle.std.specs.Prelude.{◌≡◌, ◌∷◌, [], map, ◌++◌, codes, IfOk, MatchResult, OnOk};
+ghost use Rattle.dm_tokens.specs.declared.error.Error.TheVariants.{NoMemory};
 ghost use Rattle.dm_syntax.specs.Declarations.{declaration_view};
 ghost use Rattle.dm_emit.specs.Output.{expr_view, block_view, method_view, item_view, match_expr, deref, no_arms};
 ghost use Rattle.dm_emit.specs.Values as values;
 ghost use Rattle.dm_cmp_ops.specs.Heads as heads;
 ghost use Rattle.dm_cmp_ops.specs.Emitted as spec;
 ghost use Rattle.dm_cmp_ops.specs.CaseViews.{case_view, IsCasesOf};
+ghost use Rattle.dm_cmp_ops.specs.Expanded.{IsExpanded, IsSpelled};
 
-use crate::cases::{CaseRef, cases_of, is_enum, some_compared, some_skipped_case};
+use crate::cases::{CaseRef, cases_of, count_fields, is_enum, some_compared, some_skipped_case};
 use crate::comparing::{arms, block_of, chain, test_of};
 use crate::heads::{implementor, other_param, partial_eq_path, word_type};
 use crate::names::{append, boxed, name, one, path_of, two, word};
-use dm_emit::{Block, Expr, Item, ItemAttr, Method, PathExpr, Receiver};
+use dm_emit::{Block, Expansion, Expr, Item, ItemAttr, Method, PathExpr, Receiver, with_text};
 use dm_syntax::DeriveInput;
-use dm_tokens::{Ident, Seq};
+use dm_tokens::{Error, Ident, Seq};
 use std::alloc::{AllocError, Global};
 
 /// Which of the two methods is made.
@@ -230,4 +232,22 @@ pub(crate) fn item<'a>(alloc: Global, input: &DeriveInput<'a>) -> Result<Item<'a
         assocs: Seq::new(alloc),
         methods,
     })
+}
+
+/// The implementation of `PartialEq`: `eq`, and `ne` where some variant is compared, each field by field, with their text.
+///
+/// The declaration is one that the reader gives: a struct whose fields stand between parentheses, without parameters.
+/// Nothing is refused but for want of memory. The trait's name isn't looked at.
+pub fn expand<'a>(
+    alloc: Global,
+    input: &DeriveInput<'a>,
+    _trait_name: &str,
+) -> Result<Expansion<'a>, Error>
+    requires { IsSpelled (declaration_view input.now) }
+    ensures { MatchResult result (λ x. IsExpanded (declaration_view input.now) (map item_view x.items) x.text) (λ e. e ≡ NoMemory) }
+{
+    let cases = cases_of(alloc, input)?;
+    count_fields(cases.as_slice());
+    let items = one(alloc, item(alloc, input)?)?;
+    Ok(with_text(alloc, items)?)
 }

@@ -9,7 +9,7 @@ mod outside;
 mod top;
 mod transfer;
 
-pub use derive::{Expansion, derive_text};
+pub use derive::derive_text;
 pub use input::split;
 pub use line::refusal_line;
 pub use memory::{MemSink, MemSource};

@@ -91,6 +91,12 @@ pub nest_all-complete : (found : Option (List Lexeme)) (ts : Trees) → found �
 nest_all-complete found ts h =
     ap (nest_all [] no_trees) h ∙ ap (nest [] no_trees) (sym (append-nil (marks ts))) ∙ nest-marks ts [] no_trees []
 
+-- a text has one list of trees at most
+pub trees-only : (found : Option (List Lexeme)) (ts us : Trees) → found ≡ Some (marks ts) → found ≡ Some (marks us) → us ≡ ts
+trees-only found ts us h k =
+    let e : Some us ≡ Some ts = sym (nest_all-complete found us k) ∙ nest_all-complete found ts h in
+    cc
+
 -- the entries
 
 so_far-join : (ls : List Level) (here more : Trees) → so_far ls (join here more) ≡ so_far ls here ++ flatten more

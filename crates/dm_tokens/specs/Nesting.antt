@@ -27,6 +27,10 @@ marks (group d from inside upto rest) = lexeme.Open d from ∷ (marks inside ++ 
 abbrev pub IsTreesOf : List ℕ → Trees → Type 0
 IsTreesOf text ts = lexemes 0 0 (chars text) ≡ Some (marks ts)
 
+-- no other trees are those of the text
+abbrev pub AreTheOnly : List ℕ → Trees → Type 0
+AreTheOnly text ts = (us : Trees) → IsTreesOf text us → us ≡ ts
+
 abbrev pub not_yet : List ℕ → Refusal
 not_yet text = record { kind = NotYet; span = record { start = 0; «end» = length text } }
 

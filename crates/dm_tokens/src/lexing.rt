@@ -1,7 +1,7 @@
 ghost use Rattle.std.specs.Prelude.{◌≡◌, ◌++◌, ◌∷◌, [], ◌<◌, ◌≤◌, ◌+◌, ◌^◌, ℕ, List, true, false, length, take, drop, MatchOption, IfSome, IfOk, IfErr, encode_utf8};
 ghost use Rattle.std.specs.Str.{chars, IsCharBoundary};
 ghost use Rattle.dm_tokens.specs.Lexemes.{blank, is_space, starts_word, goes_on, run, begins_raw, is_punct, spacing_before, opened_by, closed_by, byte_at, row, IsFront, IsLexeme};
-ghost use Rattle.dm_tokens.specs.Nesting.{IsTreesOf, IsRefusalOf, IsNested, IsStep, not_yet};
+ghost use Rattle.dm_tokens.specs.Nesting.{AreTheOnly, IsTreesOf, IsRefusalOf, IsNested, IsStep, not_yet};
 ghost use Rattle.dm_tokens.specs.declared.error.Error.TheVariants as error;
 
 use super::error::{Error, Kind, Refusal};
@@ -248,6 +248,7 @@ fn refusal(text: &str) -> Error
 /// digits and `_`, the delimiters, and the puncts `:`, `,`, `;` and `#`, as the Rust Reference has them.
 pub fn lex<'a>(alloc: Global, text: &'a str) -> Result<TokenStream<'a>, Error>
     ensures trees { IfOk result (λ s. IsTreesOf text.now s.trees) }
+    ensures only { IfOk result (λ s. AreTheOnly text.now s.trees) }
     ensures limit { IfOk result (λ s. s.limit ≡ length text.now) }
     ensures refused { IfErr result (λ e. IsRefusalOf text.now e) }
 {

@@ -1,6 +1,7 @@
 use Rattle.std.proofs.Common.{◌≡◌, ◌≤◌, ◌<◌, length, arith}
 use Rattle.std.proofs.lemmas.Grind.{common_steps}
 use Rattle.std.proofs.lemmas.Str.{IsCharBoundary-from_drop}
+use Rattle.dm_tokens.proofs.Nestings.{trees-only}
 use Rattle.dm_tokens.proofs.LexSteps.{lex-step, lex-refused, lex-unclosed, lex-flat, lex-trees}
 use Rattle.dm_tokens.proofs.lexing.lex.Goals as goal
 
@@ -28,3 +29,8 @@ pub returns-clause-trees : goal.returns-clause-trees
 returns-clause-trees c =
     let none : length c.loop-at.nesting.opened.items ≡ 0 = grind (arith, common_steps) in
     lex-trees _ _ _ _ c.loop-at.invariant c.loop-at-test.false none c.from_entries.ensures.trees
+
+pub returns-clause-only : goal.returns-clause-only
+returns-clause-only c =
+    let none : length c.loop-at.nesting.opened.items ≡ 0 = grind (arith, common_steps) in
+    λ us k. trees-only _ _ us (lex-trees _ _ _ _ c.loop-at.invariant c.loop-at-test.false none c.from_entries.ensures.trees) k

@@ -1,0 +1,68 @@
+-- What the steps of a derive say of the text.
+use Rattle.std.proofs.Common.{◌≡◌, ℕ, List, map, length, Result, Ok, Err, ◌⊎◌, inl, inr, refl, sym, ap, subst, codes}
+use Rattle.std.specs.Prelude.{MatchResult, IfOk, IfErr}
+use Rattle.dm_tokens.specs.declared.tokens.Span.{Span}
+use Rattle.dm_tokens.specs.declared.error.Kind.{Kind}
+use Rattle.dm_tokens.specs.declared.error.Kind.TheVariants as kind
+use Rattle.dm_tokens.specs.declared.error.Refusal.{Refusal}
+use Rattle.dm_tokens.specs.declared.error.Error.{Error}
+use Rattle.dm_tokens.specs.declared.error.Error.TheVariants.{NoMemory, Refused}
+use Rattle.dm_tokens.specs.Trees.{Trees, Stream}
+use Rattle.dm_tokens.specs.Nesting.{IsTreesOf, AreTheOnly, IsRefusalOf, not_yet}
+use Rattle.dm_syntax.specs.declared.decl.DeriveInput.{DeriveInput}
+use Rattle.dm_syntax.specs.Declarations.{Declaration, declaration_view}
+use Rattle.dm_syntax.specs.Spells.{DeclarationOf, IsTheDeclaration, IsRefused, IsNotYet, Named}
+use Rattle.dm_emit.specs.declared.print.Expansion.{Expansion}
+use Rattle.dm_emit.specs.Output.{item_view}
+use Rattle.dm_cmp_ops.specs.Expanded.{IsExpanded, IsSpelled}
+use Rattle.dm_derive.specs.Derived.{IsKnown, Grammar, IsRead, IsUnread, Reads, Derives, Refuses, IsUnknown, IsNotRead}
+
+-- a refusal from its parts
+refusal-of : (r : Refusal) (k : Kind) (s : Span) → r.kind ≡ k → r.span ≡ s → r ≡ record { kind = k; span = s }
+refusal-of r k s a b = cc
+
+module _ (text : List ℕ) (stream : Stream) (are : IsTreesOf text stream.trees) (only : AreTheOnly text stream.trees) where
+  -- a declaration with the grammar of the text is spelled by the trees that were lexed
+  of-stream : (d : Declaration) → Grammar text d → DeclarationOf d stream.trees
+  of-stream d g = subst (DeclarationOf d) (only g.trees g.are_trees) g.spelled
+
+  pub is-read : (d : Declaration) → IsTheDeclaration d stream.trees → IsRead text d
+  is-read d h = record {
+    grammar = record { trees = stream.trees; are_trees = are; spelled = h.spelled };
+    only = λ e g. h.only e (of-stream e g);
+  }
+
+  pub not-spelled : stream.limit ≡ length text → (e : Error) → IsRefused e stream → Reads text (Err e)
+  not-spelled l NoMemory h = tt
+  not-spelled l (Refused r) h = (
+    λ d g named. h.none d (of-stream d g),
+    subst (λ n. r ≡ record { kind = kind.NotYet; span = record { start = 0; «end» = n } }) l (refusal-of r _ _ h.is_kind h.is_whole)
+  )
+
+  pub not-named : (d : Declaration) → IsTheDeclaration d stream.trees → ¬ (Named d) → IsUnread text
+  not-named d h bad = λ e g named. bad (subst Named (h.only e (of-stream e g)) named)
+
+pub not-lexed : (text : List ℕ) (e : Error) → IsRefusalOf text e → Reads text (Err e)
+not-lexed text NoMemory h = tt
+not-lexed text (Refused r) h = (λ d g named. h.1 g.trees g.are_trees, h.0)
+
+pub not-derived : (name text : List ℕ) (e : Error) → IsKnown name → Reads text (Err e) → Derives name text (Err e)
+unfolding Refuses
+not-derived name text NoMemory known h = tt
+not-derived name text (Refused r) known h = inr (record { known = known; unread = h.0; is = h.1 })
+
+pub not-known : (name text : List ℕ) (r : Refusal) → (IsKnown name → ⊥) → r ≡ record { kind = kind.UnknownTrait; span = record { start = 0; «end» = 0 } } → Refuses name text r
+unfolding Refuses
+not-known name text r un is = inl (record { unknown = un; is = is })
+
+-- what was read can be expanded
+pub can-expand : (text : List ℕ) (d : DeriveInput) → Reads text (Ok d) → IsSpelled (declaration_view d)
+can-expand text d h = record { trees = h.0.grammar.trees; spelled = h.0.grammar.spelled }
+
+pub derived : (name text : List ℕ) (d : DeriveInput) (r : Result Expansion Error) → IsKnown name → Reads text (Ok d) →
+    MatchResult r (λ x. IsExpanded (declaration_view d) (map item_view x.items) x.text) (λ e. e ≡ NoMemory) → Derives name text r
+derived name text d (Ok x) known h m = record { is_known = known; declaration = declaration_view d; is_read = h.0; named = h.1; expanded = m }
+derived name text d (Err NoMemory) known h m = tt
+derived name text d (Err (Refused r)) known h m = absurd cc
+
+pub ruleset derive_steps = (not-lexed, not-derived, not-known, can-expand, derived)
