@@ -45,9 +45,9 @@ pub record IsRefused (bytes line : List ℕ) : Type 0 where
   pub refused : Refuses name declaration refusal
   pub told : line ≡ line_of refusal
 
--- a prefix of the text was written
+-- a prefix of the text was written, and not all of it
 abbrev pub AppendsPrefix : Option (List ℕ) → Option (List ℕ) → List ℕ → Type 0
-AppendsPrefix before now text = (n : ℕ) × Appends before now (take n text)
+AppendsPrefix before now text = (n : ℕ) × (n < length text) × Appends before now (take n text)
 
 -- What is written for bytes that were read to the end.
 abbrev pub Responds : List ℕ → Option (List ℕ) → Option (List ℕ) → Status → Type 0
@@ -79,6 +79,21 @@ Means bytes before now ReadFault = Keeps before now
 Means bytes before now WriteFault = (length bytes ≤ 1048576) × Responds bytes before now WriteFault
 Means bytes before now NoMemory = Keeps before now
 Means bytes before now Usage = ⊥
+
+-- the bytes name a trait and a declaration, and the derive refuses nothing of it
+pub record IsAccepted (bytes : List ℕ) : Type 0 where
+  pub few : length bytes ≤ 1048576
+  pub name : List ℕ
+  pub declaration : List ℕ
+  pub split : IsSplit bytes name declaration
+  pub accepted : (r : Refusal) → ¬ (Refuses name declaration r)
+
+-- the runs that are done, or lack memory or the outside
+abbrev pub IsFaultless : Status → Type 0
+IsFaultless Refused = ⊥
+IsFaultless BadInput = ⊥
+IsFaultless Usage = ⊥
+IsFaultless _ = Unit {0}
 
 -- the runs that write nothing
 abbrev pub IsSilent : Status → Type 0

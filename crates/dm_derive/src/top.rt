@@ -1,6 +1,6 @@
 ghost use Rattle.std.specs.Prelude.{◌≡◌, ◌≢◌, ◌↔◌, ℕ, [], IfSome};
 ghost use Rattle.dm_derive.specs.Causes.{Rose};
-ghost use Rattle.dm_derive.specs.Runs.{exit_code, Responds, Ran, Means, IsSilent};
+ghost use Rattle.dm_derive.specs.Runs.{exit_code, Responds, Ran, Means, IsAccepted, IsFaultless, IsSilent};
 
 use super::derive::derive_text;
 use super::input::split;
@@ -100,6 +100,7 @@ pub fn derive_main<S: Source, K: Sink>(
     ensures silent { IsSilent result → sink.new ≡ sink.old }
     ensures ran { words.now ≡ [] → Ran (S.left source.old) (S.left source.new) (K.written sink.old) (K.written sink.new) result }
     ensures told { words.now ≡ [] → IfSome (S.left source.old) (λ bytes. Means bytes (K.written sink.old) (K.written sink.new) result) }
+    ensures complete { words.now ≡ [] → IfSome (S.left source.old) (λ bytes. IsAccepted bytes → IsFaultless result) }
     ensures read { result ≡ Status.ReadFault → Rose (S.faults source.old) (S.faults source.new) }
     ensures write { result ≡ Status.WriteFault → Rose (K.faults sink.old) (K.faults sink.new) }
 {

@@ -1,7 +1,7 @@
-ghost use Rattle.std.specs.Prelude.{◌≡◌, ◌≤◌, ◌<◌, ℕ, List, length, take, IfOk, OnOk, OnErr, IsErrOf};
+ghost use Rattle.std.specs.Prelude.{◌≡◌, ◌≤◌, ◌<◌, ℕ, List, length, IfOk, OnOk, OnErr, IsErrOf};
 ghost use Rattle.std.specs.Io.KnownBytes.{Appends};
 ghost use Rattle.dm_derive.specs.Causes.{Rose};
-ghost use Rattle.dm_derive.specs.Runs.{WasRead, IsTooMuch};
+ghost use Rattle.dm_derive.specs.Runs.{WasRead, IsTooMuch, AppendsPrefix};
 
 use super::outside::{Failed, Sink, Source};
 use std::alloc::Global;
@@ -64,7 +64,7 @@ pub fn read_all<S: Source>(alloc: Global, source: &mut S) -> Result<Vec<u8>, Rea
 /// Writes the whole text; each write offers all that is left.
 pub fn write_all<K: Sink>(sink: &mut K, text: &[u8]) -> Result<(), Failed>
     ensures ok { OnOk result (Appends (K.written sink.old) (K.written sink.new) text.now) }
-    ensures front { OnErr result ((n : ℕ) × Appends (K.written sink.old) (K.written sink.new) (take n text.now)) }
+    ensures front { OnErr result (AppendsPrefix (K.written sink.old) (K.written sink.new) text.now) }
     ensures fault { OnErr result (Rose (K.faults sink.old) (K.faults sink.new)) }
     ensures later { K.faults sink.old ≤ K.faults sink.new }
 {
