@@ -15,7 +15,7 @@ use Rattle.dm_syntax.specs.Spells.{DeclarationOf, IsTheDeclaration, IsRefused, I
 use Rattle.dm_emit.specs.declared.print.Expansion.{Expansion}
 use Rattle.dm_emit.specs.Output.{item_view}
 use Rattle.dm_cmp_ops.specs.Expanded.{IsExpanded, IsSpelled}
-use Rattle.dm_derive.specs.Derived.{IsKnown, Grammar, IsRead, IsUnread, Reads, Derives, Refuses, IsUnknown, IsNotRead}
+use Rattle.dm_derive.specs.Derived.{Answers, IsKnown, Grammar, IsRead, IsUnread, Reads, Derives, Refuses, IsUnknown, IsNotRead}
 
 -- a refusal from its parts
 refusal-of : (r : Refusal) (k : Kind) (s : Span) → r.kind ≡ k → r.span ≡ s → r ≡ record { kind = k; span = s }
@@ -65,4 +65,11 @@ derived name text d (Ok x) known h m = record { is_known = known; declaration = 
 derived name text d (Err NoMemory) known h m = tt
 derived name text d (Err (Refused r)) known h m = absurd cc
 
-pub ruleset derive_steps = (not-lexed, not-derived, not-known, can-expand, derived)
+pub answered : (name text : List ℕ) (d : DeriveInput) (r : Result Expansion Error) → IsKnown name → Reads text (Ok d) →
+    MatchResult r (λ x. IsExpanded (declaration_view d) (map item_view x.items) x.text) (λ e. e ≡ NoMemory) →
+    IfOk r (λ x. Answers name text x.text)
+unfolding Answers
+answered name text d (Ok x) known h m = (map item_view x.items, record { is_known = known; declaration = declaration_view d; is_read = h.0; named = h.1; expanded = m })
+answered name text d (Err e) known h m = tt
+
+pub ruleset derive_steps = (not-lexed, not-derived, not-known, can-expand, derived, answered)

@@ -1,11 +1,11 @@
 //! From a trait's name and the text of a declaration to implementations.
 #![tactic(auto, using(crate::proofs::Deriving::derive_steps))]
 
-ghost use Rattle.std.specs.Prelude.{◌≡◌};
+ghost use Rattle.std.specs.Prelude.{◌≡◌, IfOk};
 ghost use Rattle.dm_tokens.specs.declared.error.Error.TheVariants as error;
 ghost use Rattle.dm_tokens.specs.declared.error.Kind.TheVariants as kind;
 ghost use Rattle.dm_tokens.specs.Nesting.{not_yet};
-ghost use Rattle.dm_derive.specs.Derived.{Derives, Reads};
+ghost use Rattle.dm_derive.specs.Derived.{Answers, Derives, Reads};
 
 use dm_cmp_ops::partial_eq;
 use dm_emit::Expansion;
@@ -23,7 +23,8 @@ pub fn derive_text<'a>(
     trait_name: &str,
     decl: &'a str,
 ) -> Result<Expansion<'a>, Error>
-    ensures { Derives trait_name.now decl.now result }
+    ensures derives { Derives trait_name.now decl.now result }
+    ensures answers { IfOk result (λ x. Answers trait_name.now decl.now x.text) }
 {
     if trait_name != "PartialEq" {
         return Err(unknown_trait());

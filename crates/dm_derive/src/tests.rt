@@ -4,6 +4,12 @@ use std::process::Abort;
 
 const INPUT: &[u8] = b"PartialEq\nstruct P(i32);";
 
+/// The implementation for `struct P(i32);`.
+const ONE_FIELD: &[u8] = b"# [allow (private_bounds)] # [automatically_derived] impl derive_more :: core :: cmp :: PartialEq for P { # [inline] fn eq (& self , __other : & Self) -> bool { match (self , __other) { (Self (__self_0 ,) , Self (__other_0 ,)) => { __self_0 == __other_0 } , } } # [inline] fn ne (& self , __other : & Self) -> bool { match (self , __other) { (Self (__self_0 ,) , Self (__other_0 ,)) => { __self_0 != __other_0 } , } } }\n";
+
+/// The implementation for `struct P(A, B);`.
+const TWO_FIELDS: &[u8] = b"# [allow (private_bounds)] # [automatically_derived] impl derive_more :: core :: cmp :: PartialEq for P { # [inline] fn eq (& self , __other : & Self) -> bool { match (self , __other) { (Self (__self_0 , __self_1 ,) , Self (__other_0 , __other_1 ,)) => { __self_0 == __other_0 && __self_1 == __other_1 } , } } # [inline] fn ne (& self , __other : & Self) -> bool { match (self , __other) { (Self (__self_0 , __self_1 ,) , Self (__other_0 , __other_1 ,)) => { __self_0 != __other_0 || __self_1 != __other_1 } , } } }\n";
+
 /// A source and a sink, and how they fail.
 #[derive(Clone, Copy)]
 struct Outside<'a> {
@@ -37,15 +43,48 @@ fn run(
 }
 
 #[test]
-fn answers(rt: HostRuntime) -> Result<(), AllocError> {
+fn implementations(rt: HostRuntime) -> Result<(), AllocError> {
     let alloc = rt.alloc();
-    let (status, sink) = run(alloc, &[], sound(INPUT))?;
-    assert!(rt; status == Status::Done && sink.written() == b"struct P(i32);".as_slice());
-    let (status, sink) = run(alloc, &[], sound(b"Nothing\r\nstruct P(i32);"))?;
-    let line = b"UnknownTrait 0..0: no derive of this name\n";
-    assert!(rt; status == Status::Refused && sink.written() == line.as_slice());
-    let (status, sink) = run(alloc, &[], sound(b"PartialEq"))?;
-    assert!(rt; status == Status::BadInput && sink.written() == b"".as_slice());
+    for (input, text) in [
+        (INPUT, ONE_FIELD),
+        (b"PartialEq\r\nstruct P(i32);".as_slice(), ONE_FIELD),
+        (b"PartialEq\nstruct P(i32,);\n".as_slice(), ONE_FIELD),
+        (b"PartialEq\nstruct P(A, B);".as_slice(), TWO_FIELDS),
+        (b"PartialEq\n\tstruct\r\nP ( A,B , );".as_slice(), TWO_FIELDS),
+    ] {
+        let (status, sink) = run(alloc, &[], sound(input))?;
+        assert!(rt; status == Status::Done && sink.written() == text);
+    }
+    Ok(())
+}
+
+#[test]
+fn refusals(rt: HostRuntime) -> Result<(), AllocError> {
+    let alloc = rt.alloc();
+    for (input, line) in [
+        (b"PartialEq\nstruct P<T>(T);".as_slice(), b"NotYet 0..15: form is not built yet\n".as_slice()),
+        (b"PartialEq\n".as_slice(), b"NotYet 0..0: form is not built yet\n".as_slice()),
+        (b"PartialEq\nstruct P();".as_slice(), b"NotYet 0..11: form is not built yet\n".as_slice()),
+        (b"PartialEq\nstruct P(A)".as_slice(), b"NotYet 0..11: form is not built yet\n".as_slice()),
+        (b"PartialEq\nstruct P(fn);".as_slice(), b"NotYet 0..13: form is not built yet\n".as_slice()),
+        (b"PartialEq\nstruct __P(A);".as_slice(), b"NotYet 0..14: form is not built yet\n".as_slice()),
+        (b"PartialEq\nstruct derive_more(A);".as_slice(), b"NotYet 0..22: form is not built yet\n".as_slice()),
+        (b"Hash\nstruct S;".as_slice(), b"UnknownTrait 0..0: no derive of this name\n".as_slice()),
+        (b"partialeq\nstruct P(A);".as_slice(), b"UnknownTrait 0..0: no derive of this name\n".as_slice()),
+    ] {
+        let (status, sink) = run(alloc, &[], sound(input))?;
+        assert!(rt; status == Status::Refused && sink.written() == line);
+    }
+    Ok(())
+}
+
+#[test]
+fn bad_inputs(rt: HostRuntime) -> Result<(), AllocError> {
+    let alloc = rt.alloc();
+    for input in [b"PartialEq".as_slice(), b"".as_slice(), b"PartialEq\nstruct P(\xff);".as_slice()] {
+        let (status, sink) = run(alloc, &[], sound(input))?;
+        assert!(rt; status == Status::BadInput && sink.written() == b"".as_slice());
+    }
     Ok(())
 }
 
@@ -63,13 +102,13 @@ fn failures(rt: HostRuntime) -> Result<(), AllocError> {
         ..sound(INPUT)
     };
     let (status, sink) = run(alloc, &[], outside)?;
-    assert!(rt; status == Status::WriteFault && sink.written() == b"struct P(i".as_slice());
+    assert!(rt; status == Status::WriteFault && sink.written() == b"# [allow (".as_slice());
     let outside = Outside {
         room: 3,
         ..sound(INPUT)
     };
     let (status, sink) = run(alloc, &[], outside)?;
-    assert!(rt; status == Status::WriteFault && sink.written() == b"str".as_slice());
+    assert!(rt; status == Status::WriteFault && sink.written() == b"# [".as_slice());
     Ok(())
 }
 
@@ -85,14 +124,14 @@ fn usage(rt: HostRuntime) -> Result<(), AllocError> {
 #[test]
 fn too_much(rt: HostRuntime) -> Result<(), AllocError> {
     let alloc = rt.alloc();
-    let spaces = vec![in alloc; b' '; LIMIT - 10]?;
-    let mut front = Vec::from_slice(alloc, b"PartialEq\n")?;
-    front.extend_from_slice(&spaces)?;
-    let (status, _) = run(alloc, &[], sound(&front))?;
-    assert!(rt; status == Status::WriteFault);
-    front.push(b' ')?;
-    let (status, _) = run(alloc, &[], sound(&front))?;
-    assert!(rt; status == Status::BadInput);
+    let spaces = vec![in alloc; b' '; LIMIT - 24]?;
+    let mut input = Vec::from_slice(alloc, INPUT)?;
+    input.extend_from_slice(&spaces)?;
+    let (status, sink) = run(alloc, &[], sound(&input))?;
+    assert!(rt; status == Status::Done && sink.written() == ONE_FIELD);
+    input.push(b' ')?;
+    let (status, sink) = run(alloc, &[], sound(&input))?;
+    assert!(rt; status == Status::BadInput && sink.written() == b"".as_slice());
     Ok(())
 }
 
