@@ -5,7 +5,7 @@ use dm_syntax::{Path, QSelf};
 use dm_tokens::{Ident, Seq};
 
 /// A path, or a qualified one, as an expression.
-#[derive(Debug, Drop)]
+#[derive(Drop)]
 pub struct PathExpr<'a> {
     pub qself: Option<Box<QSelf<'a>>>,
     pub path: Path<'a>,
@@ -13,7 +13,7 @@ pub struct PathExpr<'a> {
 
 /// An expression. `Or` and `And` hold two parts or more; `Tuple` holds none, or two or more.
 #[cycle(expr)]
-#[derive(Debug, Drop)]
+#[derive(Drop)]
 pub enum Expr<'a> {
     Or(Seq<Expr<'a>>),
     And(Seq<Expr<'a>>),
@@ -30,14 +30,14 @@ pub enum Expr<'a> {
 
 /// Statements, and an expression that the block gives.
 #[cycle(expr)]
-#[derive(Debug, Drop)]
+#[derive(Drop)]
 pub struct Block<'a> {
     pub stmts: Seq<Stmt<'a>>,
     pub last: Option<Box<Expr<'a>>>,
 }
 
 #[cycle(expr)]
-#[derive(Debug, Drop)]
+#[derive(Drop)]
 pub enum Stmt<'a> {
     Let(Ident<'a>, Expr<'a>),
     Expr(Expr<'a>),
@@ -45,7 +45,7 @@ pub enum Stmt<'a> {
 
 /// An arm of a `match`, with one pattern or several between `|`.
 #[cycle(expr)]
-#[derive(Debug, Drop)]
+#[derive(Drop)]
 pub struct Arm<'a> {
     pub patterns: Seq<Pattern<'a>>,
     pub guard: Option<Expr<'a>>,
@@ -53,7 +53,7 @@ pub struct Arm<'a> {
 }
 
 #[cycle(expr)]
-#[derive(Debug, Drop)]
+#[derive(Drop)]
 pub enum ArmBody<'a> {
     Block(Block<'a>),
     Expr(Expr<'a>),

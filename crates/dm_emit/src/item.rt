@@ -17,7 +17,7 @@ pub enum ItemAttr {
 
 /// An implementation of a trait, or an inherent one where there is no trait's path.
 /// Empty `params` and empty `predicates` stand for the part that is absent.
-#[derive(Debug, Drop)]
+#[derive(Drop)]
 pub struct Item<'a> {
     pub attrs: Seq<ItemAttr>,
     pub params: Seq<GenericParam<'a>>,
@@ -29,13 +29,13 @@ pub struct Item<'a> {
 }
 
 /// An associated type: `type NAME = TY;`.
-#[derive(Debug, Drop)]
+#[derive(Drop)]
 pub struct Assoc<'a> {
     pub name: Ident<'a>,
     pub ty: Ty<'a>,
 }
 
-#[derive(Debug, Drop)]
+#[derive(Drop)]
 pub struct Method<'a> {
     pub attrs: Seq<ItemAttr>,
     pub is_const: bool,
@@ -47,7 +47,7 @@ pub struct Method<'a> {
 }
 
 /// The parameter behind the receiver.
-#[derive(Debug, Drop)]
+#[derive(Drop)]
 pub struct MethodParam<'a> {
     pub name: Ident<'a>,
     pub ty: Ty<'a>,

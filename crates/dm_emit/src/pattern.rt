@@ -13,7 +13,7 @@ pub enum Binding {
 
 /// A pattern. The truth value of `Named` says whether `..` stands behind its fields.
 #[cycle(pattern)]
-#[derive(Debug, Drop)]
+#[derive(Drop)]
 pub enum Pattern<'a> {
     Wild,
     Bind(Binding, Ident<'a>),
@@ -24,7 +24,7 @@ pub enum Pattern<'a> {
 
 /// A field of a pattern in braces.
 #[cycle(pattern)]
-#[derive(Debug, Drop)]
+#[derive(Drop)]
 pub struct NamedPattern<'a> {
     pub name: Ident<'a>,
     pub pattern: Pattern<'a>,

@@ -19,7 +19,7 @@ use dm_tokens::{Layout, Seq, Text};
 use std::alloc::{AllocError, Global};
 
 /// Items with their text.
-#[derive(Debug, Drop)]
+#[derive(Drop)]
 pub struct Expansion<'a> {
     pub items: Seq<Item<'a>>,
     pub text: Text<'a>,

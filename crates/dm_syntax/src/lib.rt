@@ -1,4 +1,4 @@
-//! The syntax tree of a declaration.
+//! The syntax tree of a declaration: its types, its grammar, and what reads and writes it.
 #![tactic(auto)]
 
 mod decl;
@@ -6,18 +6,19 @@ mod emit;
 mod names;
 mod parse;
 mod plain;
+#[cfg(test)]
+mod tests;
 mod ty;
 
 pub use decl::{
     ConstParam, Data, DataEnum, DataStruct, DataUnion, DeriveInput, Field, Fields, GenericParam,
     Generics, LifetimeParam, TyParam, Variant, WherePredicate,
 };
+pub use emit::{write_attribute, write_path, write_plain, write_type};
 pub use names::check_names;
 pub use parse::parse_decl;
 pub use plain::{AttrArgs, Attribute, ConstArg, Opaque, PlainPath, Vis};
 pub use ty::{
     BareFn, Bound, FnArg, GenericArgument, Path, PathArguments, PathSegment, QSelf, TraitBound, Ty,
     TyNode,
-
-#[cfg(test)]
-mod tests;
+};
