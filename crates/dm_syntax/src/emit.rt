@@ -4,8 +4,25 @@
 ghost use Rattle.std.specs.Prelude.{◌≡◌, map, take, drop, OnOk, true, false, Some, cond, codes, ℕ, List};
 ghost use Rattle.dm_tokens.specs.Trees.{join};
 ghost use Rattle.dm_syntax.specs.Tree.{
-    array, tuple, macro_type, some_type, types_of, bounds_of, inputs_of, segments_of, arguments_of,
-    ty_view, node_view, bound_view, trait_view, fn_view, input_view, path_view, segment_view, arguments_view, argument_view
+  array,
+  tuple,
+  macro_type,
+  some_type,
+  types_of,
+  bounds_of,
+  inputs_of,
+  segments_of,
+  arguments_of,
+  ty_view,
+  node_view,
+  bound_view,
+  trait_view,
+  fn_view,
+  input_view,
+  path_view,
+  segment_view,
+  arguments_view,
+  argument_view,
 };
 ghost use Rattle.dm_syntax.specs.TypeTokens as spec;
 
@@ -381,18 +398,21 @@ fn write_node<'a>(
             Some(qself) => {
                 write_self(alloc, out, qself, span)?;
                 let segments = path.segments.as_slice();
-                write_behind_self(alloc, out, segments, qself.position, path.leading_colon, span)
+                write_behind_self(
+                    alloc,
+                    out,
+                    segments,
+                    qself.position,
+                    path.leading_colon,
+                    span,
+                )
             }
         },
         TyNode::Macro(path, delim, tokens) => write_macro(alloc, out, path, *delim, tokens, span),
     }
 }
 
-fn write_pointer_word(
-    out: &mut TokenStream<'_>,
-    is_mut: bool,
-    span: Span,
-) -> Result<(), AllocError>
+fn write_pointer_word(out: &mut TokenStream<'_>, is_mut: bool, span: Span) -> Result<(), AllocError>
     ensures { OnOk result (out.new.trees ≡ join out.old.trees (cond is_mut (spec.word (codes "mut") span) (spec.word (codes "const") span))) }
 {
     if is_mut {
@@ -551,7 +571,13 @@ fn write_fn<'a>(
     word(out, "fn", span)?;
     let mut inside = TokenStream::new(alloc, span.end);
     let inputs = &function.inputs;
-    write_inputs(alloc, &mut inside, inputs.items.as_slice(), inputs.trailing, span)?;
+    write_inputs(
+        alloc,
+        &mut inside,
+        inputs.items.as_slice(),
+        inputs.trailing,
+        span,
+    )?;
     group(out, Delim::Paren, inside, span)?;
     match &function.output {
         None => Ok(()),
@@ -789,6 +815,7 @@ fn write_angle_items<'a>(
 }
 
 #[cycle(emit)]
+#[tactic(auto, using(crate::proofs::EmitArguments::argument_steps))]
 fn write_argument<'a>(
     alloc: Global,
     out: &mut TokenStream<'a>,
@@ -819,10 +846,14 @@ fn write_argument<'a>(
         }
         GenericArgument::Constraint(label, arguments, bounds) => {
             name(alloc, out, label)?;
-            if let Some(all) = arguments {
-                write_angle(alloc, out, all.items.as_slice(), all.trailing, span)?;
+            let items = bounds.items.as_slice();
+            match arguments {
+                None => write_constraint(alloc, out, items, bounds.trailing, span),
+                Some(all) => {
+                    write_angle(alloc, out, all.items.as_slice(), all.trailing, span)?;
+                    write_constraint(alloc, out, items, bounds.trailing, span)
+                }
             }
-            write_constraint(alloc, out, bounds.items.as_slice(), bounds.trailing, span)
         }
     }
 }
