@@ -77,11 +77,11 @@ view_TyNode-ImplTrait bs = ap node_view (sym (n.rolls-ImplTrait bs)) ∙ fold-ro
 
 pub view_TyNode-Infer : node_view n.Infer ≡ infer
 unfolding bound_view argument_view arguments_view node_view fn_view input_view path_view segment_view self_view trait_view ty_view
-view_TyNode-Infer = ap node_view (sym (n.rolls-Infer)) ∙ fold-roll-TyNode BoundTree ArgumentTree ArgumentsTree TypeNode FnTree InputTree PathTree SegmentTree (TypeTree × ℕ) TraitBoundTree TypeTree bound_step argument_step arguments_step node_step fn_step input_step path_step segment_step self_step trait_step ty_step open'.Infer
+view_TyNode-Infer  = ap node_view (sym (n.rolls-Infer)) ∙ fold-roll-TyNode BoundTree ArgumentTree ArgumentsTree TypeNode FnTree InputTree PathTree SegmentTree (TypeTree × ℕ) TraitBoundTree TypeTree bound_step argument_step arguments_step node_step fn_step input_step path_step segment_step self_step trait_step ty_step open'.Infer
 
 pub view_TyNode-Never : node_view n.Never ≡ never
 unfolding bound_view argument_view arguments_view node_view fn_view input_view path_view segment_view self_view trait_view ty_view
-view_TyNode-Never = ap node_view (sym (n.rolls-Never)) ∙ fold-roll-TyNode BoundTree ArgumentTree ArgumentsTree TypeNode FnTree InputTree PathTree SegmentTree (TypeTree × ℕ) TraitBoundTree TypeTree bound_step argument_step arguments_step node_step fn_step input_step path_step segment_step self_step trait_step ty_step open'.Never
+view_TyNode-Never  = ap node_view (sym (n.rolls-Never)) ∙ fold-roll-TyNode BoundTree ArgumentTree ArgumentsTree TypeNode FnTree InputTree PathTree SegmentTree (TypeTree × ℕ) TraitBoundTree TypeTree bound_step argument_step arguments_step node_step fn_step input_step path_step segment_step self_step trait_step ty_step open'.Never
 
 pub view_TyNode-Path : (q : Option (Box QSelf Global)) (p : Path) → node_view (n.Path q p) ≡ path (maybe_self_view q) (path_view p)
 unfolding bound_view argument_view arguments_view node_view fn_view input_view path_view segment_view self_view trait_view ty_view
@@ -102,7 +102,7 @@ view_Bound-Trait t = ap bound_view (sym (b.rolls-Trait t)) ∙ fold-roll-Bound B
 
 pub view_PathArguments-Absent : arguments_view a.Absent ≡ absent
 unfolding bound_view argument_view arguments_view node_view fn_view input_view path_view segment_view self_view trait_view ty_view
-view_PathArguments-Absent = ap arguments_view (sym (a.rolls-Absent)) ∙ fold-roll-PathArguments BoundTree ArgumentTree ArgumentsTree TypeNode FnTree InputTree PathTree SegmentTree (TypeTree × ℕ) TraitBoundTree TypeTree bound_step argument_step arguments_step node_step fn_step input_step path_step segment_step self_step trait_step ty_step open'.Absent
+view_PathArguments-Absent  = ap arguments_view (sym (a.rolls-Absent)) ∙ fold-roll-PathArguments BoundTree ArgumentTree ArgumentsTree TypeNode FnTree InputTree PathTree SegmentTree (TypeTree × ℕ) TraitBoundTree TypeTree bound_step argument_step arguments_step node_step fn_step input_step path_step segment_step self_step trait_step ty_step open'.Absent
 
 pub view_PathArguments-Angle : (c : Bool) (gs : Punctuated GenericArgument) → arguments_view (a.Angle c gs) ≡ angle c (arguments_of (map argument_view gs.items)) gs.trailing
 unfolding bound_view argument_view arguments_view node_view fn_view input_view path_view segment_view self_view trait_view ty_view
