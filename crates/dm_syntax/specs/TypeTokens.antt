@@ -130,11 +130,15 @@ as_trees s position leading_colon segments =
     cond (position == 0) no_trees
     (join (word (codes "as") s) (join (given leading_colon (colons s)) (spaced (colons s) true (take position segments))))
 
--- `<Self as trait::segments>::later::segments`: `position` tells how many segments are the trait's, and is 0 where there is none
+-- what stands behind `<Self`: `position` tells how many segments are the trait's, and is 0 where there is none
+abbrev pub behind_self_trees : Span → ℕ → Bool → List Trees → Trees
+behind_self_trees s position leading_colon segments =
+    join (as_trees s position leading_colon segments) (join (punct 62 s) (spaced (colons s) false (drop position segments)))
+
+-- `<Self as trait::segments>::later::segments`
 abbrev pub qualified_trees : Span → Trees → ℕ → Bool → List Trees → Trees
 qualified_trees s self position leading_colon segments =
-    join (punct 60 s) (join self (join (as_trees s position leading_colon segments)
-    (join (punct 62 s) (spaced (colons s) false (drop position segments)))))
+    join (punct 60 s) (join self (behind_self_trees s position leading_colon segments))
 
 abbrev mutual
   pub type_trees : TypeTree → Trees

@@ -4,9 +4,25 @@
 ghost use Rattle.std.specs.Prelude.{◌≡◌, map, take, drop, OnOk, true, false, Some, cond, codes, ℕ, List};
 ghost use Rattle.dm_tokens.specs.Trees.{join};
 ghost use Rattle.dm_syntax.specs.Tree.{
-    array, tuple, macro_type, some_type, types_of, bounds_of, inputs_of, segments_of, arguments_of,
-    ty_view, node_view, bound_view, trait_view, fn_view, input_view, path_view, segment_view, arguments_view, argument_view,
-    self_view, maybe_self_view, maybe_ty_view
+  array,
+  tuple,
+  macro_type,
+  some_type,
+  types_of,
+  bounds_of,
+  inputs_of,
+  segments_of,
+  arguments_of,
+  ty_view,
+  node_view,
+  bound_view,
+  trait_view,
+  fn_view,
+  input_view,
+  path_view,
+  segment_view,
+  arguments_view,
+  argument_view,
 };
 ghost use Rattle.dm_syntax.specs.TypeTokens as spec;
 
@@ -375,19 +391,23 @@ fn write_node<'a>(
         TyNode::Path(qself, path) => match qself {
             None => write_path(alloc, out, path, span),
             Some(qself) => {
+                write_self(alloc, out, qself, span)?;
                 let segments = path.segments.as_slice();
-                write_qualified(alloc, out, qself, path.leading_colon, segments, span)
+                write_behind_self(
+                    alloc,
+                    out,
+                    segments,
+                    qself.position,
+                    path.leading_colon,
+                    span,
+                )
             }
         },
         TyNode::Macro(path, delim, tokens) => write_macro(alloc, out, path, *delim, tokens, span),
     }
 }
 
-fn write_pointer_word(
-    out: &mut TokenStream<'_>,
-    is_mut: bool,
-    span: Span,
-) -> Result<(), AllocError>
+fn write_pointer_word(out: &mut TokenStream<'_>, is_mut: bool, span: Span) -> Result<(), AllocError>
     ensures { OnOk result (out.new.trees ≡ join out.old.trees (cond is_mut (spec.word (codes "mut") span) (spec.word (codes "const") span))) }
 {
     if is_mut {
@@ -546,7 +566,13 @@ fn write_fn<'a>(
     word(out, "fn", span)?;
     let mut inside = TokenStream::new(alloc);
     let inputs = &function.inputs;
-    write_inputs(alloc, &mut inside, inputs.items.as_slice(), inputs.trailing, span)?;
+    write_inputs(
+        alloc,
+        &mut inside,
+        inputs.items.as_slice(),
+        inputs.trailing,
+        span,
+    )?;
     group(out, Delim::Paren, inside)?;
     match &function.output {
         None => Ok(()),
@@ -614,26 +640,39 @@ pub fn write_path<'a>(
     write_segments(alloc, out, path.segments.as_slice(), span)
 }
 
+/// Adds `<Self`.
 #[cycle(emit)]
-fn write_qualified<'a>(
+fn write_self<'a>(
     alloc: Global,
     out: &mut TokenStream<'a>,
     qself: &QSelf<'a>,
-    leading_colon: bool,
-    segments: &[PathSegment<'a>],
     span: Span,
 ) -> Result<(), AllocError>
-    ensures { OnOk result (out.new.trees ≡ join out.old.trees (spec.qualified_trees span (spec.type_trees (self_view qself.now).0) (self_view qself.now).1 leading_colon (spec.each_segment span (segments_of (map segment_view segments.now))))) }
+    ensures { OnOk result (out.new.trees ≡ join out.old.trees (join (spec.punct 60 span) (spec.type_trees (ty_view qself.now.ty)))) }
 {
     punct(out, '<', span)?;
-    write_type(alloc, out, &qself.ty)?;
-    if qself.position > 0 {
+    write_type(alloc, out, &qself.ty)
+}
+
+/// Adds what stands behind `<Self`.
+#[cycle(emit)]
+fn write_behind_self<'a>(
+    alloc: Global,
+    out: &mut TokenStream<'a>,
+    all: &[PathSegment<'a>],
+    position: usize,
+    leading_colon: bool,
+    span: Span,
+) -> Result<(), AllocError>
+    ensures { OnOk result (out.new.trees ≡ join out.old.trees (spec.behind_self_trees span position leading_colon (spec.each_segment span (segments_of (map segment_view all.now))))) }
+{
+    if position > 0 {
         word(out, "as", span)?;
         colons_if(out, leading_colon, span)?;
-        write_first(alloc, out, segments, qself.position, span)?;
+        write_first(alloc, out, all, position, span)?;
     }
     punct(out, '>', span)?;
-    write_later(alloc, out, segments, qself.position, span)
+    write_later(alloc, out, all, position, span)
 }
 
 #[cycle(emit)]
@@ -771,6 +810,7 @@ fn write_angle_items<'a>(
 }
 
 #[cycle(emit)]
+#[tactic(auto, using(crate::proofs::EmitArguments::argument_steps))]
 fn write_argument<'a>(
     alloc: Global,
     out: &mut TokenStream<'a>,
@@ -801,10 +841,14 @@ fn write_argument<'a>(
         }
         GenericArgument::Constraint(label, arguments, bounds) => {
             name(alloc, out, label)?;
-            if let Some(all) = arguments {
-                write_angle(alloc, out, all.items.as_slice(), all.trailing, span)?;
+            let items = bounds.items.as_slice();
+            match arguments {
+                None => write_constraint(alloc, out, items, bounds.trailing, span),
+                Some(all) => {
+                    write_angle(alloc, out, all.items.as_slice(), all.trailing, span)?;
+                    write_constraint(alloc, out, items, bounds.trailing, span)
+                }
             }
-            write_constraint(alloc, out, bounds.items.as_slice(), bounds.trailing, span)
         }
     }
 }
