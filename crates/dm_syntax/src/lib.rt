@@ -3,6 +3,7 @@
 
 mod decl;
 mod emit;
+mod emit_parts;
 mod names;
 mod parse;
 mod plain;
@@ -14,7 +15,8 @@ pub use decl::{
     ConstParam, Data, DataEnum, DataStruct, DataUnion, DeriveInput, Field, Fields, GenericParam,
     Generics, LifetimeParam, TyParam, Variant, WherePredicate,
 };
-pub use emit::{write_attribute, write_path, write_plain, write_type};
+pub use emit::{write_path, write_type};
+pub use emit_parts::{write_attribute, write_plain};
 pub use names::check_names;
 pub use parse::parse_decl;
 pub use plain::{AttrArgs, Attribute, ConstArg, Opaque, PlainPath, Vis};
