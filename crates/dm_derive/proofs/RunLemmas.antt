@@ -1,5 +1,5 @@
 -- What a run did to the bytes of the source and of the sink.
-use Rattle.std.proofs.Common.{◌≡◌, ℕ, ◌≤◌, ◌<◌, List, Option, Some, None, length, inl, inr, arith, sym, subst, ◌∙◌, ◌++◌}
+use Rattle.std.proofs.Common.{◌≡◌, ℕ, ◌<◌, List, Option, Some, None, length, inl, inr, arith, sym, subst, ◌∙◌, ◌++◌}
 use Rattle.std.specs.Prelude.{IfSome, ◌⊎◌}
 use Rattle.std.proofs.KnownBytes.{Consumes-whole}
 use Rattle.std.proofs.lemmas.List.{length-append}
@@ -9,7 +9,7 @@ use Rattle.dm_derive.specs.declared.top.Status.{Status}
 use Rattle.dm_derive.specs.declared.top.Status.TheVariants.{Done, Refused, BadInput, ReadFault, WriteFault, NoMemory, Usage}
 use Rattle.dm_derive.specs.Derived.{Refuses}
 use Rattle.dm_derive.specs.Split.{HasLine, IsSplit}
-use Rattle.dm_derive.specs.Runs.{WasRead, IsTooMuch, IsRefused, IsAccepted, IsFaultless, Responds, Ran, Means}
+use Rattle.dm_derive.specs.Runs.{WasRead, IsTooMuch, IsAccepted, IsFaultless, Responds, Ran, Means}
 
 -- a run that read all is one that responds to what it read
 pub ran : (left left' before now : Option (List ℕ)) (bytes : List ℕ) (status : Status) → WasRead left left' bytes →
