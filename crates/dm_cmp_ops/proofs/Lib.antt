@@ -1,2 +1,3 @@
 mod Builders
+mod Joined
 mod SkipSteps
