@@ -4,5 +4,6 @@ pub mod ChainLaws
 pub mod ArmLaws
 pub mod PartialEqLaws
 mod Builders
+mod Joined
 mod SkipSteps
 mod Expansions

@@ -1,7 +1,7 @@
 //! The arms in which two values of one variant are compared.
 #![tactic(auto, using(crate::proofs::Builders::builder_steps))]
 
-ghost use Rattle.std.specs.Prelude.{◌≡◌, ◌∷◌, ◌++◌, [], map, IfOk, OnOk};
+ghost use Rattle.std.specs.Prelude.{◌≡◌, ◌∷◌, ◌++◌, [], cond, map, IfOk, OnOk};
 ghost use Rattle.dm_syntax.specs.Declarations.{declaration_view, field_view};
 ghost use Rattle.dm_emit.specs.Output.{expr_view, arm_view, block_view, pattern_view, exprs_of, last_expr, some_expr, no_expr, unsafe_expr, body_view, block_body, patterns_of};
 ghost use Rattle.dm_emit.specs.Values as values;
@@ -72,6 +72,24 @@ fn test<'a>(alloc: Global, comparing: Comparing, n: usize) -> Result<Expr<'a>, A
     Ok(test_of(comparing, mine, theirs))
 }
 
+/// Adds the test of a field that is kept.
+fn add_test<'a>(
+    alloc: Global,
+    comparing: Comparing,
+    n: usize,
+    skip: bool,
+    out: &mut Vec<Expr<'a>>,
+) -> Result<(), AllocError>
+    ensures { OnOk result (map expr_view out.new.items ≡ map expr_view out.old.items ++ cond skip [] (spec.test comparing n ∷ [])) }
+{
+    if skip {
+        return Ok(());
+    }
+    let next = test(alloc, comparing, n)?;
+    append(out, next)
+}
+
+#[tactic(auto, using(crate::proofs::Joined::joined_steps))]
 fn tests<'a>(
     alloc: Global,
     comparing: Comparing,
@@ -81,10 +99,8 @@ fn tests<'a>(
 {
     let mut out = Vec::new(alloc);
     for (i, field) in fields.iter().enumerate() {
-        if !is_skipped(field.attrs.as_slice()) {
-            let next = test(alloc, comparing, i)?;
-            append(&mut out, next)?;
-        }
+        let skip = is_skipped(field.attrs.as_slice());
+        add_test(alloc, comparing, i, skip, &mut out)?;
     }
     Ok(out)
 }

@@ -2,7 +2,7 @@
 #![tactic(auto, using(crate::proofs::Builders::builder_steps))]
 
 ghost use Rattle.std.specs.Prelude.{◌≡◌, codes, IfOk};
-ghost use Rattle.dm_syntax.specs.Tree.{ty_view, path_view};
+ghost use Rattle.dm_syntax.specs.Tree.{ty_view, path_view, type_tree, path as tree_path, no_self};
 ghost use Rattle.dm_syntax.specs.Declarations.{declaration_view};
 ghost use Rattle.dm_emit.specs.Output.{method_param_view};
 ghost use Rattle.dm_cmp_ops.specs.Heads as spec;
@@ -13,13 +13,21 @@ use dm_syntax::{DeriveInput, Path, Ty, TyNode};
 use dm_tokens::Ident;
 use std::alloc::{AllocError, Global};
 
+#[tactic(auto, using(crate::proofs::Joined::joined_steps))]
+fn plain_type(path: Path<'_>) -> Ty<'_>
+    ensures { ty_view result ≡ type_tree (tree_path no_self (path_view path.entry)) spec.emitted }
+{
+    Ty {
+        node: TyNode::Path(None, path),
+        span: nowhere(),
+    }
+}
+
 fn name_type(alloc: Global, ident: Ident<'_>) -> Result<Ty<'_>, AllocError>
     ensures { IfOk result (λ t. ty_view t ≡ spec.name_type ident.entry) }
 {
-    Ok(Ty {
-        node: TyNode::Path(None, path_of_one(alloc, ident)?),
-        span: nowhere(),
-    })
+    let path = path_of_one(alloc, ident)?;
+    Ok(plain_type(path))
 }
 
 /// The type of that name.

@@ -42,6 +42,13 @@ pub(crate) fn two<T: Drop>(alloc: Global, first: T, second: T) -> Result<Seq<T>,
     Ok(out)
 }
 
+/// The range of what stands nowhere in the declaration's text.
+pub(crate) fn nowhere() -> Span
+    ensures { result ≡ heads.emitted }
+{
+    Span { start: 0, end: 0 }
+}
+
 /// An identifier that stands nowhere in the declaration's text.
 pub(crate) fn emitted(name: Text<'_>) -> Ident<'_>
     ensures { result ≡ heads.word name.entry }
@@ -49,7 +56,7 @@ pub(crate) fn emitted(name: Text<'_>) -> Ident<'_>
     Ident {
         name,
         raw: false,
-        span: Span { start: 0, end: 0 },
+        span: nowhere(),
     }
 }
 

@@ -3,8 +3,9 @@
 
 ghost use Rattle.std.specs.Prelude.{◌≡◌, ◌∷◌, [], map, ◌++◌, codes, IfOk, MatchResult, OnOk};
 ghost use Rattle.dm_tokens.specs.declared.error.Error.TheVariants.{NoMemory};
+ghost use Rattle.dm_syntax.specs.Tree.{path_view, no_self};
 ghost use Rattle.dm_syntax.specs.Declarations.{declaration_view};
-ghost use Rattle.dm_emit.specs.Output.{expr_view, block_view, method_view, item_view, match_expr, deref, no_arms};
+ghost use Rattle.dm_emit.specs.Output.{expr_view, block_view, method_view, item_view, match_expr, deref, no_arms, call, exprs_of, tuple, expr_then, no_exprs};
 ghost use Rattle.dm_emit.specs.Values as values;
 ghost use Rattle.dm_cmp_ops.specs.Heads as heads;
 ghost use Rattle.dm_cmp_ops.specs.Emitted as spec;
@@ -16,7 +17,7 @@ use crate::comparing::{arms, block_of, chain, test_of};
 use crate::heads::{implementor, other_param, partial_eq_path, word_type};
 use crate::names::{append, boxed, name, one, path_of, two, word};
 use dm_emit::{Block, Expansion, Expr, Item, ItemAttr, Method, PathExpr, Receiver, with_text};
-use dm_syntax::DeriveInput;
+use dm_syntax::{DeriveInput, Path};
 use dm_tokens::{Error, Ident, Seq};
 use std::alloc::{AllocError, Global};
 
@@ -33,13 +34,27 @@ fn word_name<'a>(alloc: Global, text: &'a str) -> Result<Expr<'a>, AllocError>
     name(alloc, word(text))
 }
 
+fn pair_of<'a>(alloc: Global, mine: Expr<'a>, theirs: Expr<'a>) -> Result<Expr<'a>, AllocError>
+    ensures { IfOk result (λ e. expr_view e ≡ tuple (expr_then (expr_view mine.entry) (expr_then (expr_view theirs.entry) no_exprs))) }
+{
+    let parts = two(alloc, mine, theirs)?;
+    Ok(Expr::Tuple(parts))
+}
+
+fn both_expr<'a>(alloc: Global) -> Result<Expr<'a>, AllocError>
+    ensures { IfOk result (λ e. expr_view e ≡ spec.both) }
+{
+    let mine = word_name(alloc, "self")?;
+    let theirs = word_name(alloc, "__other")?;
+    pair_of(alloc, mine, theirs)
+}
+
 /// The pair of the operands.
 fn both<'a>(alloc: Global) -> Result<Box<Expr<'a>>, AllocError>
     ensures { IfOk result (λ e. expr_view e.value ≡ spec.both) }
 {
-    let mine = word_name(alloc, "self")?;
-    let theirs = word_name(alloc, "__other")?;
-    boxed(alloc, Expr::Tuple(two(alloc, mine, theirs)?))
+    let pair = both_expr(alloc)?;
+    boxed(alloc, pair)
 }
 
 fn matching<'a>(
@@ -56,12 +71,27 @@ fn matching<'a>(
     Ok(Expr::Match(operands, all))
 }
 
+#[tactic(auto, using(crate::proofs::Joined::joined_steps))]
+fn call_of<'a>(path: Path<'a>, operands: Seq<Expr<'a>>) -> Expr<'a>
+    ensures { expr_view result ≡ call no_self (path_view path.entry) (exprs_of (map expr_view operands.entry)) }
+{
+    Expr::Call(PathExpr { qself: None, path }, operands)
+}
+
+fn discriminant_of<'a>(alloc: Global, text: &'a str) -> Result<Expr<'a>, AllocError>
+    ensures { IfOk result (λ e. expr_view e ≡ spec.discriminant_call text.now) }
+{
+    let path = path_of(alloc, &["derive_more", "core", "mem", "discriminant"])?;
+    let operand = word_name(alloc, text)?;
+    let operands = one(alloc, operand)?;
+    Ok(call_of(path, operands))
+}
+
 fn discriminant_call<'a>(alloc: Global, text: &'a str) -> Result<Box<Expr<'a>>, AllocError>
     ensures { IfOk result (λ e. expr_view e.value ≡ spec.discriminant_call text.now) }
 {
-    let path = path_of(alloc, &["derive_more", "core", "mem", "discriminant"])?;
-    let operand = one(alloc, word_name(alloc, text)?)?;
-    boxed(alloc, Expr::Call(PathExpr { qself: None, path }, operand))
+    let call = discriminant_of(alloc, text)?;
+    boxed(alloc, call)
 }
 
 fn discriminants<'a>(alloc: Global, comparing: Comparing) -> Result<Expr<'a>, AllocError>
@@ -127,12 +157,19 @@ fn parts<'a>(
     Ok(made)
 }
 
+/// `*self`.
+fn this_value<'a>(alloc: Global) -> Result<Box<Expr<'a>>, AllocError>
+    ensures { IfOk result (λ e. expr_view e.value ≡ deref (spec.name (codes "self"))) }
+{
+    let this = boxed(alloc, word_name(alloc, "self")?)?;
+    boxed(alloc, Expr::Deref(this))
+}
+
 /// `match *self {}`.
 fn no_match<'a>(alloc: Global) -> Result<Expr<'a>, AllocError>
     ensures { IfOk result (λ e. expr_view e ≡ match_expr (deref (spec.name (codes "self"))) no_arms) }
 {
-    let this = boxed(alloc, word_name(alloc, "self")?)?;
-    let value = boxed(alloc, Expr::Deref(this))?;
+    let value = this_value(alloc)?;
     Ok(Expr::Match(value, Seq::new(alloc)))
 }
 
