@@ -2,15 +2,17 @@
 #![tactic(auto)]
 
 mod decl;
+mod emit;
 mod plain;
 mod ty;
 
 pub use decl::{
-    Data, DataEnum, DataStruct, DataUnion, DeriveInput, Field, Fields, Generics, Variant,
+    ConstParam, Data, DataEnum, DataStruct, DataUnion, DeriveInput, Field, Fields, GenericParam,
+    Generics, LifetimeParam, TyParam, Variant, WherePredicate,
 };
+pub use emit::{write_attribute, write_path, write_plain, write_type};
 pub use plain::{AttrArgs, Attribute, ConstArg, Opaque, PlainPath, Vis};
 pub use ty::{
     BareFn, Bound, FnArg, GenericArgument, Path, PathArguments, PathSegment, QSelf, TraitBound, Ty,
     TyNode,
 };
-pub use decl::{ConstParam, GenericParam, LifetimeParam, TyParam, WherePredicate};
