@@ -8,9 +8,9 @@ use Rattle.dm_tokens.specs.Layout.{Laid, layout}
 use Rattle.dm_syntax.specs.declared.ty.Path.{Path}
 use Rattle.dm_syntax.specs.declared.ty.QSelf.{QSelf}
 use Rattle.dm_syntax.specs.declared.ty.Bound.TheViews.{out-Path}
-use Rattle.dm_syntax.specs.Tree.{path, PathTree, some_self, self_view, path_view, segment_view, segments_of}
+use Rattle.dm_syntax.specs.Tree.{TypeTree, path, PathTree, path_tree, some_self, ty_view, self_view, path_view, segment_view, segments_of}
 use Rattle.dm_syntax.specs.TypeTokens.{node_trees, type_trees, qualified_trees, each_segment}
-use Rattle.dm_syntax.proofs.View.{view-Path}
+use Rattle.dm_syntax.proofs.View.{view-Path, view-QSelf}
 use Rattle.dm_emit.specs.Laying.{lay}
 use Rattle.dm_emit.proofs.Laying.{lay-text, print_steps}
 
@@ -23,8 +23,10 @@ lay_line s ts fresh = ap (λ (l : List ℕ). l ++ 10 ∷ []) (lay_fresh s ts fre
 
 pub qualified_tokens : (s : Span) (q : QSelf) (p : Path) →
     node_trees s (path (some_self (self_view q).0 (self_view q).1) (path_view p)) ≡
-    qualified_trees s (type_trees (self_view q).0) (self_view q).1 (out-Path p).leading_colon (each_segment s (segments_of (map segment_view (out-Path p).segments)))
-qualified_tokens s q p = ap (λ (r : PathTree). node_trees s (path (some_self (self_view q).0 (self_view q).1) r)) (view-Path p)
+    qualified_trees s (type_trees (ty_view q.ty)) q.position (out-Path p).leading_colon (each_segment s (segments_of (map segment_view (out-Path p).segments)))
+qualified_tokens s q p =
+    ap (λ (r : PathTree). node_trees s (path (some_self (self_view q).0 (self_view q).1) r)) (view-Path p) ∙
+    ap (λ (r : TypeTree × ℕ). node_trees s (path (some_self r.0 r.1) (path_tree (out-Path p).leading_colon (segments_of (map segment_view (out-Path p).segments))))) (view-QSelf q)
 
 pub ruleset line_steps = (common_steps, lay_fresh, lay_line)
 
