@@ -122,7 +122,11 @@ fn method(
 
 fn item(alloc: Global) -> Result<Item<'static>, AllocError> {
     let trait_path = path(alloc, &["derive_more", "core", "cmp", "PartialEq"])?;
-    let attrs = two(alloc, ItemAttr::AllowPrivateBounds, ItemAttr::AutomaticallyDerived)?;
+    let attrs = two(
+        alloc,
+        ItemAttr::AllowPrivateBounds,
+        ItemAttr::AutomaticallyDerived,
+    )?;
     Ok(Item {
         attrs,
         params: Seq::new(alloc),
@@ -130,7 +134,11 @@ fn item(alloc: Global) -> Result<Item<'static>, AllocError> {
         ty: ty(alloc, "P")?,
         predicates: Seq::new(alloc),
         assocs: Seq::new(alloc),
-        methods: two(alloc, method(alloc, "eq", false)?, method(alloc, "ne", true)?)?,
+        methods: two(
+            alloc,
+            method(alloc, "eq", false)?,
+            method(alloc, "ne", true)?,
+        )?,
     })
 }
 
@@ -138,7 +146,10 @@ fn item(alloc: Global) -> Result<Item<'static>, AllocError> {
 fn line(rt: HostRuntime) -> Result<(), AllocError> {
     let alloc = rt.alloc();
     let expansion = with_text(alloc, one(alloc, item(alloc)?)?)?;
-    assert!(rt; expansion.text.as_str() == "# [allow (private_bounds)] # [automatically_derived] impl derive_more :: core :: cmp :: PartialEq for P { # [inline] fn eq (& self , __other : & Self) -> bool { match (self , __other) { (Self (__self_0 ,) , Self (__other_0 ,)) => { __self_0 == __other_0 } , } } # [inline] fn ne (& self , __other : & Self) -> bool { match (self , __other) { (Self (__self_0 ,) , Self (__other_0 ,)) => { __self_0 != __other_0 } , } } }\n");
+    assert!(rt;
+        expansion.text.as_str()
+            == "# [allow (private_bounds)] # [automatically_derived] impl derive_more :: core :: cmp :: PartialEq for P { # [inline] fn eq (& self , __other : & Self) -> bool { match (self , __other) { (Self (__self_0 ,) , Self (__other_0 ,)) => { __self_0 == __other_0 } , } } # [inline] fn ne (& self , __other : & Self) -> bool { match (self , __other) { (Self (__self_0 ,) , Self (__other_0 ,)) => { __self_0 != __other_0 } , } } }\n"
+    );
     let none: Seq<Item<'static>> = Seq::new(alloc);
     assert!(rt; print_items(alloc, none.as_slice())?.as_str() == "");
     Ok(())

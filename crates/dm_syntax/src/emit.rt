@@ -225,7 +225,8 @@ fn write_lifetimes<'a>(
     punct_if(out, trailing, ',', span)
 }
 
-fn write_for<'a>(
+/// Adds `for<..>`, where there is one.
+pub fn write_for<'a>(
     alloc: Global,
     out: &mut TokenStream<'a>,
     lifetimes: &Option<Punctuated<Lifetime<'a>>>,
@@ -244,7 +245,8 @@ fn write_for<'a>(
     }
 }
 
-fn write_const<'a>(
+/// Adds a const argument.
+pub fn write_const<'a>(
     alloc: Global,
     out: &mut TokenStream<'a>,
     value: &ConstArg<'a>,
@@ -297,7 +299,8 @@ pub fn write_attribute<'a>(
     group(out, Delim::Bracket, inside, span)
 }
 
-fn write_attributes<'a>(
+/// Adds attributes.
+pub fn write_attributes<'a>(
     alloc: Global,
     out: &mut TokenStream<'a>,
     all: &[Attribute<'a>],
@@ -503,8 +506,9 @@ fn write_types<'a>(
     punct_if(out, trailing, ',', span)
 }
 
+/// Adds bounds with `+` between them, and behind the last where `trailing` says so.
 #[cycle(emit)]
-fn write_bounds<'a>(
+pub fn write_bounds<'a>(
     alloc: Global,
     out: &mut TokenStream<'a>,
     all: &[Bound<'a>],
@@ -680,6 +684,21 @@ fn write_behind_self<'a>(
     write_later(alloc, out, all, position, span)
 }
 
+/// Adds a qualified path; its own tokens are at `span`.
+pub fn write_qualified<'a>(
+    alloc: Global,
+    out: &mut TokenStream<'a>,
+    qself: &QSelf<'a>,
+    leading_colon: bool,
+    segments: &[PathSegment<'a>],
+    span: Span,
+) -> Result<(), AllocError>
+    ensures { OnOk result (out.new.trees ≡ join out.old.trees (spec.qualified_trees span (spec.type_trees (ty_view qself.now.ty)) qself.now.position leading_colon (spec.each_segment span (segments_of (map segment_view segments.now))))) }
+{
+    write_self(alloc, out, qself, span)?;
+    write_behind_self(alloc, out, segments, qself.position, leading_colon, span)
+}
+
 #[cycle(emit)]
 fn write_segments<'a>(
     alloc: Global,
@@ -755,8 +774,9 @@ fn write_segment<'a>(
     write_arguments(alloc, out, &segment.arguments, span)
 }
 
+/// Adds what stands behind the name of a segment.
 #[cycle(emit)]
-fn write_arguments<'a>(
+pub fn write_arguments<'a>(
     alloc: Global,
     out: &mut TokenStream<'a>,
     arguments: &PathArguments<'a>,

@@ -64,7 +64,11 @@ fn attrs(out: &mut Layout, all: &[ItemAttr]) -> Result<(), AllocError>
 }
 
 /// Parameters with commas between them.
-fn joined_params(alloc: Global, out: &mut Layout, all: &[GenericParam<'_>]) -> Result<(), AllocError>
+fn joined_params(
+    alloc: Global,
+    out: &mut Layout,
+    all: &[GenericParam<'_>],
+) -> Result<(), AllocError>
     ensures { OnOk result (out.new ≡ lay out.old (syntax.spaced spec.comma true (map spec.param_trees (map param_view all.now)))) }
 {
     for (i, one) in all.iter().enumerate() {

@@ -84,6 +84,13 @@ fn qualified<'a>(
 {
     let mut tokens = TokenStream::new(alloc, 0);
     let segments = path.segments.as_slice();
-    write_qualified(alloc, &mut tokens, qself, path.leading_colon, segments, emitted())?;
+    write_qualified(
+        alloc,
+        &mut tokens,
+        qself,
+        path.leading_colon,
+        segments,
+        emitted(),
+    )?;
     stream(out, &tokens)
 }
