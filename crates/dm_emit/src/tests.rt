@@ -18,20 +18,20 @@ fn ident(name: &'static str) -> Ident<'static> {
     }
 }
 
-fn add<T>(list: &mut Seq<T>, item: T) -> Result<(), AllocError> {
+fn add<T: Drop>(list: &mut Seq<T>, item: T) -> Result<(), AllocError> {
     match list.push(item) {
         Ok(()) => Ok(()),
         Err(_) => Err(AllocError),
     }
 }
 
-fn one<T>(alloc: Global, item: T) -> Result<Seq<T>, AllocError> {
+fn one<T: Drop>(alloc: Global, item: T) -> Result<Seq<T>, AllocError> {
     let mut list = Seq::new(alloc);
     add(&mut list, item)?;
     Ok(list)
 }
 
-fn two<T>(alloc: Global, first: T, second: T) -> Result<Seq<T>, AllocError> {
+fn two<T: Drop>(alloc: Global, first: T, second: T) -> Result<Seq<T>, AllocError> {
     let mut list = one(alloc, first)?;
     add(&mut list, second)?;
     Ok(list)
