@@ -95,7 +95,7 @@ view_Stmt-Expr x rest = ap (λ st. stmt_view st rest) (sym (s.rolls-Expr x)) ∙
 
 pub view_Pattern-Wild : pattern_view p.Wild ≡ wild
 unfolding pattern_view named_view
-view_Pattern-Wild  = ap pattern_view (sym p.rolls-Wild) ∙ fold-roll-Pattern PatternTree (Ident × PatternTree) pattern_step named_step open_p.Wild
+view_Pattern-Wild = ap pattern_view (sym p.rolls-Wild) ∙ fold-roll-Pattern PatternTree (Ident × PatternTree) pattern_step named_step open_p.Wild
 
 pub view_Pattern-Bind : (how : Binding) (name : Ident) → pattern_view (p.Bind how name) ≡ bind how name
 unfolding pattern_view named_view

@@ -209,13 +209,23 @@ method_param_view p = record { name = p.name; ty = ty_view p.ty }
 abbrev pub method_view : Method → MethodTree
 method_view m =
     record {
-      attrs = m.attrs; is_const = m.is_const; name = m.name; receiver = m.receiver;
-      param = option_map method_param_view m.param; output = option_map ty_view m.output; body = block_view m.body;
+      attrs = m.attrs;
+      is_const = m.is_const;
+      name = m.name;
+      receiver = m.receiver;
+      param = option_map method_param_view m.param;
+      output = option_map ty_view m.output;
+      body = block_view m.body;
     }
 
 abbrev pub item_view : Item → ItemTree
 item_view i =
     record {
-      attrs = i.attrs; params = map param_view i.params; trait_path = option_map path_view i.trait_path; ty = ty_view i.ty;
-      predicates = map predicate_view i.predicates; assocs = map assoc_view i.assocs; methods = map method_view i.methods;
+      attrs = i.attrs;
+      params = map param_view i.params;
+      trait_path = option_map path_view i.trait_path;
+      ty = ty_view i.ty;
+      predicates = map predicate_view i.predicates;
+      assocs = map assoc_view i.assocs;
+      methods = map method_view i.methods;
     }

@@ -176,9 +176,15 @@ predicate_trees (type_predicate ls t bs) = join (for_trees emitted ls) (join (ty
 
 -- ---- items
 
+unfoldable pub private_bounds : Trees
+private_bounds = word (codes "private_bounds")
+
+unfoldable pub automatically_derived : Trees
+automatically_derived = word (codes "automatically_derived")
+
 abbrev pub attr_inside : ItemAttr → Trees
-attr_inside attr.AllowPrivateBounds = join (word (codes "allow")) (enclosed Paren (word (codes "private_bounds")))
-attr_inside attr.AutomaticallyDerived = word (codes "automatically_derived")
+attr_inside attr.AllowPrivateBounds = join (word (codes "allow")) (enclosed Paren private_bounds)
+attr_inside attr.AutomaticallyDerived = automatically_derived
 attr_inside attr.Inline = word (codes "inline")
 
 abbrev pub attr_trees : ItemAttr → Trees

@@ -1,11 +1,10 @@
 //! Items to text.
-#![tactic(auto, using(crate::proofs::Laying::print_steps))]
+#![tactic(auto, using(crate::proofs::Lines::line_steps))]
 
-ghost use Rattle.std.specs.Prelude.{◌≡◌, ℕ, List, map, IfOk, OnOk, string_bytes};
-ghost use Rattle.dm_tokens.specs.Layout.{laid_start};
+ghost use Rattle.std.specs.Prelude.{◌≡◌, [], ◌∷◌, ◌++◌, map, true, IfOk, OnOk, string_bytes};
+ghost use Rattle.dm_tokens.specs.Layout.{layout};
 ghost use Rattle.dm_emit.specs.Output.{item_view};
 ghost use Rattle.dm_emit.specs.Tokens.{printed, item_trees};
-ghost use Rattle.dm_emit.specs.Laying as laying;
 
 mod expr;
 mod item;
@@ -31,10 +30,19 @@ pub fn print_items(alloc: Global, items: &[Item<'_>]) -> Result<String, AllocErr
 {
     let mut out = Layout::new(alloc);
     for one in items {
-        item::item(alloc, &mut out, one)?;
-        out.line_end()?;
+        line(alloc, &mut out, one)?;
     }
     Ok(out.into_string())
+}
+
+/// Adds an item and the end of its line, at the start of a line.
+fn line(alloc: Global, out: &mut Layout, one: &Item<'_>) -> Result<(), AllocError>
+    requires { out.now.glued ≡ true }
+    ensures fresh { OnOk result (out.new.glued ≡ true) }
+    ensures text { OnOk result (out.new.text ≡ out.old.text ++ (layout (item_trees (item_view one.now)) ++ 10 ∷ [])) }
+{
+    item::item(alloc, out, one)?;
+    out.line_end()
 }
 
 /// The items, and their text by [print_items].

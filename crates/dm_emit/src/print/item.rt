@@ -18,6 +18,18 @@ use dm_syntax::{GenericParam, Path, Ty, WherePredicate};
 use dm_tokens::{Delim, Layout};
 use std::alloc::{AllocError, Global};
 
+fn private_bounds(out: &mut Layout) -> Result<(), AllocError>
+    ensures { OnOk result (out.new ≡ lay out.old spec.private_bounds) }
+{
+    word(out, "private_bounds")
+}
+
+fn automatically_derived(out: &mut Layout) -> Result<(), AllocError>
+    ensures { OnOk result (out.new ≡ lay out.old spec.automatically_derived) }
+{
+    word(out, "automatically_derived")
+}
+
 fn attr_inside(out: &mut Layout, attr: ItemAttr) -> Result<(), AllocError>
     ensures { OnOk result (out.new ≡ lay out.old (spec.attr_inside attr)) }
 {
@@ -25,10 +37,10 @@ fn attr_inside(out: &mut Layout, attr: ItemAttr) -> Result<(), AllocError>
         ItemAttr::AllowPrivateBounds => {
             word(out, "allow")?;
             open(out, Delim::Paren)?;
-            word(out, "private_bounds")?;
+            private_bounds(out)?;
             close(out, Delim::Paren)
         }
-        ItemAttr::AutomaticallyDerived => word(out, "automatically_derived"),
+        ItemAttr::AutomaticallyDerived => automatically_derived(out),
         ItemAttr::Inline => word(out, "inline"),
     }
 }
@@ -52,7 +64,11 @@ fn attrs(out: &mut Layout, all: &[ItemAttr]) -> Result<(), AllocError>
 }
 
 /// Parameters with commas between them.
-fn joined_params(alloc: Global, out: &mut Layout, all: &[GenericParam<'_>]) -> Result<(), AllocError>
+fn joined_params(
+    alloc: Global,
+    out: &mut Layout,
+    all: &[GenericParam<'_>],
+) -> Result<(), AllocError>
     ensures { OnOk result (out.new ≡ lay out.old (syntax.spaced spec.comma true (map spec.param_trees (map param_view all.now)))) }
 {
     for (i, one) in all.iter().enumerate() {

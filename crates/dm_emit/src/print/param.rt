@@ -11,8 +11,8 @@ ghost use Rattle.dm_emit.specs.Laying.{lay};
 use super::path::ty;
 use super::token::{emitted, lifetime, name, punct, punct_if, stream, word};
 use dm_syntax::{
-    Attribute, Bound, ConstArg, GenericParam, Ty,
-    WherePredicate, write_attributes, write_bounds, write_const, write_for,
+    Attribute, Bound, ConstArg, GenericParam, Ty, WherePredicate, write_attributes, write_bounds,
+    write_const, write_for,
 };
 use dm_tokens::{Layout, Lifetime, Punctuated, TokenStream};
 use std::alloc::{AllocError, Global};
@@ -26,16 +26,18 @@ fn attributes(alloc: Global, out: &mut Layout, all: &[Attribute<'_>]) -> Result<
 }
 
 /// A colon, and bounds with `+` between them.
-fn bounds(
-    alloc: Global,
-    out: &mut Layout,
-    all: &Punctuated<Bound<'_>>,
-) -> Result<(), AllocError>
+fn bounds(alloc: Global, out: &mut Layout, all: &Punctuated<Bound<'_>>) -> Result<(), AllocError>
     ensures { OnOk result (out.new ≡ lay out.old (spec.maybe_bounds_trees (Some (listed bound_view all.now)))) }
 {
     punct(out, ':')?;
     let mut tokens = TokenStream::new(alloc, 0);
-    write_bounds(alloc, &mut tokens, all.items.as_slice(), all.trailing, emitted())?;
+    write_bounds(
+        alloc,
+        &mut tokens,
+        all.items.as_slice(),
+        all.trailing,
+        emitted(),
+    )?;
     stream(out, &tokens)
 }
 

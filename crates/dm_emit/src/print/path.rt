@@ -73,16 +73,24 @@ pub fn path_expr(alloc: Global, out: &mut Layout, expr: &PathExpr<'_>) -> Result
     }
 }
 
-fn qualified(
+#[tactic(auto, using(crate::proofs::Lines::qualified_steps))]
+fn qualified<'a>(
     alloc: Global,
     out: &mut Layout,
-    qself: &QSelf<'_>,
-    path: &Path<'_>,
+    qself: &QSelf<'a>,
+    path: &Path<'a>,
 ) -> Result<(), AllocError>
     ensures { OnOk result (out.new ≡ lay out.old (spec.path_expr_trees (some_self (self_view qself.now).0 (self_view qself.now).1) (path_view path.now))) }
 {
     let mut tokens = TokenStream::new(alloc, 0);
     let segments = path.segments.as_slice();
-    write_qualified(alloc, &mut tokens, qself, path.leading_colon, segments, emitted())?;
+    write_qualified(
+        alloc,
+        &mut tokens,
+        qself,
+        path.leading_colon,
+        segments,
+        emitted(),
+    )?;
     stream(out, &tokens)
 }

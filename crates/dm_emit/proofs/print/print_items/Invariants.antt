@@ -7,5 +7,5 @@ abbrev pub invariant-loop-one : goal.invariant-loop-one
 invariant-loop-one l =
     record {
       fresh : l.out.glued ≡ true;
-      built : l.out.text ++ printed (map item_view (drop l.one-index l.items)) ≡ printed (map item_view l.items)
+      built : l.out.text ++ printed (map item_view (drop l.one-index l.items)) ≡ printed (map item_view l.items);
     }
