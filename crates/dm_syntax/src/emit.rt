@@ -26,7 +26,10 @@ ghost use Rattle.dm_syntax.specs.Tree.{
 };
 ghost use Rattle.dm_syntax.specs.TypeTokens as spec;
 
-use crate::emit_parts::{append, colons_if, group, joint, lifetime, maybe_lifetime, name, punct, punct_if, word, word_if, write_abi, write_attributes, write_const, write_for, write_input_name, write_plain};
+use crate::emit_parts::{
+    append, colons_if, group, joint, lifetime, maybe_lifetime, name, punct, punct_if, word,
+    word_if, write_abi, write_attributes, write_const, write_for, write_input_name, write_plain,
+};
 use crate::plain::{Opaque, PlainPath};
 use crate::ty::{
     BareFn, Bound, FnArg, GenericArgument, Path, PathArguments, PathSegment, QSelf, TraitBound, Ty,
@@ -193,8 +196,9 @@ fn write_types<'a>(
     punct_if(out, trailing, ',', span)
 }
 
+/// Adds bounds with `+` between them.
 #[cycle(emit)]
-fn write_bounds<'a>(
+pub fn write_bounds<'a>(
     alloc: Global,
     out: &mut TokenStream<'a>,
     all: &[Bound<'a>],
@@ -370,6 +374,21 @@ fn write_behind_self<'a>(
     write_later(alloc, out, all, position, span)
 }
 
+/// Adds `<Self as trait::segments>::later::segments`.
+pub fn write_qualified<'a>(
+    alloc: Global,
+    out: &mut TokenStream<'a>,
+    qself: &QSelf<'a>,
+    leading_colon: bool,
+    segments: &[PathSegment<'a>],
+    span: Span,
+) -> Result<(), AllocError>
+    ensures { OnOk result (out.new.trees ≡ join out.old.trees (spec.qualified_trees span (spec.type_trees (ty_view qself.now.ty)) qself.now.position leading_colon (spec.each_segment span (segments_of (map segment_view segments.now))))) }
+{
+    write_self(alloc, out, qself, span)?;
+    write_behind_self(alloc, out, segments, qself.position, leading_colon, span)
+}
+
 #[cycle(emit)]
 fn write_segments<'a>(
     alloc: Global,
@@ -445,8 +464,9 @@ fn write_segment<'a>(
     write_arguments(alloc, out, &segment.arguments, span)
 }
 
+/// Adds the arguments of a path's segment.
 #[cycle(emit)]
-fn write_arguments<'a>(
+pub fn write_arguments<'a>(
     alloc: Global,
     out: &mut TokenStream<'a>,
     arguments: &PathArguments<'a>,

@@ -30,7 +30,10 @@ pub(crate) fn group<'a>(
     out.push_group(delim, inside)
 }
 
-pub(crate) fn append<'a>(out: &mut TokenStream<'a>, stream: &TokenStream<'a>) -> Result<(), AllocError>
+pub(crate) fn append<'a>(
+    out: &mut TokenStream<'a>,
+    stream: &TokenStream<'a>,
+) -> Result<(), AllocError>
     ensures { OnOk result (out.new.trees ≡ join out.old.trees stream.now.trees) }
 {
     out.extend(stream.piece())
@@ -49,7 +52,12 @@ pub(crate) fn punct(out: &mut TokenStream<'_>, ch: char, span: Span) -> Result<(
     )
 }
 
-pub(crate) fn joint(out: &mut TokenStream<'_>, ch: char, next: char, span: Span) -> Result<(), AllocError>
+pub(crate) fn joint(
+    out: &mut TokenStream<'_>,
+    ch: char,
+    next: char,
+    span: Span,
+) -> Result<(), AllocError>
     ensures { OnOk result (out.new.trees ≡ join out.old.trees (spec.joint ch next span)) }
 {
     put(
@@ -72,7 +80,12 @@ pub(crate) fn colons_if(out: &mut TokenStream<'_>, here: bool, span: Span) -> Re
     Ok(())
 }
 
-pub(crate) fn punct_if(out: &mut TokenStream<'_>, here: bool, ch: char, span: Span) -> Result<(), AllocError>
+pub(crate) fn punct_if(
+    out: &mut TokenStream<'_>,
+    here: bool,
+    ch: char,
+    span: Span,
+) -> Result<(), AllocError>
     ensures { OnOk result (out.new.trees ≡ join out.old.trees (spec.given here (spec.punct ch span))) }
 {
     if here {
@@ -81,7 +94,11 @@ pub(crate) fn punct_if(out: &mut TokenStream<'_>, here: bool, ch: char, span: Sp
     Ok(())
 }
 
-pub(crate) fn word(out: &mut TokenStream<'_>, text: &'static str, span: Span) -> Result<(), AllocError>
+pub(crate) fn word(
+    out: &mut TokenStream<'_>,
+    text: &'static str,
+    span: Span,
+) -> Result<(), AllocError>
     ensures { OnOk result (out.new.trees ≡ join out.old.trees (spec.word text.now span)) }
 {
     put(
@@ -108,7 +125,11 @@ pub(crate) fn word_if(
     Ok(())
 }
 
-pub(crate) fn name<'a>(alloc: Global, out: &mut TokenStream<'a>, name: &Ident<'a>) -> Result<(), AllocError>
+pub(crate) fn name<'a>(
+    alloc: Global,
+    out: &mut TokenStream<'a>,
+    name: &Ident<'a>,
+) -> Result<(), AllocError>
     ensures { OnOk result (out.new.trees ≡ join out.old.trees (spec.name name.now)) }
 {
     put(out, Token::Ident(name.clone_in(alloc)?))
@@ -195,7 +216,8 @@ pub(crate) fn write_lifetimes<'a>(
     punct_if(out, trailing, ',', span)
 }
 
-pub(crate) fn write_for<'a>(
+/// Adds `for<..>`, where there are lifetimes.
+pub fn write_for<'a>(
     alloc: Global,
     out: &mut TokenStream<'a>,
     lifetimes: &Option<Punctuated<Lifetime<'a>>>,
@@ -214,7 +236,8 @@ pub(crate) fn write_for<'a>(
     }
 }
 
-pub(crate) fn write_const<'a>(
+/// Adds a constant.
+pub fn write_const<'a>(
     alloc: Global,
     out: &mut TokenStream<'a>,
     value: &ConstArg<'a>,
@@ -267,7 +290,8 @@ pub fn write_attribute<'a>(
     group(out, Delim::Bracket, inside)
 }
 
-pub(crate) fn write_attributes<'a>(
+/// Adds attributes.
+pub fn write_attributes<'a>(
     alloc: Global,
     out: &mut TokenStream<'a>,
     all: &[Attribute<'a>],

@@ -15,8 +15,8 @@ pub use decl::{
     ConstParam, Data, DataEnum, DataStruct, DataUnion, DeriveInput, Field, Fields, GenericParam,
     Generics, LifetimeParam, TyParam, Variant, WherePredicate,
 };
-pub use emit::{write_path, write_type};
-pub use emit_parts::{write_attribute, write_plain};
+pub use emit::{write_arguments, write_bounds, write_path, write_qualified, write_type};
+pub use emit_parts::{write_attribute, write_attributes, write_const, write_for, write_plain};
 pub use names::check_names;
 pub use parse::parse_decl;
 pub use plain::{AttrArgs, Attribute, ConstArg, Opaque, PlainPath, Vis};

@@ -20,7 +20,7 @@ use std::alloc::{AllocError, Global};
 fn attributes(alloc: Global, out: &mut Layout, all: &[Attribute<'_>]) -> Result<(), AllocError>
     ensures { OnOk result (out.new ≡ lay out.old (syntax.attributes_trees all.now)) }
 {
-    let mut tokens = TokenStream::new(alloc, 0);
+    let mut tokens = TokenStream::new(alloc);
     write_attributes(alloc, &mut tokens, all)?;
     stream(out, &tokens)
 }
@@ -30,7 +30,7 @@ fn bounds(alloc: Global, out: &mut Layout, all: &Punctuated<Bound<'_>>) -> Resul
     ensures { OnOk result (out.new ≡ lay out.old (spec.maybe_bounds_trees (Some (listed bound_view all.now)))) }
 {
     punct(out, ':')?;
-    let mut tokens = TokenStream::new(alloc, 0);
+    let mut tokens = TokenStream::new(alloc);
     write_bounds(
         alloc,
         &mut tokens,
@@ -110,7 +110,7 @@ fn default_const(
         None => Ok(()),
         Some(value) => {
             punct(out, '=')?;
-            let mut tokens = TokenStream::new(alloc, 0);
+            let mut tokens = TokenStream::new(alloc);
             write_const(alloc, &mut tokens, value, emitted())?;
             stream(out, &tokens)
         }
@@ -150,7 +150,7 @@ fn for_lifetimes(
 ) -> Result<(), AllocError>
     ensures { OnOk result (out.new ≡ lay out.old (syntax.for_trees spec.emitted all.now)) }
 {
-    let mut tokens = TokenStream::new(alloc, 0);
+    let mut tokens = TokenStream::new(alloc);
     write_for(alloc, &mut tokens, all, emitted())?;
     stream(out, &tokens)
 }

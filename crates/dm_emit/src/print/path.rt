@@ -18,7 +18,7 @@ use std::alloc::{AllocError, Global};
 pub fn ty(alloc: Global, out: &mut Layout, ty: &Ty<'_>) -> Result<(), AllocError>
     ensures { OnOk result (out.new ≡ lay out.old (syntax.type_trees (ty_view ty.now))) }
 {
-    let mut tokens = TokenStream::new(alloc, 0);
+    let mut tokens = TokenStream::new(alloc);
     write_type(alloc, &mut tokens, ty)?;
     stream(out, &tokens)
 }
@@ -59,7 +59,7 @@ fn arguments(
     if let PathArguments::Absent = arguments {
         return Ok(());
     }
-    let mut tokens = TokenStream::new(alloc, 0);
+    let mut tokens = TokenStream::new(alloc);
     write_arguments(alloc, &mut tokens, arguments, emitted())?;
     stream(out, &tokens)
 }
@@ -82,7 +82,7 @@ fn qualified<'a>(
 ) -> Result<(), AllocError>
     ensures { OnOk result (out.new ≡ lay out.old (spec.path_expr_trees (some_self (self_view qself.now).0 (self_view qself.now).1) (path_view path.now))) }
 {
-    let mut tokens = TokenStream::new(alloc, 0);
+    let mut tokens = TokenStream::new(alloc);
     let segments = path.segments.as_slice();
     write_qualified(
         alloc,
