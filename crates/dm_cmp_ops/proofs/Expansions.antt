@@ -83,7 +83,12 @@ pub expanded : (d : Declaration) (i : ItemTree) (text : List ℕ) → IsSpelled 
 expanded d i text s small is t =
     let P : ItemTree → Type 0 = IsPartialEq d in
     let whole : IsPartialEq d (item d) = record {
-      attrs = refl; params = refl; trait_path = refl; ty = refl; predicates = refl; assocs = refl;
+      attrs = refl;
+      params = refl;
+      trait_path = refl;
+      ty = refl;
+      predicates = refl;
+      assocs = refl;
       methods = are-methods d (spelled-named d s) small;
     } in
     record { item = i; one = refl; is_partial_eq = subst P (sym is) whole; text_is = t }

@@ -33,8 +33,9 @@ all_examined : (name : Text) (s : Skip) (xs : List Attribute) → with_all name 
 all_examined name s [] = refl
 all_examined name s (a ∷ xs) =
     elim (is_examined name a) as (λ v. with_all name (cond v (with_one_more s a) s) xs ≡ with_examined s (cond v (a ∷ filter (is_examined name) xs) (filter (is_examined name) xs))) [
-      true ↦ all_examined name (with_one_more s a) xs
-    | false ↦ all_examined name s xs ]
+      | true ↦ all_examined name (with_one_more s a) xs
+      | false ↦ all_examined name s xs
+    ]
 
 pub all_skip : (name : Text) (xs : List Attribute) → with_all name no xs ≡ skip xs name
 all_skip name xs = all_examined name no xs ∙ examined_among (filter (is_examined name) xs)

@@ -166,8 +166,13 @@ method_name Unequal = codes "ne"
 abbrev pub method : Comparing → Declaration → MethodTree
 method c d =
     record {
-      attrs = Inline ∷ []; is_const = false; name = word (method_name c); receiver = Some Ref;
-      param = Some (record { name = word (codes "__other"); ty = ref_self }); output = Some (name_type (word (codes "bool"))); body = body c d;
+      attrs = Inline ∷ [];
+      is_const = false;
+      name = word (method_name c);
+      receiver = Some Ref;
+      param = Some (record { name = word (codes "__other"); ty = ref_self });
+      output = Some (name_type (word (codes "bool")));
+      body = body c d;
     }
 
 -- `ne` too exactly where some variant is compared
@@ -177,6 +182,11 @@ methods d = cond (some_compared (cases d)) (method Equal d ∷ method Unequal d 
 abbrev pub item : Declaration → ItemTree
 item d =
     record {
-      attrs = AllowPrivateBounds ∷ AutomaticallyDerived ∷ []; params = []; trait_path = Some partial_eq_path; ty = implementor d;
-      predicates = []; assocs = []; methods = methods d;
+      attrs = AllowPrivateBounds ∷ AutomaticallyDerived ∷ [];
+      params = [];
+      trait_path = Some partial_eq_path;
+      ty = implementor d;
+      predicates = [];
+      assocs = [];
+      methods = methods d;
     }

@@ -53,11 +53,7 @@ fn neutral<'a>(comparing: Comparing) -> Expr<'a>
     Expr::Bool(neutral_of(comparing))
 }
 
-fn numbered_name<'a>(
-    alloc: Global,
-    operand: Operand,
-    n: usize,
-) -> Result<Box<Expr<'a>>, AllocError>
+fn numbered_name<'a>(alloc: Global, operand: Operand, n: usize) -> Result<Box<Expr<'a>>, AllocError>
     ensures { IfOk result (λ b. expr_view b.value ≡ spec.name (naming operand n)) }
 {
     let ident = numbered(alloc, operand, n)?;

@@ -65,10 +65,7 @@ pub(crate) fn partial_eq_path<'a>(alloc: Global) -> Result<Path<'a>, AllocError>
 }
 
 /// The declared type.
-pub(crate) fn implementor<'a>(
-    alloc: Global,
-    input: &DeriveInput<'a>,
-) -> Result<Ty<'a>, AllocError>
+pub(crate) fn implementor<'a>(alloc: Global, input: &DeriveInput<'a>) -> Result<Ty<'a>, AllocError>
     ensures { IfOk result (λ t. ty_view t ≡ spec.implementor (declaration_view input.now)) }
 {
     let ident = input.ident.clone_in(alloc)?;

@@ -43,10 +43,7 @@ pub(crate) fn numbered<'a>(
 fn bound<'a>(alloc: Global, operand: Operand, n: usize) -> Result<Pattern<'a>, AllocError>
     ensures { IfOk result (λ p. pattern_view p ≡ bind Plain (heads.word (naming operand n))) }
 {
-    Ok(Pattern::Bind(
-        Binding::Plain,
-        numbered(alloc, operand, n)?,
-    ))
+    Ok(Pattern::Bind(Binding::Plain, numbered(alloc, operand, n)?))
 }
 
 fn binding<'a>(
@@ -145,11 +142,7 @@ fn side_of_fields<'a>(
         FieldsRef::Named(all) => {
             let items = all.items.as_slice();
             let rest = some_skipped_field(items);
-            Ok(Pattern::Named(
-                path,
-                named_bindings(alloc, operand, items)?,
-                rest,
-            ))
+            Ok(Pattern::Named(path, named_bindings(alloc, operand, items)?, rest))
         }
         FieldsRef::Unnamed(all) => Ok(Pattern::Tuple(
             path,

@@ -36,7 +36,7 @@ module _ (text : List ℕ) (stream : Stream) (are : IsTreesOf text stream.trees)
   not-spelled l NoMemory h = tt
   not-spelled l (Refused r) h = (
     λ d g named. h.none d (of-stream d g),
-    subst (λ n. r ≡ record { kind = kind.NotYet; span = record { start = 0; «end» = n } }) l (refusal-of r _ _ h.is_kind h.is_whole)
+    subst (λ n. r ≡ record { kind = kind.NotYet; span = record { start = 0; «end» = n } }) l (refusal-of r _ _ h.is_kind h.is_whole),
   )
 
   pub not-named : (d : Declaration) → IsTheDeclaration d stream.trees → ¬ (Named d) → IsUnread text

@@ -5,10 +5,12 @@ use std::process::Abort;
 const INPUT: &[u8] = b"PartialEq\nstruct P(i32);";
 
 /// The implementation for `struct P(i32);`.
-const ONE_FIELD: &[u8] = b"# [allow (private_bounds)] # [automatically_derived] impl derive_more :: core :: cmp :: PartialEq for P { # [inline] fn eq (& self , __other : & Self) -> bool { match (self , __other) { (Self (__self_0 ,) , Self (__other_0 ,)) => { __self_0 == __other_0 } , } } # [inline] fn ne (& self , __other : & Self) -> bool { match (self , __other) { (Self (__self_0 ,) , Self (__other_0 ,)) => { __self_0 != __other_0 } , } } }\n";
+const ONE_FIELD: &[u8] =
+    b"# [allow (private_bounds)] # [automatically_derived] impl derive_more :: core :: cmp :: PartialEq for P { # [inline] fn eq (& self , __other : & Self) -> bool { match (self , __other) { (Self (__self_0 ,) , Self (__other_0 ,)) => { __self_0 == __other_0 } , } } # [inline] fn ne (& self , __other : & Self) -> bool { match (self , __other) { (Self (__self_0 ,) , Self (__other_0 ,)) => { __self_0 != __other_0 } , } } }\n";
 
 /// The implementation for `struct P(A, B);`.
-const TWO_FIELDS: &[u8] = b"# [allow (private_bounds)] # [automatically_derived] impl derive_more :: core :: cmp :: PartialEq for P { # [inline] fn eq (& self , __other : & Self) -> bool { match (self , __other) { (Self (__self_0 , __self_1 ,) , Self (__other_0 , __other_1 ,)) => { __self_0 == __other_0 && __self_1 == __other_1 } , } } # [inline] fn ne (& self , __other : & Self) -> bool { match (self , __other) { (Self (__self_0 , __self_1 ,) , Self (__other_0 , __other_1 ,)) => { __self_0 != __other_0 || __self_1 != __other_1 } , } } }\n";
+const TWO_FIELDS: &[u8] =
+    b"# [allow (private_bounds)] # [automatically_derived] impl derive_more :: core :: cmp :: PartialEq for P { # [inline] fn eq (& self , __other : & Self) -> bool { match (self , __other) { (Self (__self_0 , __self_1 ,) , Self (__other_0 , __other_1 ,)) => { __self_0 == __other_0 && __self_1 == __other_1 } , } } # [inline] fn ne (& self , __other : & Self) -> bool { match (self , __other) { (Self (__self_0 , __self_1 ,) , Self (__other_0 , __other_1 ,)) => { __self_0 != __other_0 || __self_1 != __other_1 } , } } }\n";
 
 /// A source and a sink, and how they fail.
 #[derive(Clone, Copy)]
@@ -50,7 +52,10 @@ fn implementations(rt: HostRuntime) -> Result<(), AllocError> {
         (b"PartialEq\r\nstruct P(i32);".as_slice(), ONE_FIELD),
         (b"PartialEq\nstruct P(i32,);\n".as_slice(), ONE_FIELD),
         (b"PartialEq\nstruct P(A, B);".as_slice(), TWO_FIELDS),
-        (b"PartialEq\n\tstruct\r\nP ( A,B , );".as_slice(), TWO_FIELDS),
+        (
+            b"PartialEq\n\tstruct\r\nP ( A,B , );".as_slice(),
+            TWO_FIELDS,
+        ),
     ] {
         let (status, sink) = run(alloc, &[], sound(input))?;
         assert!(rt; status == Status::Done && sink.written() == text);
@@ -62,15 +67,42 @@ fn implementations(rt: HostRuntime) -> Result<(), AllocError> {
 fn refusals(rt: HostRuntime) -> Result<(), AllocError> {
     let alloc = rt.alloc();
     for (input, line) in [
-        (b"PartialEq\nstruct P<T>(T);".as_slice(), b"NotYet 0..15: form is not built yet\n".as_slice()),
-        (b"PartialEq\n".as_slice(), b"NotYet 0..0: form is not built yet\n".as_slice()),
-        (b"PartialEq\nstruct P();".as_slice(), b"NotYet 0..11: form is not built yet\n".as_slice()),
-        (b"PartialEq\nstruct P(A)".as_slice(), b"NotYet 0..11: form is not built yet\n".as_slice()),
-        (b"PartialEq\nstruct P(fn);".as_slice(), b"NotYet 0..13: form is not built yet\n".as_slice()),
-        (b"PartialEq\nstruct __P(A);".as_slice(), b"NotYet 0..14: form is not built yet\n".as_slice()),
-        (b"PartialEq\nstruct derive_more(A);".as_slice(), b"NotYet 0..22: form is not built yet\n".as_slice()),
-        (b"Hash\nstruct S;".as_slice(), b"UnknownTrait 0..0: no derive of this name\n".as_slice()),
-        (b"partialeq\nstruct P(A);".as_slice(), b"UnknownTrait 0..0: no derive of this name\n".as_slice()),
+        (
+            b"PartialEq\nstruct P<T>(T);".as_slice(),
+            b"NotYet 0..15: form is not built yet\n".as_slice(),
+        ),
+        (
+            b"PartialEq\n".as_slice(),
+            b"NotYet 0..0: form is not built yet\n".as_slice(),
+        ),
+        (
+            b"PartialEq\nstruct P();".as_slice(),
+            b"NotYet 0..11: form is not built yet\n".as_slice(),
+        ),
+        (
+            b"PartialEq\nstruct P(A)".as_slice(),
+            b"NotYet 0..11: form is not built yet\n".as_slice(),
+        ),
+        (
+            b"PartialEq\nstruct P(fn);".as_slice(),
+            b"NotYet 0..13: form is not built yet\n".as_slice(),
+        ),
+        (
+            b"PartialEq\nstruct __P(A);".as_slice(),
+            b"NotYet 0..14: form is not built yet\n".as_slice(),
+        ),
+        (
+            b"PartialEq\nstruct derive_more(A);".as_slice(),
+            b"NotYet 0..22: form is not built yet\n".as_slice(),
+        ),
+        (
+            b"Hash\nstruct S;".as_slice(),
+            b"UnknownTrait 0..0: no derive of this name\n".as_slice(),
+        ),
+        (
+            b"partialeq\nstruct P(A);".as_slice(),
+            b"UnknownTrait 0..0: no derive of this name\n".as_slice(),
+        ),
     ] {
         let (status, sink) = run(alloc, &[], sound(input))?;
         assert!(rt; status == Status::Refused && sink.written() == line);
@@ -81,7 +113,11 @@ fn refusals(rt: HostRuntime) -> Result<(), AllocError> {
 #[test]
 fn bad_inputs(rt: HostRuntime) -> Result<(), AllocError> {
     let alloc = rt.alloc();
-    for input in [b"PartialEq".as_slice(), b"".as_slice(), b"PartialEq\nstruct P(\xff);".as_slice()] {
+    for input in [
+        b"PartialEq".as_slice(),
+        b"".as_slice(),
+        b"PartialEq\nstruct P(\xff);".as_slice(),
+    ] {
         let (status, sink) = run(alloc, &[], sound(input))?;
         assert!(rt; status == Status::BadInput && sink.written() == b"".as_slice());
     }

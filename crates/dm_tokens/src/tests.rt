@@ -176,7 +176,10 @@ fn adds_to_a_layout(rt: HostRuntime) -> Result<(), Fail> {
     text.token(&Token::Ident(ident("x", true)))?;
     text.stream(&three_words(alloc)?)?;
     text.piece(three_words(alloc)?.piece())?;
-    assert_eq!(rt; text.into_string().as_str(), "fn f ('a) -> 1\nr#x a b c a b c");
+    assert_eq!(rt;
+        text.into_string().as_str(),
+        "fn f ('a) -> 1\nr#x a b c a b c"
+    );
     Ok(())
 }
 
