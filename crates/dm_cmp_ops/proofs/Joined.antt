@@ -1,10 +1,13 @@
 -- Steps that a few of the builders take, beside those of all.
 use Rattle.std.proofs.Common.{◌≡◌, List, [], ◌∷◌, ◌++◌, Bool, true, false, cond, append_assoc, map, None, ap, ◌∙◌}
+use Rattle.std.specs.declared.boxed.Box.{Box}
+use Rattle.std.specs.declared.alloc.Global.{Global}
 use Rattle.dm_tokens.specs.declared.tokens.Span.{Span}
+use Rattle.dm_syntax.specs.declared.ty.Ty.{Ty}
 use Rattle.dm_syntax.specs.declared.ty.Path.{Path}
 use Rattle.dm_syntax.specs.declared.ty.TyNode.TheVariants as nodes
-use Rattle.dm_syntax.specs.Tree.{ty_view, path_view, type_tree, path, no_self}
-use Rattle.dm_syntax.proofs.View.{view-Ty, view_TyNode-Path}
+use Rattle.dm_syntax.specs.Tree.{ty_view, path_view, type_tree, path, reference, no_self}
+use Rattle.dm_syntax.proofs.View.{view-Ty, view_TyNode-Path, view_TyNode-Reference}
 use Rattle.dm_emit.specs.declared.expr.Expr.{Expr}
 use Rattle.dm_emit.specs.declared.expr.Expr.TheVariants as exprs
 use Rattle.dm_emit.specs.Output.{ExprTree, expr_view, exprs_of, call}
@@ -19,7 +22,11 @@ test_joined front es false x = simp append_assoc
 pub view_plain_type : (q : Path) (s : Span) → ty_view (record { node = nodes.Path None q; span = s }) ≡ type_tree (path no_self (path_view q)) s
 view_plain_type q s = view-Ty (record { node = nodes.Path None q; span = s }) ∙ ap (λ m. type_tree m s) (view_TyNode-Path None q)
 
+pub view_plain_reference : (t : Box Ty Global) (s : Span) →
+    ty_view (record { node = nodes.Reference None false t; span = s }) ≡ type_tree (reference None false (ty_view t.value)) s
+view_plain_reference t s = view-Ty (record { node = nodes.Reference None false t; span = s }) ∙ ap (λ m. type_tree m s) (view_TyNode-Reference None false t)
+
 pub view_plain_call : (q : Path) (es : List Expr) → expr_view (exprs.Call (record { qself = None; path = q }) es) ≡ call no_self (path_view q) (exprs_of (map expr_view es))
 view_plain_call q es = view_Expr-Call (record { qself = None; path = q }) es
 
-pub ruleset joined_steps = (builder_steps, test_joined, view_plain_type, view_plain_call)
+pub ruleset joined_steps = (builder_steps, test_joined, view_plain_type, view_plain_reference, view_plain_call)

@@ -1,8 +1,8 @@
 //! The head of the implementation of `PartialEq`, and the types that it names.
 #![tactic(auto, using(crate::proofs::Builders::builder_steps))]
 
-ghost use Rattle.std.specs.Prelude.{◌≡◌, codes, IfOk};
-ghost use Rattle.dm_syntax.specs.Tree.{ty_view, path_view, type_tree, path as tree_path, no_self};
+ghost use Rattle.std.specs.Prelude.{◌≡◌, codes, None, false, IfOk};
+ghost use Rattle.dm_syntax.specs.Tree.{ty_view, path_view, type_tree, path as tree_path, reference, no_self};
 ghost use Rattle.dm_syntax.specs.Declarations.{declaration_view};
 ghost use Rattle.dm_emit.specs.Output.{method_param_view};
 ghost use Rattle.dm_cmp_ops.specs.Heads as spec;
@@ -37,15 +37,29 @@ pub(crate) fn word_type<'a>(alloc: Global, name: &'a str) -> Result<Ty<'a>, Allo
     name_type(alloc, word(name))
 }
 
+#[tactic(auto, using(crate::proofs::Joined::joined_steps))]
+fn reference_to<'a>(target: Box<Ty<'a>>) -> Ty<'a>
+    ensures { ty_view result ≡ type_tree (reference None false (ty_view target.entry.value)) spec.emitted }
+{
+    Ty {
+        node: TyNode::Reference(None, false, target),
+        span: nowhere(),
+    }
+}
+
+fn self_type<'a>(alloc: Global) -> Result<Box<Ty<'a>>, AllocError>
+    ensures { IfOk result (λ t. ty_view t.value ≡ spec.self_type) }
+{
+    let this = word_type(alloc, "Self")?;
+    Ok(Box::new(alloc, this)?)
+}
+
 /// `&Self`.
 fn ref_self<'a>(alloc: Global) -> Result<Ty<'a>, AllocError>
     ensures { IfOk result (λ t. ty_view t ≡ spec.ref_self) }
 {
-    let this = Box::new(alloc, word_type(alloc, "Self")?)?;
-    Ok(Ty {
-        node: TyNode::Reference(None, false, this),
-        span: nowhere(),
-    })
+    let target = self_type(alloc)?;
+    Ok(reference_to(target))
 }
 
 /// `__other: &Self`.

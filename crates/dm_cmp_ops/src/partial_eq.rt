@@ -7,9 +7,11 @@ ghost use Rattle.dm_syntax.specs.Tree.{path_view, no_self};
 ghost use Rattle.dm_syntax.specs.Declarations.{declaration_view};
 ghost use Rattle.dm_emit.specs.Output.{expr_view, block_view, method_view, item_view, match_expr, deref, no_arms, call, exprs_of, tuple, expr_then, no_exprs};
 ghost use Rattle.dm_emit.specs.Values as values;
+ghost use Rattle.dm_emit.specs.Tokens.{printed};
 ghost use Rattle.dm_cmp_ops.specs.Heads as heads;
 ghost use Rattle.dm_cmp_ops.specs.Emitted as spec;
 ghost use Rattle.dm_cmp_ops.specs.CaseViews.{case_view, IsCasesOf};
+ghost use Rattle.dm_cmp_ops.specs.Named.{AreSmall};
 ghost use Rattle.dm_cmp_ops.specs.Expanded.{IsExpanded, IsSpelled};
 
 use crate::cases::{CaseRef, cases_of, count_fields, is_enum, some_compared, some_skipped_case};
@@ -157,12 +159,25 @@ fn parts<'a>(
     Ok(made)
 }
 
+fn deref_of<'a>(operand: Box<Expr<'a>>) -> Expr<'a>
+    ensures { expr_view result ≡ deref (expr_view operand.entry.value) }
+{
+    Expr::Deref(operand)
+}
+
+fn this<'a>(alloc: Global) -> Result<Box<Expr<'a>>, AllocError>
+    ensures { IfOk result (λ e. expr_view e.value ≡ spec.name (codes "self")) }
+{
+    let name = word_name(alloc, "self")?;
+    boxed(alloc, name)
+}
+
 /// `*self`.
 fn this_value<'a>(alloc: Global) -> Result<Box<Expr<'a>>, AllocError>
     ensures { IfOk result (λ e. expr_view e.value ≡ deref (spec.name (codes "self"))) }
 {
-    let this = boxed(alloc, word_name(alloc, "self")?)?;
-    boxed(alloc, Expr::Deref(this))
+    let operand = this(alloc)?;
+    boxed(alloc, deref_of(operand))
 }
 
 /// `match *self {}`.
@@ -271,6 +286,31 @@ pub(crate) fn item<'a>(alloc: Global, input: &DeriveInput<'a>) -> Result<Item<'a
     })
 }
 
+/// The fields of each variant can be counted.
+fn counted(alloc: Global, input: &DeriveInput<'_>) -> Result<(), AllocError>
+    ensures { IfOk result (λ _. AreSmall (values.cases (declaration_view input.now))) }
+{
+    let cases = cases_of(alloc, input)?;
+    count_fields(cases.as_slice());
+    Ok(())
+}
+
+fn expansion_of<'a>(alloc: Global, item: Item<'a>) -> Result<Expansion<'a>, AllocError>
+    ensures { IfOk result (λ x. (map item_view x.items ≡ item_view item.entry ∷ []) × (x.text ≡ printed (item_view item.entry ∷ []))) }
+{
+    let items = one(alloc, item)?;
+    with_text(alloc, items)
+}
+
+fn expanded<'a>(alloc: Global, input: &DeriveInput<'a>) -> Result<Expansion<'a>, AllocError>
+    requires { IsSpelled (declaration_view input.now) }
+    ensures { IfOk result (λ x. IsExpanded (declaration_view input.now) (map item_view x.items) x.text) }
+{
+    counted(alloc, input)?;
+    let made = item(alloc, input)?;
+    expansion_of(alloc, made)
+}
+
 /// The implementation of `PartialEq`: `eq`, and `ne` where some variant is compared, each field by field, with their text.
 ///
 /// The declaration is one that the reader gives: a struct whose fields stand between parentheses, without parameters.
@@ -283,8 +323,5 @@ pub fn expand<'a>(
     requires { IsSpelled (declaration_view input.now) }
     ensures { MatchResult result (λ x. IsExpanded (declaration_view input.now) (map item_view x.items) x.text) (λ e. e ≡ NoMemory) }
 {
-    let cases = cases_of(alloc, input)?;
-    count_fields(cases.as_slice());
-    let items = one(alloc, item(alloc, input)?)?;
-    Ok(with_text(alloc, items)?)
+    Ok(expanded(alloc, input)?)
 }
