@@ -1,5 +1,5 @@
 -- What the steps of a derive say of the text.
-use Rattle.std.proofs.Common.{◌≡◌, ℕ, List, map, length, Result, Ok, Err, ◌⊎◌, inl, inr, refl, sym, ap, subst, codes}
+use Rattle.std.proofs.Common.{◌≡◌, ℕ, List, map, Result, Ok, Err, ◌⊎◌, inl, inr}
 use Rattle.std.specs.Prelude.{MatchResult, IfOk, IfErr}
 use Rattle.dm_tokens.specs.declared.tokens.Span.{Span}
 use Rattle.dm_tokens.specs.declared.error.Kind.{Kind}
@@ -16,31 +16,6 @@ use Rattle.dm_emit.specs.declared.print.Expansion.{Expansion}
 use Rattle.dm_emit.specs.Output.{item_view}
 use Rattle.dm_cmp_ops.specs.Expanded.{IsExpanded, IsSpelled}
 use Rattle.dm_derive.specs.Derived.{Answers, IsKnown, Grammar, IsRead, IsUnread, Reads, Derives, Refuses, IsUnknown, IsNotRead}
-
--- a refusal from its parts
-refusal-of : (r : Refusal) (k : Kind) (s : Span) → r.kind ≡ k → r.span ≡ s → r ≡ record { kind = k; span = s }
-refusal-of r k s a b = cc
-
-module _ (text : List ℕ) (stream : Stream) (are : IsTreesOf text stream.trees) (only : AreTheOnly text stream.trees) where
-  -- a declaration with the grammar of the text is spelled by the trees that were lexed
-  of-stream : (d : Declaration) → Grammar text d → DeclarationOf d stream.trees
-  of-stream d g = subst (DeclarationOf d) (only g.trees g.are_trees) g.spelled
-
-  pub is-read : (d : Declaration) → IsTheDeclaration d stream.trees → IsRead text d
-  is-read d h = record {
-    grammar = record { trees = stream.trees; are_trees = are; spelled = h.spelled };
-    only = λ e g. h.only e (of-stream e g);
-  }
-
-  pub not-spelled : stream.limit ≡ length text → (e : Error) → IsRefused e stream → Reads text (Err e)
-  not-spelled l NoMemory h = tt
-  not-spelled l (Refused r) h = (
-    λ d g named. h.none d (of-stream d g),
-    subst (λ n. r ≡ record { kind = kind.NotYet; span = record { start = 0; «end» = n } }) l (refusal-of r _ _ h.is_kind h.is_whole),
-  )
-
-  pub not-named : (d : Declaration) → IsTheDeclaration d stream.trees → ¬ (Named d) → IsUnread text
-  not-named d h bad = λ e g named. bad (subst Named (h.only e (of-stream e g)) named)
 
 pub not-lexed : (text : List ℕ) (e : Error) → IsRefusalOf text e → Reads text (Err e)
 not-lexed text NoMemory h = tt

@@ -1,11 +1,11 @@
 //! From a trait's name and the text of a declaration to implementations.
 #![tactic(auto, using(crate::proofs::Deriving::derive_steps))]
 
-ghost use Rattle.std.specs.Prelude.{◌≡◌, IfOk};
+ghost use Rattle.std.specs.Prelude.{◌≡◌, ◌↔◌, IsTrue, IfOk};
 ghost use Rattle.dm_tokens.specs.declared.error.Error.TheVariants as error;
 ghost use Rattle.dm_tokens.specs.declared.error.Kind.TheVariants as kind;
 ghost use Rattle.dm_tokens.specs.Nesting.{not_yet};
-ghost use Rattle.dm_derive.specs.Derived.{Answers, Derives, Reads};
+ghost use Rattle.dm_derive.specs.Derived.{Answers, Derives, IsKnown, Reads};
 
 use dm_cmp_ops::partial_eq;
 use dm_emit::Expansion;
@@ -26,9 +26,25 @@ pub fn derive_text<'a>(
     ensures derives { Derives trait_name.now decl.now result }
     ensures answers { IfOk result (λ x. Answers trait_name.now decl.now x.text) }
 {
-    if trait_name != "PartialEq" {
-        return Err(unknown_trait());
+    if is_known(trait_name) {
+        derive_known(alloc, trait_name, decl)
+    } else {
+        Err(unknown_trait())
     }
+}
+
+/// Whether the trait of this name is derived.
+fn is_known(trait_name: &str) -> bool
+    ensures { IsTrue result ↔ IsKnown trait_name.now }
+{
+    trait_name == "PartialEq"
+}
+
+fn derive_known<'a>(alloc: Global, trait_name: &str, decl: &'a str) -> Result<Expansion<'a>, Error>
+    requires { IsKnown trait_name.now }
+    ensures derives { Derives trait_name.now decl.now result }
+    ensures answers { IfOk result (λ x. Answers trait_name.now decl.now x.text) }
+{
     match read(alloc, decl) {
         Ok(input) => partial_eq::expand(alloc, &input, trait_name),
         Err(error) => Err(error),
