@@ -1,6 +1,5 @@
 -- Steps that the builders of emitted code take.
-use Rattle.std.proofs.Common.{◌≡◌, List, [], ◌∷◌, ◌++◌, Bool, true, false, map, refl, ap}
-use Rattle.std.proofs.lemmas.Grind.{common_steps}
+use Rattle.std.proofs.Common.{◌≡◌, List, [], ◌∷◌, ◌++◌, Bool, true, false, refl, ap}
 use Rattle.dm_syntax.specs.Tree.{SegmentTree, segment, absent, segments_of, segment_then}
 use Rattle.dm_emit.specs.Values.{Text}
 use Rattle.dm_emit.proofs.View.{view_steps}

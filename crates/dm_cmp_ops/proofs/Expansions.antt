@@ -5,7 +5,7 @@ use Rattle.dm_tokens.specs.declared.tokens.Span.{Span}
 use Rattle.dm_tokens.specs.declared.tokens.Ident.{Ident}
 use Rattle.dm_tokens.specs.Trees.{Trees}
 use Rattle.dm_syntax.specs.Declarations.{Declaration, Listed, FieldTree, ShapeTree, struct_shape, enum_shape, union_shape, named, unnamed, unit}
-use Rattle.dm_syntax.specs.Spells.{DeclarationOf, ShapeOf}
+use Rattle.dm_syntax.specs.Spells.{ShapeOf}
 use Rattle.dm_emit.specs.declared.print.Expansion.{Expansion}
 use Rattle.dm_emit.specs.Output.{ItemTree, item_view}
 use Rattle.dm_emit.specs.Values.{cases}

@@ -1,10 +1,10 @@
 -- The implementation of `PartialEq` but for its bodies.
-use Rattle.std.specs.Prelude.{◌≡◌, ℕ, List, [], ◌∷◌, ◌++◌, Bool, true, false, not, cond, ◌&&◌, ◌||◌, codes, Option, Some, None}
+use Rattle.std.specs.Prelude.{◌≡◌, List, [], ◌∷◌, Bool, true, false, not, ◌&&◌, ◌||◌, codes, Some, None}
 use Rattle.dm_tokens.specs.declared.tokens.Span.{Span}
 use Rattle.dm_tokens.specs.declared.tokens.Ident.{Ident}
 use Rattle.dm_syntax.specs.Tree.{TypeTree, type_tree, path, reference, PathTree, path_tree, SegmentTrees, segment, no_segments, segment_then, absent, no_self}
 use Rattle.dm_syntax.specs.Declarations.{Declaration, FieldTree}
-use Rattle.dm_emit.specs.Output.{ItemTree, MethodTree, ParamOfMethod}
+use Rattle.dm_emit.specs.Output.{ItemTree, MethodTree}
 use Rattle.dm_emit.specs.Values.{Text, Case, cases, field_list}
 use Rattle.dm_emit.specs.declared.item.ItemAttr.TheVariants.{AllowPrivateBounds, AutomaticallyDerived, Inline}
 use Rattle.dm_emit.specs.declared.item.Receiver.TheVariants.{Ref}

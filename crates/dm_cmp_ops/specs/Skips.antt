@@ -1,9 +1,9 @@
 -- Which places an attribute skips: `#[NAME(skip)]` or `#[NAME(ignore)]`, in any delimiters.
-use Rattle.std.specs.Prelude.{ℕ, List, [], ◌∷◌, Bool, true, false, not, ◌&&◌, ◌||◌, cond, codes, filter}
+use Rattle.std.specs.Prelude.{List, [], ◌∷◌, Bool, true, false, not, ◌&&◌, ◌||◌, cond, codes, filter}
 use Rattle.std.specs.Str.{bytes_eq}
 use Rattle.dm_tokens.specs.declared.tokens.Ident.{Ident}
 use Rattle.dm_tokens.specs.declared.tokens.Token.TheVariants as t
-use Rattle.dm_tokens.specs.Trees.{Trees, no_trees, token, group}
+use Rattle.dm_tokens.specs.Trees.{Trees, no_trees, token}
 use Rattle.dm_syntax.specs.declared.plain.Attribute.{Attribute}
 use Rattle.dm_syntax.specs.declared.plain.AttrArgs.{AttrArgs}
 use Rattle.dm_syntax.specs.declared.plain.AttrArgs.TheVariants as args

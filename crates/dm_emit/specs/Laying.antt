@@ -1,5 +1,4 @@
 -- The layout of trees, step by step.
-use Rattle.std.specs.Prelude.{List}
 use Rattle.dm_tokens.specs.declared.tokens.Delim.{Delim}
 use Rattle.dm_tokens.specs.declared.tokens.Token.{Token}
 use Rattle.dm_tokens.specs.declared.tokens.Entry.TheVariants as entry

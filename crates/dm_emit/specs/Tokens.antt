@@ -1,15 +1,13 @@
 -- The tokens of implementations, and their text. Puncts, words and delimiters that no part brings along stand at the range 0..0.
 -- `::`, `->`, `=>`, `==`, `!=`, `&&`, `||` and `..` are joint, other puncts alone.
-use Rattle.std.specs.Prelude.{ℕ, List, [], ◌∷◌, ◌++◌, map, Bool, true, false, cond, codes, Option, Some, None}
+use Rattle.std.specs.Prelude.{ℕ, List, [], ◌∷◌, ◌++◌, map, true, cond, codes, Option, Some, None}
 use Rattle.dm_tokens.specs.declared.seq.Punctuated.{Punctuated}
 use Rattle.dm_tokens.specs.declared.tokens.Span.{Span}
 use Rattle.dm_tokens.specs.declared.tokens.Delim.{Delim}
 use Rattle.dm_tokens.specs.declared.tokens.Delim.TheVariants.{Paren, Bracket, Brace}
-use Rattle.dm_tokens.specs.declared.tokens.Ident.{Ident}
 use Rattle.dm_tokens.specs.declared.tokens.Lifetime.{Lifetime}
-use Rattle.dm_tokens.specs.Trees.{Trees, no_trees, token, group, join}
+use Rattle.dm_tokens.specs.Trees.{Trees, no_trees, join}
 use Rattle.dm_tokens.specs.Layout.{layout}
-use Rattle.dm_syntax.specs.declared.plain.Attribute.{Attribute}
 use Rattle.dm_syntax.specs.declared.plain.ConstArg.{ConstArg}
 use Rattle.dm_syntax.specs.Tree.{TypeTree, path, PathTree, MaybeSelf, BoundTree, bounds_of}
 use Rattle.dm_syntax.specs.Declarations.{Listed, ParamTree, lifetime_param, type_param, const_param, PredicateTree, lifetime_predicate, type_predicate}

@@ -11,7 +11,7 @@ use Rattle.dm_syntax.specs.declared.decl.Field.{Field}
 use Rattle.dm_syntax.specs.declared.ty.TyNode.TheVariants as n
 use Rattle.dm_syntax.specs.declared.ty.PathSegment.{PathSegment}
 use Rattle.dm_syntax.specs.declared.ty.Bound.TheViews.{roll-Path, roll-Ty}
-use Rattle.dm_syntax.specs.Tree.{ty_view, segment_view, type_tree, path, no_self, path_tree, segment, segments_of, absent, path_view, node_view}
+use Rattle.dm_syntax.specs.Tree.{ty_view, segment_view, type_tree, path, no_self, path_tree, segment, segments_of, absent}
 use Rattle.dm_syntax.specs.Declarations.{Listed, FieldTree, field_view}
 use Rattle.dm_syntax.specs.Reading.{first_name, first_word, first_mark, Head, at_name, at_group, at_mark, at_end, if_end, read_head, IsHead, slot_of, named_type, with_first, alone, read_slots}
 use Rattle.dm_syntax.proofs.Fronts.{name_front, mark_front}

@@ -1,5 +1,5 @@
 -- Declarations: the reader reads one exactly where the trees spell it, so there is at most one.
-use Rattle.std.proofs.Common.{◌≡◌, ◌≢◌, ℕ, Bool, true, false, cond, ◌&&◌, ◌==◌, List, [], ◌∷◌, codes, Option, Some, None, IfSome, option_map, refl, sym, ap, ◌∙◌, subst}
+use Rattle.std.proofs.Common.{◌≡◌, ℕ, true, ◌==◌, [], codes, Option, Some, None, IfSome, refl, sym, ap, ◌∙◌, subst}
 use Rattle.std.proofs.lemmas.Bool.{eq-eqb}
 use Rattle.dm_tokens.specs.declared.tokens.Span.{Span}
 use Rattle.dm_tokens.specs.declared.tokens.Ident.{Ident}
@@ -8,8 +8,8 @@ use Rattle.dm_tokens.specs.declared.tokens.Delim.TheVariants.{Paren}
 use Rattle.dm_tokens.specs.declared.tokens.Token.TheVariants as t
 use Rattle.dm_tokens.specs.Trees.{Trees, no_trees, token, group}
 use Rattle.dm_tokens.specs.Cursors.{first_group}
-use Rattle.dm_syntax.specs.Declarations.{Listed, FieldTree, FieldsTree, unnamed, ShapeTree, struct_shape, Declaration}
-use Rattle.dm_syntax.specs.Spells.{is_name, word, NameAt, SlotsOf, TupleStructOf, ShapeOf, no_generics, DeclarationOf, IsTheDeclaration}
+use Rattle.dm_syntax.specs.Declarations.{Listed, FieldTree, unnamed, ShapeTree, struct_shape, Declaration}
+use Rattle.dm_syntax.specs.Spells.{is_name, word, NameAt, TupleStructOf, ShapeOf, no_generics, DeclarationOf, IsTheDeclaration}
 use Rattle.dm_syntax.specs.Reading.{first_name, first_word, first_mark, Head, if_end, at_end, at_mark, at_group, at_name, read_head, read_slots, tuple_struct, with_fields, if_head, read_declaration}
 use Rattle.dm_syntax.proofs.Fronts.{name_gives, word_gives, mark_gives, group_gives, IsMarkAt, IsGroupAt}
 use Rattle.dm_syntax.proofs.Slots.{Slots, slots_give, slots_complete}

@@ -1,5 +1,5 @@
 -- What the first tokens of a list of trees are, where they are read.
-use Rattle.std.proofs.Common.{◌≡◌, ◌≢◌, ℕ, Bool, true, false, cond, not, ◌&&◌, ◌==◌, List, [], ◌∷◌, Option, Some, None, IfSome, refl, sym, ap, ◌∙◌, subst}
+use Rattle.std.proofs.Common.{◌≡◌, ℕ, Bool, true, false, not, ◌&&◌, ◌==◌, List, Some, None, IfSome, refl, ap, ◌∙◌, subst}
 use Rattle.std.proofs.lemmas.Bool.{cond_both, eqb-true, not-true}
 use Rattle.std.proofs.lemmas.Slice.Eq.{bytes_eq-Decides}
 use Rattle.std.specs.Str.{bytes_eq}
@@ -8,7 +8,7 @@ use Rattle.dm_tokens.specs.declared.tokens.Ident.{Ident}
 use Rattle.dm_tokens.specs.declared.tokens.Punct.{Punct}
 use Rattle.dm_tokens.specs.declared.tokens.Delim.TheVariants.{Paren, Bracket, Brace}
 use Rattle.dm_tokens.specs.declared.tokens.Token.TheVariants as t
-use Rattle.dm_tokens.specs.Trees.{Trees, no_trees, token, group}
+use Rattle.dm_tokens.specs.Trees.{Trees, token, group}
 use Rattle.dm_tokens.specs.Cursors.{first_group}
 use Rattle.dm_syntax.specs.Spells.{is_name, word, NameAt}
 use Rattle.dm_syntax.specs.Reading.{first_name, first_word, first_mark}

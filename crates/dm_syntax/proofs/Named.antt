@@ -1,5 +1,5 @@
 -- Whether a declaration's names may stand.
-use Rattle.std.proofs.Common.{◌≡◌, ◌≢◌, Bool, true, false, not, codes, refl, sym, ap, ◌∙◌, nat_eq}
+use Rattle.std.proofs.Common.{◌≡◌, ◌≢◌, true, false, not, codes, refl, ap, nat_eq}
 use Rattle.std.proofs.lemmas.Grind.{common_steps}
 use Rattle.std.proofs.lemmas.Bool.{both_ways, not-true}
 use Rattle.std.specs.List.{starts_with}

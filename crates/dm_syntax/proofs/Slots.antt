@@ -1,5 +1,5 @@
 -- Lists of fields: the reader reads one exactly where the trees spell it.
-use Rattle.std.proofs.Common.{◌≡◌, ◌≢◌, ℕ, Bool, true, false, cond, ◌&&◌, ◌==◌, List, [], ◌∷◌, Option, Some, None, IfSome, option_map, refl, sym, ap, ◌∙◌, subst}
+use Rattle.std.proofs.Common.{◌≡◌, ◌≢◌, Bool, true, false, cond, ◌&&◌, ◌==◌, List, [], ◌∷◌, Option, Some, None, IfSome, option_map, refl, sym, ap, ◌∙◌}
 use Rattle.std.proofs.lemmas.Bool.{cond_both, eqb-true, eq-eqb}
 use Rattle.dm_tokens.specs.declared.tokens.Span.{Span}
 use Rattle.dm_tokens.specs.declared.tokens.Ident.{Ident}
@@ -7,11 +7,11 @@ use Rattle.dm_tokens.specs.declared.tokens.Punct.{Punct}
 use Rattle.dm_tokens.specs.declared.tokens.Token.TheVariants as t
 use Rattle.dm_tokens.specs.Trees.{Trees, no_trees, token, group}
 use Rattle.dm_tokens.specs.Cursors.{first_span}
-use Rattle.dm_syntax.specs.Tree.{TypeTree, type_tree, TypeNode, path, no_self, some_self, MaybeSelf, PathTree, path_tree, SegmentTree, segment, SegmentTrees, no_segments, segment_then, absent}
+use Rattle.dm_syntax.specs.Tree.{TypeTree, type_tree, path, no_self, path_tree, segment, no_segments, segment_then, absent}
 use Rattle.dm_syntax.specs.Declarations.{Listed, FieldTree}
-use Rattle.dm_syntax.specs.Spells.{is_name, NameAt, IsEnd, CommaThen, FirstThen, ItemsLeft, ListOf, SegmentAt, SegmentsAt, PathAt, PathTypeAt, NodeAt, TypeParts, TypeAt, range_of, SlotAt, SlotsOf}
+use Rattle.dm_syntax.specs.Spells.{is_name, NameAt, IsEnd, CommaThen, FirstThen, ItemsLeft, ListOf, TypeAt, range_of, SlotAt, SlotsOf}
 use Rattle.dm_syntax.specs.Reading.{first_name, first_mark, named_type, slot_of, with_first, alone, behind_comma, read_slots}
-use Rattle.dm_syntax.proofs.Fronts.{left_true, right_true, name_gives, name_front, IsMarkAt, mark_gives, mark_front}
+use Rattle.dm_syntax.proofs.Fronts.{left_true, right_true, name_front, IsMarkAt, mark_front}
 
 -- ---- one field
 

@@ -3,7 +3,6 @@ use Rattle.std.proofs.Common.{◌≡◌, ℕ, List, [], Option, Some, None, refl
 use Rattle.dm_tokens.specs.declared.seq.Punctuated.{Punctuated}
 use Rattle.dm_tokens.specs.declared.tokens.Span.{Span}
 use Rattle.dm_tokens.specs.declared.tokens.Ident.{Ident}
-use Rattle.dm_tokens.specs.declared.error.Refusal.{Refusal}
 use Rattle.dm_tokens.specs.declared.error.Kind.TheVariants as kind
 use Rattle.dm_tokens.specs.Trees.{Trees, Stream}
 use Rattle.dm_syntax.specs.declared.plain.Attribute.{Attribute}
@@ -12,9 +11,9 @@ use Rattle.dm_syntax.specs.declared.decl.Fields.TheVariants as fields
 use Rattle.dm_syntax.specs.declared.decl.Data.TheVariants as shapes
 use Rattle.dm_syntax.specs.declared.decl.Generics.{Generics}
 use Rattle.dm_syntax.specs.declared.decl.DeriveInput.{DeriveInput}
-use Rattle.dm_syntax.specs.Declarations.{Listed, FieldTree, listed, field_view, generics_view, declaration_view, Declaration, unnamed, struct_shape, GenericsTree}
+use Rattle.dm_syntax.specs.Declarations.{Listed, FieldTree, listed, field_view, generics_view, declaration_view, unnamed, struct_shape}
 use Rattle.dm_syntax.specs.Spells.{no_generics, IsTheDeclaration, IsNotYet, DeclarationOf}
-use Rattle.dm_syntax.specs.Reading.{Head, IsHead, read_head, read_slots, if_head, with_fields, read_declaration}
+use Rattle.dm_syntax.specs.Reading.{IsHead, read_head, read_slots, if_head, with_fields, read_declaration}
 use Rattle.dm_syntax.proofs.Declared.{is_the_declaration, no_declaration}
 
 pub no_head : (ts : Trees) → read_head ts ≡ None → None ≡ read_declaration ts

@@ -1,20 +1,16 @@
 -- Reading a declaration: what each function of the reader gives.
-use Rattle.std.specs.Prelude.{◌≡◌, ℕ, Bool, true, false, cond, not, ◌&&◌, nat_eq, List, [], ◌∷◌, codes, Option, Some, None, option_map, Result, Ok, Err}
+use Rattle.std.specs.Prelude.{◌≡◌, ℕ, Bool, true, false, cond, not, ◌&&◌, nat_eq, List, [], ◌∷◌, codes, Option, Some, None, option_map}
 use Rattle.std.specs.Str.{bytes_eq}
 use Rattle.dm_tokens.specs.declared.tokens.Span.{Span}
 use Rattle.dm_tokens.specs.declared.tokens.Ident.{Ident}
 use Rattle.dm_tokens.specs.declared.tokens.Punct.{Punct}
 use Rattle.dm_tokens.specs.declared.tokens.Delim.TheVariants.{Paren}
 use Rattle.dm_tokens.specs.declared.tokens.Token.TheVariants as t
-use Rattle.dm_tokens.specs.declared.error.Error.{Error}
-use Rattle.dm_tokens.specs.declared.error.Error.TheVariants as error
-use Rattle.dm_tokens.specs.declared.error.Refusal.{Refusal}
-use Rattle.dm_tokens.specs.declared.error.Kind.TheVariants as kind
-use Rattle.dm_tokens.specs.Trees.{Trees, no_trees, token, group, Stream}
+use Rattle.dm_tokens.specs.Trees.{Trees, no_trees, token}
 use Rattle.dm_tokens.specs.Cursors.{first_ident, first_punct, first_group}
 use Rattle.dm_syntax.specs.Tree.{TypeTree, type_tree, path, no_self, path_tree, segment, no_segments, segment_then, absent}
 use Rattle.dm_syntax.specs.Declarations.{Listed, FieldTree, unnamed, struct_shape, Declaration}
-use Rattle.dm_syntax.specs.Spells.{is_name, DeclarationOf, no_generics}
+use Rattle.dm_syntax.specs.Spells.{is_name, no_generics}
 
 -- ---- one token
 

@@ -1,5 +1,5 @@
 -- Which trees a declaration is spelled by: one case for each row of its grammar. A row that isn't read yet has no trees.
-use Rattle.std.specs.Prelude.{◌≡◌, ◌≢◌, ℕ, Bool, true, false, not, ◌&&◌, ◌||◌, IsTrue, List, [], ◌∷◌, codes, Option, Some, None, nat_eq}
+use Rattle.std.specs.Prelude.{◌≡◌, ◌≢◌, ℕ, Bool, true, false, not, ◌&&◌, ◌||◌, IsTrue, List, [], ◌∷◌, codes, None, nat_eq}
 use Rattle.std.specs.Str.{bytes_eq}
 use Rattle.std.specs.List.{list_any, list_all, starts_with}
 use Rattle.dm_tokens.specs.declared.tokens.Span.{Span}
@@ -14,7 +14,7 @@ use Rattle.dm_tokens.specs.declared.error.Refusal.{Refusal}
 use Rattle.dm_tokens.specs.declared.error.Kind.TheVariants as kind
 use Rattle.dm_tokens.specs.Cursors.{first_span}
 use Rattle.dm_syntax.specs.Tree.{TypeTree, type_tree, TypeNode, path, no_self, MaybeSelf, PathTree, path_tree, SegmentTree, segment, SegmentTrees, no_segments, segment_then, absent}
-use Rattle.dm_syntax.specs.Declarations.{Listed, FieldTree, FieldsTree, unnamed, ShapeTree, struct_shape, GenericsTree, Declaration}
+use Rattle.dm_syntax.specs.Declarations.{Listed, FieldTree, unnamed, ShapeTree, struct_shape, GenericsTree, Declaration}
 
 -- ---- names
 

@@ -1,10 +1,10 @@
 -- Fronts of a text, by bytes and by characters.
-use Rattle.std.specs.Prelude.{◌≡◌, ℕ, zero, suc, ◌+◌, ◌<◌, ◌≤◌, Bool, true, false, List, [], ◌∷◌, ◌++◌, length, take, drop, encode_utf8, refl, cond, Option, Some, None}
-use Rattle.std.proofs.Common.{ap, ◌∙◌, sym, subst, arith, length-drop, length-append, length-take, zero-add, append-nil}
-use Rattle.std.proofs.Math.Seq.{take-add, take-append_seam, drop-append_seam}
-use Rattle.std.proofs.lemmas.Str.{drop_past_char, IsUtf8-past_char, IsUtf8-drop, IsCharBoundary-past_char, IsCharBoundary-start, length-encode, len_utf8_bounds, chars-nil, encodes-append}
+use Rattle.std.specs.Prelude.{◌≡◌, ℕ, zero, suc, ◌+◌, Bool, true, false, List, [], ◌∷◌, ◌++◌, length, take, drop, encode_utf8, refl, cond}
+use Rattle.std.proofs.Common.{ap, ◌∙◌, sym, subst, arith, length-take, zero-add, append-nil}
+use Rattle.std.proofs.Math.Seq.{take-add, take-append_seam}
+use Rattle.std.proofs.lemmas.Str.{drop_past_char, IsUtf8-past_char, IsCharBoundary-past_char, IsCharBoundary-start, length-encode, chars-nil, encodes-append}
 use Rattle.std.specs.Char.{len_utf8}
-use Rattle.std.specs.Str.{chars, encode_utf8_all, IsUtf8, IsCharBoundary}
+use Rattle.std.specs.Str.{chars, encode_utf8_all, IsUtf8}
 use Rattle.dm_tokens.specs.Lexemes.{IsFront, run, blank, is_space}
 
 take-next : (n c : ℕ) (cs ds : List ℕ) → drop n cs ≡ c ∷ ds → take (suc n) cs ≡ take n cs ++ c ∷ []

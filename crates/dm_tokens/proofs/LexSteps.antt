@@ -1,11 +1,10 @@
 -- Steps over the lexemes of a text.
 use Rattle.std.specs.Prelude.{◌≡◌, ℕ, zero, suc, ◌+◌, ◌-◌, ◌<◌, ◌≤◌, Bool, true, false, List, [], ◌∷◌, ◌++◌, length, take, drop, encode_utf8, refl, cond, Option, Some, None}
-use Rattle.std.proofs.Common.{ap, ◌∙◌, sym, subst, arith, length-drop, length-append, add_assoc, add-zero}
+use Rattle.std.proofs.Common.{ap, ◌∙◌, sym, subst, arith, length-drop, length-append, add-zero}
 use Rattle.std.proofs.lemmas.Bool.Decides.{nat_tests}
 use Rattle.std.proofs.lemmas.Str.{length-encode, len_utf8_bounds, len_utf8_ascii, chars-nil, encodes-chars, IsUtf8-drop}
 use Rattle.std.proofs.Math.ListN.{drop_of_length-le}
-use Rattle.std.specs.Char.{len_utf8}
-use Rattle.std.specs.Str.{chars, encode_utf8_all, IsUtf8, IsCharBoundary}
+use Rattle.std.specs.Str.{chars, encode_utf8_all, IsUtf8}
 use Rattle.dm_tokens.specs.declared.tokens.Span.{Span}
 use Rattle.dm_tokens.specs.declared.tokens.Delim.{Delim}
 use Rattle.dm_tokens.specs.declared.tokens.Spacing.{Spacing}
@@ -17,7 +16,7 @@ use Rattle.dm_tokens.specs.declared.lexing.Lexeme.TheVariants as lexeme
 use Rattle.dm_tokens.specs.declared.nesting.Nesting.{Nesting}
 use Rattle.dm_tokens.specs.Trees.{Trees, no_trees, flatten, unflatten, unflatten-flatten}
 use Rattle.dm_tokens.specs.Lexemes.{IsFront, IsLexeme, run, blank, row, lexemes, with_lexeme, one_more, begins_raw, starts_word, goes_on, word, byte_at, opened_by, closed_by, is_punct, punct, spacing_before, open_row, close_row}
-use Rattle.dm_tokens.specs.Nesting.{nest, nest_all, found, Level, IsNesting, IsNested, Takes, After, Advances, IsStep, IsTreesOf, IsRefusalOf, not_yet, at_end, marks}
+use Rattle.dm_tokens.specs.Nesting.{nest, nest_all, found, Level, IsNesting, IsNested, Takes, After, Advances, IsStep, IsTreesOf, IsRefusalOf, not_yet, at_end}
 use Rattle.dm_tokens.proofs.Cuts.{drop-more}
 use Rattle.dm_tokens.proofs.LexChars.{front-length, front-one}
 use Rattle.dm_tokens.proofs.Nestings.{nest_all-sound, nest_all-complete, nesting-flat}

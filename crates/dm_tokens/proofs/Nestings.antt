@@ -1,20 +1,19 @@
 -- The nesting of lexemes, and the entries that were made of them.
-use Rattle.std.specs.Prelude.{◌≡◌, ℕ, zero, suc, ◌+◌, ◌-◌, ◌<◌, Bool, true, false, Option, Some, None, List, [], ◌∷◌, ◌++◌, length, refl}
-use Rattle.std.proofs.Common.{ap, ◌∙◌, sym, subst, append_assoc, append-nil, arith, length-append, set}
+use Rattle.std.specs.Prelude.{◌≡◌, ℕ, ◌+◌, ◌-◌, ◌<◌, Bool, true, false, Option, Some, None, List, [], ◌∷◌, ◌++◌, length, refl}
+use Rattle.std.proofs.Common.{ap, ◌∙◌, sym, append_assoc, append-nil, arith, length-append, set}
 use Rattle.std.proofs.Math.Seq.{set-append_seam}
 use Rattle.dm_tokens.specs.declared.tokens.Span.{Span}
 use Rattle.dm_tokens.specs.declared.tokens.Delim.{Delim}
 use Rattle.dm_tokens.specs.declared.tokens.Delim.TheVariants.{Paren, Bracket, Brace}
 use Rattle.dm_tokens.specs.declared.tokens.Token.{Token}
-use Rattle.dm_tokens.specs.declared.tokens.Entry.{Entry}
 use Rattle.dm_tokens.specs.declared.tokens.Entry.TheVariants as entry
 use Rattle.dm_tokens.specs.declared.lexing.Lexeme.{Lexeme}
 use Rattle.dm_tokens.specs.declared.lexing.Lexeme.TheVariants as lexeme
 use Rattle.dm_tokens.specs.declared.nesting.Nesting.{Nesting}
 use Rattle.dm_tokens.specs.declared.nesting.Opened.{Opened}
-use Rattle.dm_tokens.specs.Trees.{Trees, no_trees, token, group, join, flatten, join-no_trees, join_assoc, unflatten, unflatten-flatten}
+use Rattle.dm_tokens.specs.Trees.{Trees, no_trees, token, group, join, flatten, join-no_trees, join_assoc}
 use Rattle.dm_tokens.specs.Cursors.{same_delim}
-use Rattle.dm_tokens.specs.Nesting.{marks, nest, nest_all, Level, closed, if_same, at_end, so_far, opened_at, IsNesting, IsNested, After, Takes}
+use Rattle.dm_tokens.specs.Nesting.{marks, nest, nest_all, Level, if_same, so_far, opened_at, IsNesting, IsNested, Takes}
 use Rattle.dm_tokens.proofs.Trees.{flatten-join}
 
 same_delim-refl : (d : Delim) → same_delim d d ≡ true

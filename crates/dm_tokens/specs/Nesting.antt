@@ -1,6 +1,6 @@
 -- The trees of a text: those whose flattening is its lexemes.
 use Rattle.std.specs.Prelude.{◌≡◌, ℕ, ◌+◌, ◌<◌, Bool, true, false, Option, Some, None, List, [], ◌∷◌, ◌++◌, length, drop, ⊤}
-use Rattle.std.specs.Str.{chars, IsCharBoundary, IsUtf8}
+use Rattle.std.specs.Str.{chars, IsCharBoundary}
 use Rattle.dm_tokens.specs.declared.tokens.Span.{Span}
 use Rattle.dm_tokens.specs.declared.tokens.Delim.{Delim}
 use Rattle.dm_tokens.specs.declared.tokens.Entry.{Entry}

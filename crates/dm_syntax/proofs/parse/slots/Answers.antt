@@ -3,7 +3,7 @@ use Rattle.std.proofs.Common.{◌≡◌, ◌≢◌}
 use Rattle.std.proofs.lemmas.Bool.{both_ways}
 use Rattle.dm_tokens.specs.Cursors.{left}
 use Rattle.dm_tokens.specs.Trees.{no_trees}
-use Rattle.dm_syntax.proofs.Chain.{loop_trailing, loop_next, SlotsSoFar}
+use Rattle.dm_syntax.proofs.Chain.{loop_trailing, loop_next}
 use Rattle.dm_syntax.proofs.parse.slots.Goals as goal
 
 pub returns-then-eof-2 : goal.returns-then-eof-2

@@ -1,6 +1,6 @@
-use Rattle.std.proofs.Common.{◌≡◌, true, false, sym, subst, ap, ◌∙◌, refl, cond, ℕ}
-use Rattle.dm_tokens.specs.Lexemes.{IsFront, blank, is_space}
-use Rattle.dm_tokens.proofs.LexChars.{front-none, front-one, blank-one, blank-none}
+use Rattle.std.proofs.Common.{◌≡◌, true, false}
+use Rattle.dm_tokens.specs.Lexemes.{is_space}
+use Rattle.dm_tokens.proofs.LexChars.{blank-one, blank-none}
 use Rattle.dm_tokens.proofs.lexing.blank_len.Goals as goal
 
 pub returns-then-is_space_char : goal.returns-then-is_space_char

@@ -1,5 +1,4 @@
-use Rattle.std.proofs.Common.{◌≡◌, None}
-use Rattle.dm_tokens.proofs.LexSteps.{step-blank, step-none, step-lexeme, step-refused}
+use Rattle.dm_tokens.proofs.LexSteps.{step-none, step-lexeme, step-refused}
 use Rattle.dm_tokens.proofs.lexing.step.Goals as goal
 
 pub returns-in_default : goal.returns-in_default

@@ -1,6 +1,6 @@
-use Rattle.std.proofs.Common.{◌≡◌, true, false}
+use Rattle.std.proofs.Common.{◌≡◌, true}
 use Rattle.dm_tokens.specs.Lexemes.{goes_on}
-use Rattle.dm_tokens.proofs.LexChars.{run-start, run-next, run-end_text, run-end_char}
+use Rattle.dm_tokens.proofs.LexChars.{run-start, run-next}
 use Rattle.dm_tokens.proofs.lexing.word_len.Goals as goal
 
 pub loop-c-init : goal.loop-c-init
