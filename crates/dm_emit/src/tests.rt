@@ -1,6 +1,5 @@
 use super::{
-    Arm, ArmBody, Binding, Block, Expr, Item, ItemAttr, Method, MethodParam, PathExpr, Pattern,
-    Receiver, print_items, with_text,
+    Block, Expansion, Expr, Item, ItemAttr, Method, MethodParam, Receiver, print_items, with_text,
 };
 use dm_syntax::{Path, PathArguments, PathSegment, Ty, TyNode};
 use dm_tokens::{Ident, Seq, Span, Text};
@@ -59,97 +58,89 @@ fn ty(alloc: Global, name: &'static str) -> Result<Ty<'static>, AllocError> {
     })
 }
 
-fn name(alloc: Global, name: &'static str) -> Result<Expr<'static>, AllocError> {
-    Ok(Expr::Path(PathExpr {
-        qself: None,
-        path: path(alloc, &[name])?,
-    }))
-}
-
-fn compared(alloc: Global, unequal: bool) -> Result<Expr<'static>, AllocError> {
-    let left = Box::new(alloc, name(alloc, "__self_0")?)?;
-    let right = Box::new(alloc, name(alloc, "__other_0")?)?;
-    Ok(if unequal {
-        Expr::Unequal(left, right)
-    } else {
-        Expr::Equal(left, right)
+/// `&Self`.
+fn ref_self(alloc: Global) -> Result<Ty<'static>, AllocError> {
+    let this = Box::new(alloc, ty(alloc, "Self")?)?;
+    Ok(Ty {
+        node: TyNode::Reference(None, false, this),
+        span: span(),
     })
 }
 
-fn bound(alloc: Global, name: &'static str) -> Result<Box<Pattern<'static>>, AllocError> {
-    let field = Pattern::Bind(Binding::Plain, ident(name));
-    let tuple = Pattern::Tuple(path(alloc, &["Self"])?, one(alloc, field)?);
-    Ok(Box::new(alloc, tuple)?)
+fn param(alloc: Global) -> Result<MethodParam<'static>, AllocError> {
+    let ty = ref_self(alloc)?;
+    Ok(MethodParam {
+        name: ident("__other"),
+        ty,
+    })
 }
 
-fn block(alloc: Global, last: Expr<'static>) -> Result<Block<'static>, AllocError> {
+fn body(alloc: Global) -> Result<Block<'static>, AllocError> {
+    let last = Box::new(alloc, Expr::Bool(true))?;
     Ok(Block {
         stmts: Seq::new(alloc),
-        last: Some(Box::new(alloc, last)?),
+        last: Some(last),
     })
 }
 
-fn method(
-    alloc: Global,
-    called: &'static str,
-    unequal: bool,
-) -> Result<Method<'static>, AllocError> {
-    let pair = Pattern::Pair(bound(alloc, "__self_0")?, bound(alloc, "__other_0")?);
-    let arm = Arm {
-        patterns: one(alloc, pair)?,
-        guard: None,
-        body: ArmBody::Block(block(alloc, compared(alloc, unequal)?)?),
-    };
-    let subject = Expr::Tuple(two(alloc, name(alloc, "self")?, name(alloc, "__other")?)?);
-    let choice = Expr::Match(Box::new(alloc, subject)?, one(alloc, arm)?);
-    let right = Ty {
-        node: TyNode::Reference(None, false, Box::new(alloc, ty(alloc, "Self")?)?),
-        span: span(),
-    };
+fn method(alloc: Global) -> Result<Method<'static>, AllocError> {
+    let attrs = one(alloc, ItemAttr::Inline)?;
+    let param = param(alloc)?;
+    let output = ty(alloc, "bool")?;
+    let body = body(alloc)?;
     Ok(Method {
-        attrs: one(alloc, ItemAttr::Inline)?,
+        attrs,
         is_const: false,
-        name: ident(called),
+        name: ident("eq"),
         receiver: Some(Receiver::Ref),
-        param: Some(MethodParam {
-            name: ident("__other"),
-            ty: right,
-        }),
-        output: Some(ty(alloc, "bool")?),
-        body: block(alloc, choice)?,
+        param: Some(param),
+        output: Some(output),
+        body,
     })
 }
 
-fn item(alloc: Global) -> Result<Item<'static>, AllocError> {
-    let trait_path = path(alloc, &["derive_more", "core", "cmp", "PartialEq"])?;
-    let attrs = two(
+fn attrs(alloc: Global) -> Result<Seq<ItemAttr>, AllocError> {
+    two(
         alloc,
         ItemAttr::AllowPrivateBounds,
         ItemAttr::AutomaticallyDerived,
-    )?;
+    )
+}
+
+fn item(alloc: Global) -> Result<Item<'static>, AllocError> {
+    let attrs = attrs(alloc)?;
+    let trait_path = path(alloc, &["derive_more", "core", "cmp", "PartialEq"])?;
+    let ty = ty(alloc, "P")?;
+    let methods = one(alloc, method(alloc)?)?;
     Ok(Item {
         attrs,
         params: Seq::new(alloc),
         trait_path: Some(trait_path),
-        ty: ty(alloc, "P")?,
+        ty,
         predicates: Seq::new(alloc),
         assocs: Seq::new(alloc),
-        methods: two(
-            alloc,
-            method(alloc, "eq", false)?,
-            method(alloc, "ne", true)?,
-        )?,
+        methods,
     })
+}
+
+fn written(alloc: Global) -> Result<Expansion<'static>, AllocError> {
+    let items = one(alloc, item(alloc)?)?;
+    with_text(alloc, items)
 }
 
 #[test]
 fn line(rt: HostRuntime) -> Result<(), AllocError> {
-    let alloc = rt.alloc();
-    let expansion = with_text(alloc, one(alloc, item(alloc)?)?)?;
+    let expansion = written(rt.alloc())?;
     assert!(rt;
         expansion.text.as_str()
-            == "# [allow (private_bounds)] # [automatically_derived] impl derive_more :: core :: cmp :: PartialEq for P { # [inline] fn eq (& self , __other : & Self) -> bool { match (self , __other) { (Self (__self_0 ,) , Self (__other_0 ,)) => { __self_0 == __other_0 } , } } # [inline] fn ne (& self , __other : & Self) -> bool { match (self , __other) { (Self (__self_0 ,) , Self (__other_0 ,)) => { __self_0 != __other_0 } , } } }\n"
+            == "# [allow (private_bounds)] # [automatically_derived] impl derive_more :: core :: cmp :: PartialEq for P { # [inline] fn eq (& self , __other : & Self) -> bool { true } }\n"
     );
+    Ok(())
+}
+
+#[test]
+fn nothing(rt: HostRuntime) -> Result<(), AllocError> {
+    let alloc = rt.alloc();
     let none: Seq<Item<'static>> = Seq::new(alloc);
     assert!(rt; print_items(alloc, none.as_slice())?.as_str() == "");
     Ok(())
