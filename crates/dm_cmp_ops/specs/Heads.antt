@@ -1,7 +1,7 @@
 -- The implementation of `PartialEq` but for its bodies.
 use Rattle.std.specs.Prelude.{◌≡◌, List, [], ◌∷◌, Bool, true, false, not, ◌&&◌, ◌||◌, codes, Some, None}
-use Rattle.dm_tokens.specs.declared.tokens.Span.{Span}
 use Rattle.dm_tokens.specs.declared.tokens.Ident.{Ident}
+use Rattle.dm_tokens.specs.Layout.{nowhere}
 use Rattle.dm_syntax.specs.Tree.{TypeTree, type_tree, path, reference, PathTree, path_tree, SegmentTrees, segment, no_segments, segment_then, absent, no_self}
 use Rattle.dm_syntax.specs.Declarations.{Declaration, FieldTree}
 use Rattle.dm_emit.specs.Output.{ItemTree, MethodTree}
@@ -12,11 +12,8 @@ use Rattle.dm_cmp_ops.specs.Skips.{is_skipped}
 use Rattle.dm_cmp_ops.specs.Direct.{Gives, direct_eq, direct_ne}
 
 -- what isn't in the declaration's text stands at the range 0..0
-abbrev pub emitted : Span
-emitted = record { start = 0; «end» = 0 }
-
 abbrev pub word : Text → Ident
-word x = record { name = x; raw = false; span = emitted }
+word x = record { name = x; raw = false; span = nowhere }
 
 abbrev pub segments : List Ident → SegmentTrees
 segments [] = no_segments
@@ -30,7 +27,7 @@ abbrev pub plain_path : List Ident → PathTree
 plain_path is = path_tree false (segments is)
 
 abbrev pub name_type : Ident → TypeTree
-name_type i = type_tree (path no_self (plain_path (i ∷ []))) emitted
+name_type i = type_tree (path no_self (plain_path (i ∷ []))) nowhere
 
 -- the declared type as the implementor, for a declaration without parameters
 abbrev pub implementor : Declaration → TypeTree
@@ -44,7 +41,7 @@ abbrev pub self_type : TypeTree
 self_type = name_type (word (codes "Self"))
 
 abbrev pub ref_self : TypeTree
-ref_self = type_tree (reference None false self_type) emitted
+ref_self = type_tree (reference None false self_type) nowhere
 
 -- whether some field is kept
 abbrev pub keeps_some : List FieldTree → Bool

@@ -10,7 +10,7 @@ ghost use Rattle.dm_cmp_ops.specs.Emitted as spec;
 ghost use Rattle.dm_cmp_ops.specs.CaseViews.{case_view, fields_ref_view, naming};
 
 use crate::cases::{CaseRef, FieldsRef, all_compared, is_compared};
-use crate::names::{add, append, boxed, name, one, path_of};
+use crate::names::{append, boxed, name, one, path_of};
 use crate::partial_eq::Comparing;
 use crate::sides::{Operand, numbered, side};
 use crate::skips::is_skipped;
@@ -120,7 +120,7 @@ fn listed<T: Drop>(alloc: Global, items: Vec<T>) -> Result<Seq<T>, AllocError>
 {
     let mut out = Seq::new(alloc);
     for item in items {
-        add(&mut out, item)?;
+        out.add(item)?;
     }
     Ok(out)
 }
@@ -243,10 +243,10 @@ fn add_rest<'a>(
     ensures { OnOk result (map arm_view out.new ≡ map arm_view out.old ++ spec.rest comparing (map case_view cases.now)) }
 {
     if !all_compared(cases) {
-        return add(out, otherwise(alloc, neutral(comparing))?);
+        return out.add(otherwise(alloc, neutral(comparing))?);
     }
     if cases.len() > 1 {
-        return add(out, otherwise(alloc, unreachable_expr(alloc)?)?);
+        return out.add(otherwise(alloc, unreachable_expr(alloc)?)?);
     }
     Ok(())
 }
@@ -264,7 +264,7 @@ pub(crate) fn arms<'a>(
     for case in cases {
         if is_compared(case) {
             let next = arm(alloc, comparing, input, case)?;
-            add(&mut out, next)?;
+            out.add(next)?;
         }
     }
     add_rest(alloc, comparing, cases, &mut out)?;

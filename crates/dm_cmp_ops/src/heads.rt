@@ -5,21 +5,22 @@ ghost use Rattle.std.specs.Prelude.{◌≡◌, codes, None, false, IfOk};
 ghost use Rattle.dm_syntax.specs.Tree.{ty_view, path_view, type_tree, path as tree_path, reference, no_self};
 ghost use Rattle.dm_syntax.specs.Declarations.{declaration_view};
 ghost use Rattle.dm_emit.specs.Output.{method_param_view};
+ghost use Rattle.dm_tokens.specs.Layout.{nowhere};
 ghost use Rattle.dm_cmp_ops.specs.Heads as spec;
 
-use crate::names::{nowhere, path_of, path_of_one, word};
+use crate::names::{path_of, path_of_one, word};
 use dm_emit::MethodParam;
 use dm_syntax::{DeriveInput, Path, Ty, TyNode};
-use dm_tokens::Ident;
+use dm_tokens::{Ident, Span};
 use std::alloc::{AllocError, Global};
 
 #[tactic(auto, using(crate::proofs::Joined::joined_steps))]
 fn plain_type(path: Path<'_>) -> Ty<'_>
-    ensures { ty_view result ≡ type_tree (tree_path no_self (path_view path.entry)) spec.emitted }
+    ensures { ty_view result ≡ type_tree (tree_path no_self (path_view path.entry)) nowhere }
 {
     Ty {
         node: TyNode::Path(None, path),
-        span: nowhere(),
+        span: Span::nowhere(),
     }
 }
 
@@ -39,11 +40,11 @@ pub(crate) fn word_type<'a>(alloc: Global, name: &'a str) -> Result<Ty<'a>, Allo
 
 #[tactic(auto, using(crate::proofs::Joined::joined_steps))]
 fn reference_to<'a>(target: Box<Ty<'a>>) -> Ty<'a>
-    ensures { ty_view result ≡ type_tree (reference None false (ty_view target.entry.value)) spec.emitted }
+    ensures { ty_view result ≡ type_tree (reference None false (ty_view target.entry.value)) nowhere }
 {
     Ty {
         node: TyNode::Reference(None, false, target),
-        span: nowhere(),
+        span: Span::nowhere(),
     }
 }
 

@@ -11,15 +11,6 @@ use dm_syntax::{Path, PathArguments, PathSegment};
 use dm_tokens::{Ident, Seq, Span, Text};
 use std::alloc::{AllocError, Global};
 
-pub(crate) fn add<T: Drop>(list: &mut Seq<T>, item: T) -> Result<(), AllocError>
-    ensures { OnOk result (list.new ≡ list.old ++ item ∷ []) }
-{
-    match list.push(item) {
-        Ok(()) => Ok(()),
-        Err(_) => Err(AllocError),
-    }
-}
-
 pub(crate) fn append<T: Drop>(list: &mut Vec<T>, item: T) -> Result<(), AllocError>
     ensures { OnOk result (list.new.items ≡ list.old.items ++ item ∷ []) }
 {
@@ -30,7 +21,7 @@ pub(crate) fn one<T: Drop>(alloc: Global, item: T) -> Result<Seq<T>, AllocError>
     ensures { IfOk result (λ it. it ≡ item ∷ []) }
 {
     let mut out = Seq::new(alloc);
-    add(&mut out, item)?;
+    out.add(item)?;
     Ok(out)
 }
 
@@ -38,15 +29,8 @@ pub(crate) fn two<T: Drop>(alloc: Global, first: T, second: T) -> Result<Seq<T>,
     ensures { IfOk result (λ it. it ≡ first ∷ second ∷ []) }
 {
     let mut out = one(alloc, first)?;
-    add(&mut out, second)?;
+    out.add(second)?;
     Ok(out)
-}
-
-/// The range of what stands nowhere in the declaration's text.
-pub(crate) fn nowhere() -> Span
-    ensures { result ≡ heads.emitted }
-{
-    Span { start: 0, end: 0 }
 }
 
 /// An identifier that stands nowhere in the declaration's text.
@@ -56,7 +40,7 @@ pub(crate) fn emitted(name: Text<'_>) -> Ident<'_>
     Ident {
         name,
         raw: false,
-        span: nowhere(),
+        span: Span::nowhere(),
     }
 }
 
@@ -105,7 +89,7 @@ fn segments<'a>(alloc: Global, names: &[&'a str]) -> Result<Seq<PathSegment<'a>>
     let mut out = Seq::new(alloc);
     for name in names {
         let next = segment(word(name));
-        add(&mut out, next)?;
+        out.add(next)?;
     }
     Ok(out)
 }

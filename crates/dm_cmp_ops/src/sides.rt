@@ -11,7 +11,7 @@ ghost use Rattle.dm_cmp_ops.specs.Emitted as spec;
 ghost use Rattle.dm_cmp_ops.specs.CaseViews.{case_view, fields_ref_view, naming};
 
 use crate::cases::{CaseRef, FieldsRef, is_enum, some_skipped_field};
-use crate::names::{add, emitted, path_of_one, path_of_two, word};
+use crate::names::{emitted, path_of_one, path_of_two, word};
 use crate::skips::is_skipped;
 use dm_emit::{Binding, NamedPattern, Pattern};
 use dm_syntax::{DeriveInput, Field, Path};
@@ -71,7 +71,7 @@ fn bindings<'a>(
     for (i, field) in fields.iter().enumerate() {
         let skip = is_skipped(field.attrs.as_slice());
         let pattern = binding(alloc, operand, i, skip)?;
-        add(&mut out, pattern)?;
+        out.add(pattern)?;
     }
     Ok(out)
 }
@@ -110,7 +110,7 @@ fn named_bindings<'a>(
     for (i, field) in fields.iter().enumerate() {
         if !is_skipped(field.attrs.as_slice()) {
             let pattern = named_binding(alloc, operand, i, field)?;
-            add(&mut out, pattern)?;
+            out.add(pattern)?;
         }
     }
     Ok(out)

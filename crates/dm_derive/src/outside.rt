@@ -7,24 +7,30 @@ ghost use Rattle.dm_derive.specs.Causes.{HasCause};
 #[derive(Clone, Copy, Debug, PartialEq, Eq)]
 pub struct Failed;
 
+/// What bytes are read from, such as a file, a pipe or a vector.
 pub trait Source {
     /// The bytes still to come, where they are told.
     ghost left: { Self → Option (List ℕ) };
     /// How often it has failed.
     ghost faults: { Self → ℕ };
 
+    /// Moves a number of bytes, which it gives, to the front of `buf`. For a buffer that isn't empty the number is 0
+    /// only at the end.
     fn read(&mut self, buf: &mut [u8]) -> Result<usize, Failed>
         ensures bound { ReadsAtMost result buf.new }
         ensures bytes { ReadConsumes (left self.old) (left self.new) result buf.new }
         ensures cause { HasCause (faults self.old) (faults self.new) result };
 }
 
+/// What bytes are written to.
 pub trait Sink {
     /// The bytes taken, where they are told.
     ghost written: { Self → Option (List ℕ) };
     /// How often it has failed.
     ghost faults: { Self → ℕ };
 
+    /// Takes a front of `piece`, of the length that it gives. To take nothing of a piece that isn't empty is a failure, and
+    /// after a failure nothing more is taken.
     fn write(&mut self, piece: &[u8]) -> Result<usize, Failed>
         ensures bound { WritesAtMost result piece.now }
         ensures bytes { WriteAppends (written self.old) (written self.new) result piece.now }

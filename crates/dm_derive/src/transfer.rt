@@ -15,7 +15,9 @@ const PORTION: usize = 65_536;
 /// Why a source was not read to its end.
 #[derive(Clone, Copy, Debug, PartialEq, Eq)]
 pub enum ReadError {
+    /// There was no memory for what came.
     NoMemory,
+    /// The source failed.
     Fault,
     /// More than the limit came.
     TooMuch,

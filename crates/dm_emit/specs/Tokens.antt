@@ -7,7 +7,7 @@ use Rattle.dm_tokens.specs.declared.tokens.Delim.{Delim}
 use Rattle.dm_tokens.specs.declared.tokens.Delim.TheVariants.{Paren, Bracket, Brace}
 use Rattle.dm_tokens.specs.declared.tokens.Lifetime.{Lifetime}
 use Rattle.dm_tokens.specs.Trees.{Trees, no_trees, join}
-use Rattle.dm_tokens.specs.Layout.{layout}
+use Rattle.dm_tokens.specs.Layout.{layout, nowhere}
 use Rattle.dm_syntax.specs.declared.plain.ConstArg.{ConstArg}
 use Rattle.dm_syntax.specs.Tree.{TypeTree, path, PathTree, MaybeSelf, BoundTree, bounds_of}
 use Rattle.dm_syntax.specs.Declarations.{Listed, ParamTree, lifetime_param, type_param, const_param, PredicateTree, lifetime_predicate, type_predicate}
@@ -23,18 +23,15 @@ use Rattle.dm_emit.specs.declared.item.Receiver.TheVariants as receiver
 
 -- ---- single tokens
 
-abbrev pub emitted : Span
-emitted = record { start = 0; «end» = 0 }
-
 abbrev pub punct : ℕ → Trees
-punct ch = syntax.punct ch emitted
+punct ch = syntax.punct ch nowhere
 
 -- two puncts that are read as one
 abbrev pub joint : ℕ → ℕ → Trees
-joint ch next = syntax.joint ch next emitted
+joint ch next = syntax.joint ch next nowhere
 
 abbrev pub word : List ℕ → Trees
-word letters = syntax.word letters emitted
+word letters = syntax.word letters nowhere
 
 abbrev pub comma : Trees
 comma = punct 44
@@ -72,9 +69,9 @@ abbrev mutual
   pub pattern_trees : PatternTree → Trees
   pattern_trees wild = word (codes "_")
   pattern_trees (bind how i) = join (binding_trees how) (name i)
-  pattern_trees (tuple_pattern p ps) = join (path_trees emitted p) (enclosed Paren (ended (each_pattern ps)))
+  pattern_trees (tuple_pattern p ps) = join (path_trees nowhere p) (enclosed Paren (ended (each_pattern ps)))
   pattern_trees (named_pattern p ps rest) =
-      join (path_trees emitted p) (enclosed Brace (join (ended (each_named ps)) (given rest (joint 46 46))))
+      join (path_trees nowhere p) (enclosed Brace (join (ended (each_named ps)) (given rest (joint 46 46))))
   pattern_trees (pair_pattern a b) = enclosed Paren (join (pattern_trees a) (join comma (pattern_trees b)))
 
   pub each_pattern : PatternTrees → List Trees
@@ -88,7 +85,7 @@ abbrev mutual
 -- ---- expressions
 
 abbrev pub path_expr_trees : MaybeSelf → PathTree → Trees
-path_expr_trees q p = node_trees emitted (path q p)
+path_expr_trees q p = node_trees nowhere (path q p)
 
 -- the patterns, the guard, the body, and a comma
 abbrev pub arm_of : List Trees → Trees → Trees → Trees
@@ -147,11 +144,11 @@ arm_trees a = arm_of (each_pattern a.patterns) (guard_trees a.guard) (body_trees
 
 abbrev pub maybe_bounds_trees : Option (Listed BoundTree) → Trees
 maybe_bounds_trees None = no_trees
-maybe_bounds_trees (Some bs) = join colon (listed 43 emitted (each_bound emitted (bounds_of bs.items)) bs.trailing)
+maybe_bounds_trees (Some bs) = join colon (listed 43 nowhere (each_bound nowhere (bounds_of bs.items)) bs.trailing)
 
 abbrev pub maybe_lifetimes_trees : Option (Punctuated Lifetime) → Trees
 maybe_lifetimes_trees None = no_trees
-maybe_lifetimes_trees (Some ls) = join colon (listed 43 emitted (map lifetime ls.items) ls.trailing)
+maybe_lifetimes_trees (Some ls) = join colon (listed 43 nowhere (map lifetime ls.items) ls.trailing)
 
 abbrev pub default_type_trees : Option TypeTree → Trees
 default_type_trees None = no_trees
@@ -159,7 +156,7 @@ default_type_trees (Some t) = join assigns (type_trees t)
 
 abbrev pub default_const_trees : Option ConstArg → Trees
 default_const_trees None = no_trees
-default_const_trees (Some c) = join assigns (const_trees emitted c)
+default_const_trees (Some c) = join assigns (const_trees nowhere c)
 
 abbrev pub param_trees : ParamTree → Trees
 param_trees (lifetime_param attrs l bounds) = join (attributes_trees attrs) (join (lifetime l) (maybe_lifetimes_trees bounds))
@@ -170,7 +167,7 @@ param_trees (const_param attrs i t default) =
 
 abbrev pub predicate_trees : PredicateTree → Trees
 predicate_trees (lifetime_predicate l ls) = join (lifetime l) (maybe_lifetimes_trees (Some ls))
-predicate_trees (type_predicate ls t bs) = join (for_trees emitted ls) (join (type_trees t) (maybe_bounds_trees (Some bs)))
+predicate_trees (type_predicate ls t bs) = join (for_trees nowhere ls) (join (type_trees t) (maybe_bounds_trees (Some bs)))
 
 -- ---- items
 
@@ -200,7 +197,7 @@ where_trees (p ∷ ps) = join (word (codes "where")) (spaced comma true (map pre
 
 abbrev pub trait_trees : Option PathTree → Trees
 trait_trees None = no_trees
-trait_trees (Some p) = join (path_trees emitted p) (word (codes "for"))
+trait_trees (Some p) = join (path_trees nowhere p) (word (codes "for"))
 
 abbrev pub assoc_trees : AssocTree → Trees
 assoc_trees a = join (word (codes "type")) (join (name a.name) (join assigns (join (type_trees a.ty) semicolon)))

@@ -15,16 +15,25 @@ pub struct PathExpr<'a> {
 #[cycle(expr)]
 #[derive(Drop)]
 pub enum Expr<'a> {
+    /// `a || b`
     Or(Seq<Expr<'a>>),
+    /// `a && b`
     And(Seq<Expr<'a>>),
+    /// `a == b`
     Equal(Box<Expr<'a>>, Box<Expr<'a>>),
+    /// `a != b`
     Unequal(Box<Expr<'a>>, Box<Expr<'a>>),
+    /// `*a`
     Deref(Box<Expr<'a>>),
     Path(PathExpr<'a>),
+    /// `f(a, b)`
     Call(PathExpr<'a>, Seq<Expr<'a>>),
+    /// `(a, b)`
     Tuple(Seq<Expr<'a>>),
     Bool(bool),
+    /// `match a { arms }`
     Match(Box<Expr<'a>>, Seq<Arm<'a>>),
+    /// `unsafe { a }`
     Unsafe(Box<Expr<'a>>),
 }
 
@@ -36,6 +45,7 @@ pub struct Block<'a> {
     pub last: Option<Box<Expr<'a>>>,
 }
 
+/// A statement: `let x = e;` or `e;`.
 #[cycle(expr)]
 #[derive(Drop)]
 pub enum Stmt<'a> {
@@ -52,6 +62,7 @@ pub struct Arm<'a> {
     pub body: ArmBody<'a>,
 }
 
+/// What stands behind `=>`: a block, or an expression and a comma.
 #[cycle(expr)]
 #[derive(Drop)]
 pub enum ArmBody<'a> {

@@ -35,6 +35,7 @@ pub struct Assoc<'a> {
     pub ty: Ty<'a>,
 }
 
+/// A method. `receiver` is absent for an associated function, `output` where the method gives `()`.
 #[derive(Drop)]
 pub struct Method<'a> {
     pub attrs: Seq<ItemAttr>,

@@ -15,10 +15,15 @@ pub enum Binding {
 #[cycle(pattern)]
 #[derive(Drop)]
 pub enum Pattern<'a> {
+    /// `_`
     Wild,
+    /// `x`
     Bind(Binding, Ident<'a>),
+    /// `P(a, b)`
     Tuple(Path<'a>, Seq<Pattern<'a>>),
+    /// `P { x: a, y: b, .. }`
     Named(Path<'a>, Seq<NamedPattern<'a>>, bool),
+    /// `(a, b)`
     Pair(Box<Pattern<'a>>, Box<Pattern<'a>>),
 }
 

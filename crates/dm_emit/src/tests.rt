@@ -5,34 +5,23 @@ use dm_syntax::{Path, PathArguments, PathSegment, Ty, TyNode};
 use dm_tokens::{Ident, Seq, Span, Text};
 use std::alloc::{AllocError, Global};
 
-fn span() -> Span {
-    Span { start: 0, end: 0 }
-}
-
 fn ident(name: &'static str) -> Ident<'static> {
     Ident {
         name: Text::borrowed(name),
         raw: false,
-        span: span(),
-    }
-}
-
-fn add<T: Drop>(list: &mut Seq<T>, item: T) -> Result<(), AllocError> {
-    match list.push(item) {
-        Ok(()) => Ok(()),
-        Err(_) => Err(AllocError),
+        span: Span::nowhere(),
     }
 }
 
 fn one<T: Drop>(alloc: Global, item: T) -> Result<Seq<T>, AllocError> {
     let mut list = Seq::new(alloc);
-    add(&mut list, item)?;
+    list.add(item)?;
     Ok(list)
 }
 
 fn two<T: Drop>(alloc: Global, first: T, second: T) -> Result<Seq<T>, AllocError> {
     let mut list = one(alloc, first)?;
-    add(&mut list, second)?;
+    list.add(second)?;
     Ok(list)
 }
 
@@ -43,7 +32,7 @@ fn path(alloc: Global, names: &[&'static str]) -> Result<Path<'static>, AllocErr
             ident: ident(name),
             arguments: PathArguments::Absent,
         };
-        add(&mut segments, segment)?;
+        segments.add(segment)?;
     }
     Ok(Path {
         leading_colon: false,
@@ -54,7 +43,7 @@ fn path(alloc: Global, names: &[&'static str]) -> Result<Path<'static>, AllocErr
 fn ty(alloc: Global, name: &'static str) -> Result<Ty<'static>, AllocError> {
     Ok(Ty {
         node: TyNode::Path(None, path(alloc, &[name])?),
-        span: span(),
+        span: Span::nowhere(),
     })
 }
 
@@ -63,7 +52,7 @@ fn ref_self(alloc: Global) -> Result<Ty<'static>, AllocError> {
     let this = Box::new(alloc, ty(alloc, "Self")?)?;
     Ok(Ty {
         node: TyNode::Reference(None, false, this),
-        span: span(),
+        span: Span::nowhere(),
     })
 }
 

@@ -11,15 +11,6 @@ use dm_tokens::{
 };
 use std::alloc::{AllocError, Global};
 
-pub(crate) fn put<'a>(out: &mut TokenStream<'a>, item: Token<'a>) -> Result<(), AllocError>
-    ensures { OnOk result (out.new.trees ≡ join out.old.trees (spec.one item.entry)) }
-{
-    match out.push(item) {
-        Ok(()) => Ok(()),
-        Err(_) => Err(AllocError),
-    }
-}
-
 pub(crate) fn group<'a>(
     out: &mut TokenStream<'a>,
     delim: Delim,
@@ -42,14 +33,11 @@ pub(crate) fn append<'a>(
 pub(crate) fn punct(out: &mut TokenStream<'_>, ch: char, span: Span) -> Result<(), AllocError>
     ensures { OnOk result (out.new.trees ≡ join out.old.trees (spec.punct ch span)) }
 {
-    put(
-        out,
-        Token::Punct(Punct {
-            ch,
-            spacing: Spacing::Alone,
-            span,
-        }),
-    )
+    out.add(Token::Punct(Punct {
+        ch,
+        spacing: Spacing::Alone,
+        span,
+    }))
 }
 
 pub(crate) fn joint(
@@ -60,14 +48,11 @@ pub(crate) fn joint(
 ) -> Result<(), AllocError>
     ensures { OnOk result (out.new.trees ≡ join out.old.trees (spec.joint ch next span)) }
 {
-    put(
-        out,
-        Token::Punct(Punct {
-            ch,
-            spacing: Spacing::Joint,
-            span,
-        }),
-    )?;
+    out.add(Token::Punct(Punct {
+        ch,
+        spacing: Spacing::Joint,
+        span,
+    }))?;
     punct(out, next, span)
 }
 
@@ -101,14 +86,11 @@ pub(crate) fn word(
 ) -> Result<(), AllocError>
     ensures { OnOk result (out.new.trees ≡ join out.old.trees (spec.word text.now span)) }
 {
-    put(
-        out,
-        Token::Ident(Ident {
-            name: Text::borrowed(text),
-            raw: false,
-            span,
-        }),
-    )
+    out.add(Token::Ident(Ident {
+        name: Text::borrowed(text),
+        raw: false,
+        span,
+    }))
 }
 
 pub(crate) fn word_if(
@@ -132,7 +114,7 @@ pub(crate) fn name<'a>(
 ) -> Result<(), AllocError>
     ensures { OnOk result (out.new.trees ≡ join out.old.trees (spec.name name.now)) }
 {
-    put(out, Token::Ident(name.clone_in(alloc)?))
+    out.add(Token::Ident(name.clone_in(alloc)?))
 }
 
 pub(crate) fn lifetime<'a>(
@@ -142,7 +124,7 @@ pub(crate) fn lifetime<'a>(
 ) -> Result<(), AllocError>
     ensures { OnOk result (out.new.trees ≡ join out.old.trees (spec.lifetime lifetime.now)) }
 {
-    put(out, Token::Lifetime(lifetime.clone_in(alloc)?))
+    out.add(Token::Lifetime(lifetime.clone_in(alloc)?))
 }
 
 pub(crate) fn literal<'a>(
@@ -152,7 +134,7 @@ pub(crate) fn literal<'a>(
 ) -> Result<(), AllocError>
     ensures { OnOk result (out.new.trees ≡ join out.old.trees (spec.literal literal.now)) }
 {
-    put(out, Token::Literal(literal.clone_in(alloc)?))
+    out.add(Token::Literal(literal.clone_in(alloc)?))
 }
 
 pub(crate) fn maybe_lifetime<'a>(

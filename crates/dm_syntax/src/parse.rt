@@ -128,7 +128,7 @@ fn slots<'a>(
     let mut rest = inside;
     while let Some((ident, others)) = name(rest) {
         let field = slot(alloc, ident)?;
-        put(&mut items, field)?;
+        items.add(field)?;
         if others.eof() {
             return Ok(Some(Punctuated {
                 items,
@@ -184,17 +184,8 @@ fn one_segment<'a>(alloc: Global, ident: &Ident<'a>) -> Result<Seq<PathSegment<'
         ident: ident.clone_in(alloc)?,
         arguments: PathArguments::Absent,
     };
-    put(&mut segments, segment)?;
+    segments.add(segment)?;
     Ok(segments)
-}
-
-fn put<T: Drop>(all: &mut Seq<T>, item: T) -> Result<(), AllocError>
-    ensures { IfOk result (λ _. all.new ≡ all.old ++ item ∷ []) }
-{
-    match all.push(item) {
-        Ok(()) => Ok(()),
-        Err(_) => Err(AllocError),
-    }
 }
 
 /// The name at the front, and what follows it.

@@ -266,7 +266,7 @@ fn starts_at(entry: &Entry<'_>) -> usize
 }
 
 /// Whether two delimiters are the same.
-fn is_same_delim(a: Delim, b: Delim) -> bool
+pub(crate) fn is_same_delim(a: Delim, b: Delim) -> bool
     ensures { result ≡ same_delim a b }
 {
     match (a, b) {

@@ -8,25 +8,45 @@ use std::alloc::AllocError;
 /// Why a text or a declaration is refused.
 #[derive(Clone, Copy, Debug, PartialEq, Eq)]
 pub enum Kind {
+    /// The name is not that of a trait that is derived.
     UnknownTrait,
+    /// The text is not made of tokens (Rust Reference, Lexical structure). The range tells where it stops to be.
     Lex,
+    /// A token stands inside more than 128 groups, types and bounds.
     TooDeep,
+    /// The tokens are those of no declaration.
     Syntax,
+    /// The declaration uses what this port leaves out.
     Unsupported,
+    /// A name is declared twice. The range is that of the second.
     DuplicateName,
+    /// A declared name is one that emitted code uses.
     ReservedName,
+    /// The trait is not derived for this kind of declaration.
     WrongShape,
+    /// Every field is skipped.
     AllSkipped,
+    /// An attribute of this trait is not spelled as one.
     AttrSyntax,
+    /// An attribute stands where it says nothing.
     AttrNotAllowed,
+    /// An attribute is spelled as in earlier versions of derive_more.
     LegacySyntax,
+    /// An attribute is given twice.
     AttrRepeated,
+    /// Two attributes cannot stand together.
     AttrMixed,
+    /// One field is needed, and there are none or several.
     FieldCount,
+    /// A type that an attribute lists has another number of parts than there are fields.
     TupleLength,
+    /// Two fields would have the same role. The range is that of the second.
     FieldConflict,
+    /// There is no format for a declaration that needs one, or one that no value can use.
     MissingFormat,
+    /// An attribute is missing that the trait needs.
     MissingAttr,
+    /// The declaration is of a form that is not read yet.
     NotYet,
 }
 
@@ -37,6 +57,7 @@ pub struct Refusal {
     pub span: Span,
 }
 
+/// Why there is no answer: there was no memory for one, or the text, a declaration or an attribute is refused.
 #[derive(Clone, Copy, Debug, PartialEq, Eq)]
 pub enum Error {
     NoMemory,

@@ -2,9 +2,9 @@ ghost use Rattle.std.specs.Prelude.{◌≡◌, ◌<◌, [], true, slice_set, IfO
 ghost use Rattle.std.specs.Vec.{vec_len};
 ghost use Rattle.dm_tokens.specs.Nesting.{IsNested, IsNesting, Takes};
 ghost use Rattle.dm_tokens.specs.Trees.{no_trees};
-ghost use Rattle.dm_tokens.specs.Cursors.{same_delim};
 ghost use Rattle.dm_tokens.specs.declared.lexing.Lexeme.TheVariants as lexeme;
 
+use super::cursor::is_same_delim;
 use super::lexing::Lexeme;
 use super::tokens::{Delim, Entry, Span, Token};
 use std::alloc::{AllocError, Global};
@@ -22,16 +22,6 @@ pub struct Opened {
 pub struct Nesting<'a> {
     pub entries: Vec<Entry<'a>>,
     pub opened: Vec<Opened>,
-}
-
-fn is_same_delim(one: Delim, other: Delim) -> bool
-    ensures { result ≡ same_delim one other }
-{
-    match one {
-        Delim::Paren => matches!(other, Delim::Paren),
-        Delim::Bracket => matches!(other, Delim::Bracket),
-        Delim::Brace => matches!(other, Delim::Brace),
-    }
 }
 
 /// Puts an entry in place of another.

@@ -40,19 +40,12 @@ fn punct(ch: char, spacing: Spacing) -> Punct {
     }
 }
 
-fn add<'a>(out: &mut TokenStream<'a>, token: Token<'a>) -> Result<(), AllocError> {
-    match out.push(token) {
-        Ok(()) => Ok(()),
-        Err(_) => Err(AllocError),
-    }
-}
-
 /// The trees `a b c`.
 fn three_words<'a>(alloc: Global) -> Result<TokenStream<'a>, AllocError> {
     let mut out = TokenStream::new(alloc);
-    add(&mut out, Token::Ident(ident("a", false)))?;
-    add(&mut out, Token::Ident(ident("b", false)))?;
-    add(&mut out, Token::Ident(ident("c", false)))?;
+    out.add(Token::Ident(ident("a", false)))?;
+    out.add(Token::Ident(ident("b", false)))?;
+    out.add(Token::Ident(ident("c", false)))?;
     Ok(out)
 }
 
@@ -67,11 +60,11 @@ fn twice<'a, T: ToTokens<'a>>(out: &mut TokenStream<'a>, value: &T) -> Result<()
 fn lays_out_a_sum(rt: HostRuntime) -> Result<(), Fail> {
     let alloc = rt.alloc();
     let mut inside = TokenStream::new(alloc);
-    add(&mut inside, Token::Ident(ident("c", false)))?;
+    inside.add(Token::Ident(ident("c", false)))?;
     let mut out = TokenStream::new(alloc);
-    add(&mut out, Token::Ident(ident("a", false)))?;
-    add(&mut out, Token::Punct(punct('+', Spacing::Alone)))?;
-    add(&mut out, Token::Ident(ident("b", false)))?;
+    out.add(Token::Ident(ident("a", false)))?;
+    out.add(Token::Punct(punct('+', Spacing::Alone)))?;
+    out.add(Token::Ident(ident("b", false)))?;
     out.push_group(Delim::Paren, inside)?;
     out.push_group(Delim::Brace, TokenStream::new(alloc))?;
     assert_eq!(rt; print(alloc, &out)?.as_str(), "a + b (c) { }");
@@ -106,7 +99,7 @@ fn takes_runs(rt: HostRuntime) -> Result<(), Fail> {
     };
     assert_eq!(rt; print_piece(alloc, front)?.as_str(), "a b");
     let mut out = TokenStream::new(alloc);
-    add(&mut out, Token::Ident(ident("x", false)))?;
+    out.add(Token::Ident(ident("x", false)))?;
     out.push_group(Delim::Paren, TokenStream::new(alloc))?;
     out.extend(front)?;
     assert_eq!(rt; print(alloc, &out.clone_in(alloc)?)?.as_str(), "x () a b");
@@ -120,11 +113,11 @@ fn takes_runs(rt: HostRuntime) -> Result<(), Fail> {
 fn walks(rt: HostRuntime) -> Result<(), Fail> {
     let alloc = rt.alloc();
     let mut out = TokenStream::new(alloc);
-    add(&mut out, Token::Ident(ident("a", false)))?;
+    out.add(Token::Ident(ident("a", false)))?;
     out.push_group(Delim::Paren, three_words(alloc)?)?;
-    add(&mut out, Token::Lifetime(lifetime("b")))?;
-    add(&mut out, Token::Literal(literal("7")))?;
-    add(&mut out, Token::Punct(punct(';', Spacing::Alone)))?;
+    out.add(Token::Lifetime(lifetime("b")))?;
+    out.add(Token::Literal(literal("7")))?;
+    out.add(Token::Punct(punct(';', Spacing::Alone)))?;
     assert_eq!(rt; out.entries().len(), 9);
     assert!(rt; matches!(out.entries().get(1), Some(Entry::Open(Delim::Paren, _, 4))));
     let start = out.cursor();

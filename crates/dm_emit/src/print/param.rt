@@ -2,6 +2,7 @@
 #![tactic(auto, using(crate::proofs::Laying::print_steps))]
 
 ghost use Rattle.std.specs.Prelude.{◌≡◌, map, OnOk, Some, true, option_map};
+ghost use Rattle.dm_tokens.specs.Layout.{nowhere};
 ghost use Rattle.dm_syntax.specs.Tree.{ty_view, bound_view};
 ghost use Rattle.dm_syntax.specs.Declarations.{listed, param_view, predicate_view};
 ghost use Rattle.dm_syntax.specs.TypeTokens as syntax;
@@ -9,12 +10,12 @@ ghost use Rattle.dm_emit.specs.Tokens as spec;
 ghost use Rattle.dm_emit.specs.Laying.{lay};
 
 use super::path::ty;
-use super::token::{emitted, lifetime, name, punct, punct_if, stream, word};
+use super::token::{lifetime, name, punct, punct_if, stream, word};
 use dm_syntax::{
     Attribute, Bound, ConstArg, GenericParam, Ty, WherePredicate, write_attributes, write_bounds,
     write_const, write_for,
 };
-use dm_tokens::{Layout, Lifetime, Punctuated, TokenStream};
+use dm_tokens::{Layout, Lifetime, Punctuated, Span, TokenStream};
 use std::alloc::{AllocError, Global};
 
 fn attributes(alloc: Global, out: &mut Layout, all: &[Attribute<'_>]) -> Result<(), AllocError>
@@ -36,7 +37,7 @@ fn bounds(alloc: Global, out: &mut Layout, all: &Punctuated<Bound<'_>>) -> Resul
         &mut tokens,
         all.items.as_slice(),
         all.trailing,
-        emitted(),
+        Span::nowhere(),
     )?;
     stream(out, &tokens)
 }
@@ -111,7 +112,7 @@ fn default_const(
         Some(value) => {
             punct(out, '=')?;
             let mut tokens = TokenStream::new(alloc);
-            write_const(alloc, &mut tokens, value, emitted())?;
+            write_const(alloc, &mut tokens, value, Span::nowhere())?;
             stream(out, &tokens)
         }
     }
@@ -148,10 +149,10 @@ fn for_lifetimes(
     out: &mut Layout,
     all: &Option<Punctuated<Lifetime<'_>>>,
 ) -> Result<(), AllocError>
-    ensures { OnOk result (out.new ≡ lay out.old (syntax.for_trees spec.emitted all.now)) }
+    ensures { OnOk result (out.new ≡ lay out.old (syntax.for_trees nowhere all.now)) }
 {
     let mut tokens = TokenStream::new(alloc);
-    write_for(alloc, &mut tokens, all, emitted())?;
+    write_for(alloc, &mut tokens, all, Span::nowhere())?;
     stream(out, &tokens)
 }
 

@@ -2,17 +2,18 @@
 #![tactic(auto, using(crate::proofs::Laying::print_steps))]
 
 ghost use Rattle.std.specs.Prelude.{◌≡◌, map, OnOk, true};
+ghost use Rattle.dm_tokens.specs.Layout.{nowhere};
 ghost use Rattle.dm_syntax.specs.Tree.{ty_view, some_self, path_view, segment_view, self_view, arguments_view, maybe_self_view, segments_of};
 ghost use Rattle.dm_syntax.specs.TypeTokens as syntax;
 ghost use Rattle.dm_emit.specs.Tokens as spec;
 ghost use Rattle.dm_emit.specs.Laying.{lay};
 
-use super::token::{emitted, joint, joint_if, name, stream};
+use super::token::{joint, joint_if, name, stream};
 use crate::expr::PathExpr;
 use dm_syntax::{
     Path, PathArguments, PathSegment, QSelf, Ty, write_arguments, write_qualified, write_type,
 };
-use dm_tokens::{Layout, TokenStream};
+use dm_tokens::{Layout, Span, TokenStream};
 use std::alloc::{AllocError, Global};
 
 pub fn ty(alloc: Global, out: &mut Layout, ty: &Ty<'_>) -> Result<(), AllocError>
@@ -24,14 +25,14 @@ pub fn ty(alloc: Global, out: &mut Layout, ty: &Ty<'_>) -> Result<(), AllocError
 }
 
 pub fn path(alloc: Global, out: &mut Layout, path: &Path<'_>) -> Result<(), AllocError>
-    ensures { OnOk result (out.new ≡ lay out.old (syntax.path_trees spec.emitted (path_view path.now))) }
+    ensures { OnOk result (out.new ≡ lay out.old (syntax.path_trees nowhere (path_view path.now))) }
 {
     joint_if(out, path.leading_colon, ':', ':')?;
     segments(alloc, out, path.segments.as_slice())
 }
 
 fn segments(alloc: Global, out: &mut Layout, all: &[PathSegment<'_>]) -> Result<(), AllocError>
-    ensures { OnOk result (out.new ≡ lay out.old (syntax.spaced (syntax.colons spec.emitted) true (syntax.each_segment spec.emitted (segments_of (map segment_view all.now))))) }
+    ensures { OnOk result (out.new ≡ lay out.old (syntax.spaced (syntax.colons nowhere) true (syntax.each_segment nowhere (segments_of (map segment_view all.now))))) }
 {
     for (i, one) in all.iter().enumerate() {
         if i > 0 {
@@ -43,7 +44,7 @@ fn segments(alloc: Global, out: &mut Layout, all: &[PathSegment<'_>]) -> Result<
 }
 
 fn segment(alloc: Global, out: &mut Layout, segment: &PathSegment<'_>) -> Result<(), AllocError>
-    ensures { OnOk result (out.new ≡ lay out.old (syntax.segment_trees spec.emitted (segment_view segment.now))) }
+    ensures { OnOk result (out.new ≡ lay out.old (syntax.segment_trees nowhere (segment_view segment.now))) }
 {
     name(out, &segment.ident)?;
     arguments(alloc, out, &segment.arguments)
@@ -54,13 +55,13 @@ fn arguments(
     out: &mut Layout,
     arguments: &PathArguments<'_>,
 ) -> Result<(), AllocError>
-    ensures { OnOk result (out.new ≡ lay out.old (syntax.arguments_trees spec.emitted (arguments_view arguments.now))) }
+    ensures { OnOk result (out.new ≡ lay out.old (syntax.arguments_trees nowhere (arguments_view arguments.now))) }
 {
     if let PathArguments::Absent = arguments {
         return Ok(());
     }
     let mut tokens = TokenStream::new(alloc);
-    write_arguments(alloc, &mut tokens, arguments, emitted())?;
+    write_arguments(alloc, &mut tokens, arguments, Span::nowhere())?;
     stream(out, &tokens)
 }
 
@@ -90,7 +91,7 @@ fn qualified<'a>(
         qself,
         path.leading_colon,
         segments,
-        emitted(),
+        Span::nowhere(),
     )?;
     stream(out, &tokens)
 }

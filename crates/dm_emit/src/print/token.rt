@@ -6,15 +6,8 @@ ghost use Rattle.dm_syntax.specs.TypeTokens as syntax;
 ghost use Rattle.dm_emit.specs.Tokens as spec;
 ghost use Rattle.dm_emit.specs.Laying.{lay, begun, done};
 
-use dm_tokens::{Delim, Ident, Layout, Lifetime, Spacing, Span, TokenStream};
+use dm_tokens::{Delim, Ident, Layout, Lifetime, Spacing, TokenStream};
 use std::alloc::AllocError;
-
-/// The range of what is printed from no source.
-pub fn emitted() -> Span
-    ensures { result ≡ spec.emitted }
-{
-    Span { start: 0, end: 0 }
-}
 
 pub fn word(out: &mut Layout, text: &str) -> Result<(), AllocError>
     ensures { OnOk result (out.new ≡ lay out.old (spec.word text.now)) }
