@@ -1,5 +1,5 @@
 #!/usr/bin/env bash
-# Times the program on declarations of growing size, one process each, and prints bytes, seconds and the ratio to the size before.
+# Times the program on texts of growing size, one process each, and prints bytes, seconds and the ratio to the size before.
 # It asserts nothing, and the gate doesn't run it. Needs `rt` and python3.
 set -eu
 cd "$(dirname "$0")/.."
@@ -8,32 +8,62 @@ program=crates/dm_prog/out/dm_prog
 work=$(mktemp -d)
 trap 'rm -rf "$work"' EXIT
 
-# The trait's name, LF, and one tuple struct of about $1 bytes, whose fields have types of seven letters.
-python3 - "$work" <<'PY'
-import sys
-for size in (16 << 10, 64 << 10, 256 << 10, 1 << 20):
-    head, tail = "PartialEq\nstruct P(", ");"
-    field = "Field%02x,"
-    count = (size - len(head) - len(tail)) // len("Field00,")
-    text = head + "".join(field % (i % 256) for i in range(count)) + tail
-    open(f"{sys.argv[1]}/{size}", "w").write(text.ljust(size))
-PY
-
-python3 - "$work" "$program" <<'PY'
+cat > "$work/speed.py" <<'PY'
 import subprocess, sys, time
-before = None
-print("     input    output   seconds     ratio")
-for size in (16 << 10, 64 << 10, 256 << 10, 1 << 20):
-    best, written = None, 0
-    for _ in range(5):
-        with open(f"{sys.argv[1]}/{size}") as source:
+
+program, work = sys.argv[1:]
+SIZES = (16 << 10, 64 << 10, 256 << 10, 1 << 20)
+
+
+def repeated(part, size):
+    return (part * (size // len(part) + 1))[:size]
+
+
+def fields(size):
+    head, tail = "struct P(", ");"
+    count = (size - len(head) - len(tail)) // len("Field00,")
+    return head + "".join("Field%02x," % (i % 256) for i in range(count)) + tail
+
+
+def nested_comments(size):
+    depth = size // 4
+    return "/*" * depth + "*/" * depth
+
+
+# What is timed, and its text of about so many bytes.
+TEXTS = {
+    "a tuple struct whose fields have types of seven letters": fields,
+    "identifiers": lambda size: repeated("name_1 ", size),
+    "one raw string": lambda size: 'r#"' + "x" * (size - 5) + '"#',
+    "nested comments": nested_comments,
+    "open parentheses": lambda size: "(" * size,
+    "puncts": lambda size: repeated("+-=", size),
+}
+
+
+def best_of(path, times):
+    best = None
+    for _ in range(times):
+        with open(path) as source:
             start = time.perf_counter()
-            answer = subprocess.run([sys.argv[2]], stdin=source, stdout=subprocess.PIPE)
+            answer = subprocess.run([program], stdin=source, stdout=subprocess.PIPE)
             took = time.perf_counter() - start
-        assert answer.returncode == 0, answer.returncode
-        written = len(answer.stdout)
         best = took if best is None else min(best, took)
-    ratio = "" if before is None else f"{best / before:9.2f}"
-    print(f"{size:10d}{written:10d}{best:10.4f} {ratio}")
-    before = best
+    return best, answer.stdout
+
+
+for name, text in TEXTS.items():
+    print(name)
+    before = None
+    for size in SIZES:
+        line = "PartialEq\n"
+        path = f"{work}/input"
+        with open(path, "w") as file:
+            file.write(line + text(size - len(line)))
+        took, written = best_of(path, 5)
+        ratio = "" if before is None else f"{took / before:8.2f}"
+        answer = written[:60].decode().split("\n")[0] if len(written) < 100 else f"{len(written)} bytes written"
+        print(f"{size:10d}{took:10.4f} {ratio:>8}  {answer}")
+        before = took
 PY
+python3 "$work/speed.py" "$program" "$work"

@@ -1,30 +1,30 @@
 -- What the steps of a derive say of the text.
-use Rattle.std.proofs.Common.{◌≡◌, ℕ, List, map, Result, Ok, Err, ◌⊎◌, inl, inr}
-use Rattle.std.specs.Prelude.{MatchResult, IfOk, IfErr}
-use Rattle.dm_tokens.specs.declared.tokens.Span.{Span}
-use Rattle.dm_tokens.specs.declared.error.Kind.{Kind}
+use Rattle.std.proofs.Common.{◌≡◌, ℕ, List, map, Result, Ok, Err, inl, inr}
+use Rattle.std.specs.Prelude.{MatchResult, IfOk}
 use Rattle.dm_tokens.specs.declared.error.Kind.TheVariants as kind
 use Rattle.dm_tokens.specs.declared.error.Refusal.{Refusal}
 use Rattle.dm_tokens.specs.declared.error.Error.{Error}
 use Rattle.dm_tokens.specs.declared.error.Error.TheVariants.{NoMemory, Refused}
-use Rattle.dm_tokens.specs.Trees.{Trees, Stream}
-use Rattle.dm_tokens.specs.Nesting.{IsTreesOf, AreTheOnly, IsRefusalOf, not_yet}
+use Rattle.dm_tokens.specs.Nesting.{IsRefusalOf}
 use Rattle.dm_syntax.specs.declared.decl.DeriveInput.{DeriveInput}
-use Rattle.dm_syntax.specs.Declarations.{Declaration, declaration_view}
-use Rattle.dm_syntax.specs.Spells.{DeclarationOf, IsTheDeclaration, IsRefused, IsNotYet, Named}
+use Rattle.dm_syntax.specs.Declarations.{declaration_view}
 use Rattle.dm_emit.specs.declared.print.Expansion.{Expansion}
 use Rattle.dm_emit.specs.Output.{item_view}
 use Rattle.dm_cmp_ops.specs.Expanded.{IsExpanded, IsSpelled}
-use Rattle.dm_derive.specs.Derived.{Answers, IsKnown, Grammar, IsRead, IsUnread, Reads, Derives, Refuses, IsUnknown, IsNotRead}
+use Rattle.dm_derive.specs.Derived.{Answers, IsKnown, Reads, Derives, Refuses}
 
 pub not-lexed : (text : List ℕ) (e : Error) → IsRefusalOf text e → Reads text (Err e)
 not-lexed text NoMemory h = tt
-not-lexed text (Refused r) h = (λ d g named. h.1 g.trees g.are_trees, h.0)
+not-lexed text (Refused r) h = inl h
 
 pub not-derived : (name text : List ℕ) (e : Error) → IsKnown name → Reads text (Err e) → Derives name text (Err e)
 unfolding Refuses
 not-derived name text NoMemory known h = tt
-not-derived name text (Refused r) known h = inr (record { known = known; unread = h.0; is = h.1 })
+not-derived name text (Refused r) known h =
+    elim h as (λ _. Refuses name text r) [
+      | inl bad ↦ inr (inl (record { known = known; refused = bad }))
+      | inr late ↦ inr (inr (record { known = known; unread = late.0; is = late.1 }))
+    ]
 
 pub not-known : (name text : List ℕ) (r : Refusal) → (IsKnown name → ⊥) → r ≡ record { kind = kind.UnknownTrait; span = record { start = 0; «end» = 0 } } → Refuses name text r
 unfolding Refuses

@@ -1,11 +1,11 @@
 -- What a trait's name and the text of a declaration are answered with.
 use Rattle.std.specs.Prelude.{◌≡◌, ℕ, List, map, length, codes, Result, Ok, Err, ◌⊎◌}
-use Rattle.dm_tokens.specs.declared.error.Kind.TheVariants.{UnknownTrait}
+use Rattle.dm_tokens.specs.declared.error.Kind.TheVariants.{UnknownTrait, NotYet}
 use Rattle.dm_tokens.specs.declared.error.Refusal.{Refusal}
 use Rattle.dm_tokens.specs.declared.error.Error.{Error}
 use Rattle.dm_tokens.specs.declared.error.Error.TheVariants.{NoMemory, Refused}
 use Rattle.dm_tokens.specs.Trees.{Trees}
-use Rattle.dm_tokens.specs.Nesting.{IsTreesOf, not_yet}
+use Rattle.dm_tokens.specs.Nesting.{IsTreesOf, IsWhole, IsRefused}
 use Rattle.dm_syntax.specs.declared.decl.DeriveInput.{DeriveInput}
 use Rattle.dm_syntax.specs.Declarations.{Declaration, declaration_view}
 use Rattle.dm_syntax.specs.Spells.{DeclarationOf, Named}
@@ -23,14 +23,20 @@ pub record Grammar (text : List ℕ) (d : Declaration) : Type 0 where
   pub are_trees : IsTreesOf text trees
   pub spelled : DeclarationOf d trees
 
--- d is the one declaration with the grammar of the text
+-- the refusal of a text that is of no form that is read yet
+abbrev pub not_yet : List ℕ → Refusal
+not_yet text = record { kind = NotYet; span = record { start = 0; «end» = length text } }
+
+-- d is the one declaration with the grammar of the text, which is made of tokens that are not too deep
 pub record IsRead (text : List ℕ) (d : Declaration) : Type 0 where
+  pub whole : IsWhole text
   pub grammar : Grammar text d
   pub only : (e : Declaration) → Grammar text e → e ≡ d
 
--- no declaration that may be named so has the grammar of the text
-abbrev pub IsUnread : List ℕ → Type 0
-IsUnread text = (d : Declaration) → Grammar text d → Named d → ⊥
+-- the text is made of tokens that are not too deep, and no declaration that may be named so has its grammar
+pub record IsUnread (text : List ℕ) : Type 0 where
+  pub whole : IsWhole text
+  pub none : (d : Declaration) → Grammar text d → Named d → ⊥
 
 -- the implementations that the trait of this name derives for the text, and their text
 pub record Expands (name text : List ℕ) (items : List ItemTree) (written : List ℕ) : Type 0 where
@@ -44,7 +50,7 @@ pub record Expands (name text : List ℕ) (items : List ItemTree) (written : Lis
 abbrev pub Reads : List ℕ → Result DeriveInput Error → Type 0
 Reads text (Ok d) = IsRead text (declaration_view d) × Named (declaration_view d)
 Reads text (Err NoMemory) = Unit {0}
-Reads text (Err (Refused r)) = IsUnread text × (r ≡ not_yet text)
+Reads text (Err (Refused r)) = IsRefused text r.kind r.span ⊎ (IsUnread text × (r ≡ not_yet text))
 
 -- this text is that of the trait's implementations
 unfoldable pub Answers : List ℕ → List ℕ → List ℕ → Type 0
@@ -55,6 +61,11 @@ pub record IsUnknown (name : List ℕ) (r : Refusal) : Type 0 where
   pub unknown : IsKnown name → ⊥
   pub is : r ≡ record { kind = UnknownTrait; span = record { start = 0; «end» = 0 } }
 
+-- the trait is derived, but the text is not made of tokens, or they are too deep
+pub record IsNotLexed (name text : List ℕ) (r : Refusal) : Type 0 where
+  pub known : IsKnown name
+  pub refused : IsRefused text r.kind r.span
+
 -- the trait is derived, but the text is of no form that is read yet
 pub record IsNotRead (name text : List ℕ) (r : Refusal) : Type 0 where
   pub known : IsKnown name
@@ -63,7 +74,7 @@ pub record IsNotRead (name text : List ℕ) (r : Refusal) : Type 0 where
 
 -- the text is refused so
 unfoldable pub Refuses : List ℕ → List ℕ → Refusal → Type 0
-Refuses name text r = IsUnknown name r ⊎ IsNotRead name text r
+Refuses name text r = IsUnknown name r ⊎ IsNotLexed name text r ⊎ IsNotRead name text r
 
 -- what a derive answers, want of memory aside
 abbrev pub Derives : List ℕ → List ℕ → Result Expansion Error → Type 0

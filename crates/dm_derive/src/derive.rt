@@ -4,8 +4,7 @@
 ghost use Rattle.std.specs.Prelude.{◌≡◌, ◌↔◌, IsTrue, IfOk};
 ghost use Rattle.dm_tokens.specs.declared.error.Error.TheVariants as error;
 ghost use Rattle.dm_tokens.specs.declared.error.Kind.TheVariants as kind;
-ghost use Rattle.dm_tokens.specs.Nesting.{not_yet};
-ghost use Rattle.dm_derive.specs.Derived.{Answers, Derives, IsKnown, Reads};
+ghost use Rattle.dm_derive.specs.Derived.{Answers, Derives, IsKnown, Reads, not_yet};
 
 use dm_cmp_ops::partial_eq;
 use dm_emit::Expansion;
@@ -16,7 +15,8 @@ use std::alloc::Global;
 /// The implementations that the trait of this name derives for the declaration.
 ///
 /// The name is that of the trait alone, as `PartialEq`. A name of no trait that is derived is refused with
-/// `Kind::UnknownTrait` at 0..0; a text that isn't `struct Name(Name, ..);` with names that derives can work with is
+/// `Kind::UnknownTrait` at 0..0; a text that isn't made of tokens with `Kind::Lex` and the range of its first fault; one whose
+/// tokens stand inside more than 128 groups with `Kind::TooDeep` and the first such token's range; a text that isn't `struct Name(Name, ..);` with names that derives can work with is
 /// refused with `Kind::NotYet` and the range of the whole text, in bytes.
 pub fn derive_text<'a>(
     alloc: Global,

@@ -8,6 +8,10 @@ const INPUT: &[u8] = b"PartialEq\nstruct P(i32);";
 const ONE_FIELD: &[u8] =
     b"# [allow (private_bounds)] # [automatically_derived] impl derive_more :: core :: cmp :: PartialEq for P { # [inline] fn eq (& self , __other : & Self) -> bool { match (self , __other) { (Self (__self_0 ,) , Self (__other_0 ,)) => { __self_0 == __other_0 } , } } # [inline] fn ne (& self , __other : & Self) -> bool { match (self , __other) { (Self (__self_0 ,) , Self (__other_0 ,)) => { __self_0 != __other_0 } , } } }\n";
 
+/// The implementation for `struct r#P(i32);`.
+const RAW_NAME: &[u8] =
+    b"# [allow (private_bounds)] # [automatically_derived] impl derive_more :: core :: cmp :: PartialEq for r#P { # [inline] fn eq (& self , __other : & Self) -> bool { match (self , __other) { (Self (__self_0 ,) , Self (__other_0 ,)) => { __self_0 == __other_0 } , } } # [inline] fn ne (& self , __other : & Self) -> bool { match (self , __other) { (Self (__self_0 ,) , Self (__other_0 ,)) => { __self_0 != __other_0 } , } } }\n";
+
 /// The implementation for `struct P(A, B);`.
 const TWO_FIELDS: &[u8] =
     b"# [allow (private_bounds)] # [automatically_derived] impl derive_more :: core :: cmp :: PartialEq for P { # [inline] fn eq (& self , __other : & Self) -> bool { match (self , __other) { (Self (__self_0 , __self_1 ,) , Self (__other_0 , __other_1 ,)) => { __self_0 == __other_0 && __self_1 == __other_1 } , } } # [inline] fn ne (& self , __other : & Self) -> bool { match (self , __other) { (Self (__self_0 , __self_1 ,) , Self (__other_0 , __other_1 ,)) => { __self_0 != __other_0 || __self_1 != __other_1 } , } } }\n";
@@ -56,6 +60,10 @@ fn implementations(rt: HostRuntime) -> Result<(), AllocError> {
             b"PartialEq\n\tstruct\r\nP ( A,B , );".as_slice(),
             TWO_FIELDS,
         ),
+        (
+            b"PartialEq\n// \"\n/* /**/ */ struct r#P(r#fn); // x".as_slice(),
+            RAW_NAME,
+        ),
     ] {
         let (status, sink) = run(alloc, &[], sound(input))?;
         assert!(rt; status == Status::Done && sink.written() == text);
@@ -94,6 +102,22 @@ fn refusals(rt: HostRuntime) -> Result<(), AllocError> {
         (
             b"PartialEq\nstruct derive_more(A);".as_slice(),
             b"NotYet 0..22: form is not built yet\n".as_slice(),
+        ),
+        (
+            b"PartialEq\nstruct r#__P(A);".as_slice(),
+            b"NotYet 0..16: form is not built yet\n".as_slice(),
+        ),
+        (
+            b"PartialEq\nstruct S([u8; 1e5]);".as_slice(),
+            b"Lex 14..17: text is not made of tokens\n".as_slice(),
+        ),
+        (
+            b"PartialEq\nstruct S(u8".as_slice(),
+            b"Lex 8..9: text is not made of tokens\n".as_slice(),
+        ),
+        (
+            b"Hash\n\"".as_slice(),
+            b"UnknownTrait 0..0: no derive of this name\n".as_slice(),
         ),
         (
             b"Hash\nstruct S;".as_slice(),
@@ -181,4 +205,33 @@ fn splits(rt: HostRuntime) {
     assert!(rt; split(b"A\rb").is_none());
     assert!(rt; split(b"").is_none());
     assert!(rt; split(b"A\n\xff").is_none());
+}
+
+/// The trait's name and so many groups in one another.
+fn nested(alloc: Global, depth: usize) -> Result<Vec<u8>, AllocError> {
+    let mut input = Vec::from_slice(alloc, b"PartialEq\n")?;
+    for _ in 0..depth {
+        input.push(b'(')?;
+    }
+    for _ in 0..depth {
+        input.push(b')')?;
+    }
+    Ok(input)
+}
+
+#[test]
+fn depths(rt: HostRuntime) -> Result<(), AllocError> {
+    let alloc = rt.alloc();
+    for (depth, line) in [
+        (129, b"NotYet 0..258: form is not built yet\n".as_slice()),
+        (
+            130,
+            b"TooDeep 129..130: nested deeper than 128\n".as_slice(),
+        ),
+    ] {
+        let input = nested(alloc, depth)?;
+        let (status, sink) = run(alloc, &[], sound(input.as_slice()))?;
+        assert!(rt; status == Status::Refused && sink.written() == line);
+    }
+    Ok(())
 }

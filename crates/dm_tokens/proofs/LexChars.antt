@@ -5,7 +5,7 @@ use Rattle.std.proofs.Math.Seq.{take-add, take-append_seam}
 use Rattle.std.proofs.lemmas.Str.{drop_past_char, IsUtf8-past_char, IsCharBoundary-past_char, IsCharBoundary-start, length-encode, chars-nil, encodes-append}
 use Rattle.std.specs.Char.{len_utf8}
 use Rattle.std.specs.Str.{chars, encode_utf8_all, IsUtf8}
-use Rattle.dm_tokens.specs.Lexemes.{IsFront, run, blank, is_space}
+use Rattle.dm_tokens.specs.Fronts.{IsFront, run}
 
 take-next : (n c : ℕ) (cs ds : List ℕ) → drop n cs ≡ c ∷ ds → take (suc n) cs ≡ take n cs ++ c ∷ []
 take-next zero c [] ds h = absurd (cc)
@@ -58,10 +58,10 @@ pub record IsRunSoFar (p : ℕ → Bool) (text : List ℕ) (at : ℕ) (rest : Li
 pub run-start : (p : ℕ → Bool) (text : List ℕ) → IsUtf8 text → IsRunSoFar p text 0 text
 run-start p text u = record { count = 0; front = front-none text u; rest_is = refl; utf8 = u; steps = sym (zero-add (run p (chars text))) }
 
-run-pass : (p : ℕ → Bool) (c : ℕ) (cs : List ℕ) → p c ≡ true → run p (c ∷ cs) ≡ suc (run p cs)
+pub run-pass : (p : ℕ → Bool) (c : ℕ) (cs : List ℕ) → p c ≡ true → run p (c ∷ cs) ≡ suc (run p cs)
 run-pass p c cs h = ap (λ b. cond b (suc (run p cs)) 0) h
 
-run-fail : (p : ℕ → Bool) (c : ℕ) (cs : List ℕ) → p c ≡ false → run p (c ∷ cs) ≡ 0
+pub run-fail : (p : ℕ → Bool) (c : ℕ) (cs : List ℕ) → p c ≡ false → run p (c ∷ cs) ≡ 0
 run-fail p c cs h = ap (λ b. cond b (suc (run p cs)) 0) h
 
 pub run-next : (p : ℕ → Bool) (text rest after : List ℕ) (at c : ℕ) → IsRunSoFar p text at rest → p c ≡ true →
@@ -98,19 +98,6 @@ pub front-length : (text : List ℕ) (at n : ℕ) → IsFront text at n → at �
 front-length text at n f =
     let t : length (take at text) ≡ at = let b = f.boundary.0 in simp length-take (omega arith) in
     sym t ∙ ap length f.bytes_are
-
-pub blank-one : (text after : List ℕ) (c : ℕ) → IsUtf8 text → text ≡ encode_utf8 c ++ after → chars text ≡ c ∷ chars after →
-    is_space c ≡ true → IsFront text (len_utf8 c) (blank (chars text))
-blank-one text after c u e k h =
-    let P : ℕ → Type 0 = λ n. IsFront text (len_utf8 c) n in
-    let b : blank (chars text) ≡ 1 = ap blank k ∙ ap (λ v. cond v 1 0) h in
-    subst P (sym b) (front-one text after c u e k)
-
-pub blank-none : (text cs : List ℕ) (c : ℕ) → IsUtf8 text → chars text ≡ c ∷ cs → is_space c ≡ false → IsFront text 0 (blank (chars text))
-blank-none text cs c u k h =
-    let P : ℕ → Type 0 = λ n. IsFront text 0 n in
-    let b : blank (chars text) ≡ 0 = ap blank k ∙ ap (λ v. cond v 1 0) h in
-    subst P (sym b) (front-none text u)
 
 pub chars-none : (text rest : List ℕ) → rest ≡ text → length rest ≡ 0 → chars text ≡ []
 chars-none [] rest e h = chars-nil

@@ -1,81 +1,89 @@
 -- Steps over the lexemes of a text.
-use Rattle.std.specs.Prelude.{◌≡◌, ℕ, zero, suc, ◌+◌, ◌-◌, ◌<◌, ◌≤◌, Bool, true, false, List, [], ◌∷◌, ◌++◌, length, take, drop, encode_utf8, refl, cond, Option, Some, None}
+use Rattle.std.specs.Prelude.{◌≡◌, ℕ, zero, suc, ◌+◌, ◌-◌, ◌<◌, ◌≤◌, Bool, true, false, List, [], ◌∷◌, ◌++◌, length, take, drop, encode_utf8, refl, cond, nat_eq, ◌&&◌, Option, Some, None}
 use Rattle.std.proofs.Common.{ap, ◌∙◌, sym, subst, arith, length-drop, length-append, add-zero}
+use Rattle.std.proofs.lemmas.Str.{chars-nil, encodes-chars, chars_from_encodes, IsUtf8-drop, IsUtf8-past_char}
 use Rattle.std.proofs.lemmas.Bool.Decides.{nat_tests}
-use Rattle.std.proofs.lemmas.Str.{length-encode, len_utf8_bounds, len_utf8_ascii, chars-nil, encodes-chars, IsUtf8-drop}
 use Rattle.std.proofs.Math.ListN.{drop_of_length-le}
 use Rattle.std.specs.Str.{chars, encode_utf8_all, IsUtf8}
 use Rattle.dm_tokens.specs.declared.tokens.Span.{Span}
-use Rattle.dm_tokens.specs.declared.tokens.Delim.{Delim}
-use Rattle.dm_tokens.specs.declared.tokens.Spacing.{Spacing}
-use Rattle.dm_tokens.specs.declared.tokens.Token.TheVariants as t
 use Rattle.dm_tokens.specs.declared.error.Error.{Error}
 use Rattle.dm_tokens.specs.declared.error.Error.TheVariants.{Refused}
+use Rattle.dm_tokens.specs.declared.error.Kind.TheVariants as kind
 use Rattle.dm_tokens.specs.declared.lexing.Lexeme.{Lexeme}
-use Rattle.dm_tokens.specs.declared.lexing.Lexeme.TheVariants as lexeme
+use Rattle.dm_tokens.specs.declared.lexing.Progress.{Progress}
+use Rattle.dm_tokens.specs.declared.lexing.Progress.TheVariants as progress
 use Rattle.dm_tokens.specs.declared.nesting.Nesting.{Nesting}
+use Rattle.dm_tokens.specs.declared.blanks.Blank.{Blank}
+use Rattle.dm_tokens.specs.declared.blanks.Blank.TheVariants.{Absent, Size, Unclosed}
 use Rattle.dm_tokens.specs.Trees.{Trees, no_trees, flatten, unflatten, unflatten-flatten}
-use Rattle.dm_tokens.specs.Lexemes.{IsFront, IsLexeme, run, blank, row, lexemes, with_lexeme, one_more, begins_raw, starts_word, goes_on, word, byte_at, opened_by, closed_by, is_punct, punct, spacing_before, open_row, close_row}
-use Rattle.dm_tokens.specs.Nesting.{nest, nest_all, found, Level, IsNesting, IsNested, Takes, After, Advances, IsStep, IsTreesOf, IsRefusalOf, not_yet, at_end}
+use Rattle.dm_tokens.specs.Fronts.{IsFront, run}
+use Rattle.dm_tokens.specs.Words.{begins_pair}
+use Rattle.dm_tokens.specs.Words as words
+use Rattle.dm_tokens.specs.declared.words.Class.TheVariants.{Line}
+use Rattle.dm_tokens.specs.Blanks.{blank_length, begins_blank_char, block, closing, IsBlank}
+use Rattle.dm_tokens.specs.Rows.{gives, refuses, passes, row, range, Reading, reading, read_front, read_row, with_lexeme, faulty, IsGiven, IsRefusing}
+use Rattle.dm_tokens.specs.Nesting.{nest_all, found, Level, Verdict, are_trees, has_fault, IsNesting, IsNested, IsInnermost, Takes, After, Advances, IsStep, IsTreesOf, IsRefused, IsRefusalOf, IsWhole, at_end, fault_of, first_deep}
 use Rattle.dm_tokens.proofs.Cuts.{drop-more}
-use Rattle.dm_tokens.proofs.LexChars.{front-length, front-one}
-use Rattle.dm_tokens.proofs.Nestings.{nest_all-sound, nest_all-complete, nesting-flat}
-
-cond-true : {A : Type 0} (b : Bool) (x y : A) → b ≡ true → cond b x y ≡ x
-cond-true b x y h = ap (λ v. cond v x y) h
-
-cond-false : {A : Type 0} (b : Bool) (x y : A) → b ≡ false → cond b x y ≡ y
-cond-false b x y h = ap (λ v. cond v x y) h
+use Rattle.dm_tokens.proofs.LexChars.{front-length}
+use Rattle.dm_tokens.proofs.Fronts.{behind-two}
+use Rattle.dm_tokens.proofs.Nestings.{nest_all-sound, faulty-none, fault_in, nest-fault, nest-deep, nesting-flat, innermost-from}
 
 -- passing over characters
-lexemes-skip : (at n : ℕ) (cs : List ℕ) → lexemes at n cs ≡ lexemes (at + length (encode_utf8_all (take n cs))) 0 (drop n cs)
-lexemes-skip at zero [] = refl
-lexemes-skip at zero (c ∷ cs) = ap (λ i. lexemes i 0 (c ∷ cs)) (sym (add-zero at))
-lexemes-skip at (suc n) [] = refl
-lexemes-skip at (suc n) (c ∷ cs) =
+reading-skip : (at n : ℕ) (cs : List ℕ) → reading at n cs ≡ reading (at + length (encode_utf8_all (take n cs))) 0 (drop n cs)
+reading-skip at zero [] = refl
+reading-skip at zero (c ∷ cs) = ap (λ i. reading i 0 (c ∷ cs)) (sym (add-zero at))
+reading-skip at (suc n) [] = refl
+reading-skip at (suc n) (c ∷ cs) =
     let e : (at + length (encode_utf8 c)) + length (encode_utf8_all (take n cs)) ≡ at + length (encode_utf8 c ++ encode_utf8_all (take n cs)) =
     omega (arith, length-append (encode_utf8 c) (encode_utf8_all (take n cs))) in
-    lexemes-skip (at + length (encode_utf8 c)) n cs ∙ ap (λ i. lexemes i 0 (drop n cs)) e
-
-lexemes-blank : (at n : ℕ) (cs : List ℕ) → blank cs ≡ n → 0 < n → lexemes at 0 cs ≡ lexemes at n cs
-lexemes-blank at zero cs h z = absurd (omega arith)
-lexemes-blank at (suc n) [] h z = refl
-lexemes-blank at (suc n) (c ∷ cs) h z =
-    ap (λ b. one_more b (row at (c ∷ cs)) (λ more. lexemes (at + length (encode_utf8 c)) more cs)) h
-
-lexemes-none : (at : ℕ) (c : ℕ) (cs : List ℕ) → blank (c ∷ cs) ≡ 0 → row at (c ∷ cs) ≡ None → lexemes at 0 (c ∷ cs) ≡ None
-lexemes-none at c cs h r =
-    ap (λ b. one_more b (row at (c ∷ cs)) (λ more. lexemes (at + length (encode_utf8 c)) more cs)) h ∙
-    ap (λ f. one_more 0 f (λ more. lexemes (at + length (encode_utf8 c)) more cs)) r
+    reading-skip (at + length (encode_utf8 c)) n cs ∙ ap (λ i. reading i 0 (drop n cs)) e
 
 suc-less : (n : ℕ) → suc n - 1 ≡ n
 suc-less n = omega arith
 
-lexemes-row : (at n : ℕ) (cs : List ℕ) (x : Lexeme) → blank cs ≡ 0 → row at cs ≡ Some (x, n) → 0 < n →
-    lexemes at 0 cs ≡ with_lexeme x (lexemes at n cs)
-lexemes-row at zero cs x h r z = absurd (omega arith)
-lexemes-row at (suc n) [] x h r z = absurd (cc)
-lexemes-row at (suc n) (c ∷ cs) x h r z =
-    ap (λ b. one_more b (row at (c ∷ cs)) (λ more. lexemes (at + length (encode_utf8 c)) more cs)) h ∙
-    ap (λ f. one_more 0 f (λ more. lexemes (at + length (encode_utf8 c)) more cs)) r ∙
-    ap (λ i. with_lexeme x (lexemes (at + length (encode_utf8 c)) i cs)) (suc-less n)
+-- what is read of characters that begin with a blank of n characters
+reading-blank : (at n : ℕ) (cs : List ℕ) → blank_length cs ≡ Size n → 0 < n → reading at 0 cs ≡ reading at n cs
+reading-blank at zero cs h z = absurd (omega arith)
+reading-blank at (suc n) [] h z = refl
+reading-blank at (suc n) (c ∷ cs) h z =
+    ap (λ b. read_front at (c ∷ cs) b (row at (c ∷ cs)) (λ more. reading (at + length (encode_utf8 c)) more cs)) h ∙
+    ap (λ i. reading (at + length (encode_utf8 c)) i cs) (suc-less n)
+
+reading-unclosed : (at c : ℕ) (cs : List ℕ) → blank_length (c ∷ cs) ≡ Unclosed → reading at 0 (c ∷ cs) ≡ faulty (range at (c ∷ cs) 2)
+reading-unclosed at c cs h = ap (λ b. read_front at (c ∷ cs) b (row at (c ∷ cs)) (λ more. reading (at + length (encode_utf8 c)) more cs)) h
+
+reading-row : (at c : ℕ) (cs : List ℕ) → blank_length (c ∷ cs) ≡ Absent →
+    reading at 0 (c ∷ cs) ≡ read_row at (c ∷ cs) (row at (c ∷ cs)) (λ more. reading (at + length (encode_utf8 c)) more cs)
+reading-row at c cs h = ap (λ b. read_front at (c ∷ cs) b (row at (c ∷ cs)) (λ more. reading (at + length (encode_utf8 c)) more cs)) h
+
+reading-refused : (at c n : ℕ) (cs : List ℕ) → blank_length (c ∷ cs) ≡ Absent → row at (c ∷ cs) ≡ refuses n →
+    reading at 0 (c ∷ cs) ≡ faulty (range at (c ∷ cs) n)
+reading-refused at c n cs h r =
+    reading-row at c cs h ∙ ap (λ f. read_row at (c ∷ cs) f (λ more. reading (at + length (encode_utf8 c)) more cs)) r
+
+reading-passed : (at c : ℕ) (cs : List ℕ) → blank_length (c ∷ cs) ≡ Absent → row at (c ∷ cs) ≡ passes →
+    reading at 0 (c ∷ cs) ≡ faulty (range at (c ∷ cs) 1)
+reading-passed at c cs h r =
+    reading-row at c cs h ∙ ap (λ f. read_row at (c ∷ cs) f (λ more. reading (at + length (encode_utf8 c)) more cs)) r
+
+reading-given : (at n c : ℕ) (cs : List ℕ) (x : Lexeme) → blank_length (c ∷ cs) ≡ Absent → row at (c ∷ cs) ≡ gives x n → 0 < n →
+    reading at 0 (c ∷ cs) ≡ with_lexeme x (reading at n (c ∷ cs))
+reading-given at zero c cs x h r z = absurd (omega arith)
+reading-given at (suc n) c cs x h r z =
+    reading-row at c cs h ∙ ap (λ f. read_row at (c ∷ cs) f (λ more. reading (at + length (encode_utf8 c)) more cs)) r ∙
+    ap (λ i. with_lexeme x (reading (at + length (encode_utf8 c)) i cs)) (suc-less n)
 
 -- passing over a front
-lexemes-front : (at size n : ℕ) (text : List ℕ) → IsFront text size n →
-    lexemes at n (chars text) ≡ lexemes (at + size) 0 (chars (drop size text))
-lexemes-front at size n text f =
-    lexemes-skip at n (chars text) ∙ ap (λ i. lexemes (at + i) 0 (drop n (chars text))) (sym (front-length text size n f)) ∙
-    ap (lexemes (at + size) 0) (sym f.rest_is)
+reading-front : (at size n : ℕ) (text : List ℕ) → IsFront text size n →
+    reading at n (chars text) ≡ reading (at + size) 0 (chars (drop size text))
+reading-front at size n text f =
+    reading-skip at n (chars text) ∙ ap (λ i. reading (at + i) 0 (drop n (chars text))) (sym (front-length text size n f)) ∙
+    ap (reading (at + size) 0) (sym f.rest_is)
 
 -- a front of some bytes has some characters, and one of none has none
 front-some : (size n : ℕ) (text : List ℕ) → IsFront text size n → 0 < size → 0 < n
 front-some size zero text f z = let e : size ≡ 0 = front-length text size 0 f in absurd (omega arith)
 front-some size (suc n) text f z = omega arith
-
-taken-none : (n c : ℕ) (cs : List ℕ) → length (encode_utf8_all (take n (c ∷ cs))) ≡ 0 → n ≡ 0
-taken-none zero c cs h = refl
-taken-none (suc n) c cs h =
-    absurd (omega (arith, length-append (encode_utf8 c) (encode_utf8_all (take n cs)), length-encode c, len_utf8_bounds c, h))
 
 chars-some : (text : List ℕ) → IsUtf8 text → 0 < length text → chars text ≡ [] → ⊥
 chars-some text u z h =
@@ -93,220 +101,122 @@ some_chars (c ∷ cs) h = begins c cs refl
 text-begins : (text : List ℕ) → IsUtf8 text → 0 < length text → Some_chars (chars text)
 text-begins text u z = some_chars (chars text) (chars-some text u z)
 
-no_blank : (text : List ℕ) (blanks n : ℕ) → IsUtf8 text → 0 < length text → IsFront text blanks n → blanks ≡ 0 → n ≡ 0
-no_blank text blanks n u z f q =
-    elim (text-begins text u z) [
-      | begins c ds e ↦
-          let l : length (encode_utf8_all (take n (c ∷ ds))) ≡ 0 =
-          ap (λ k. length (encode_utf8_all (take n k))) (sym e) ∙ sym (front-length text blanks n f) ∙ q in
-          taken-none n c ds l
-    ]
+range-front : (at size n : ℕ) (text : List ℕ) → IsFront text size n → range at (chars text) n ≡ record { start = at; «end» = at + size }
+range-front at size n text f = ap (λ k. record { start = at; «end» = at + k }) (sym (front-length text size n f))
 
-found-next : (at next : ℕ) (text rest : List ℕ) (ls : List Level) (here : Trees) → lexemes at 0 (chars text) ≡ lexemes next 0 (chars rest) →
-    found at text ls here ≡ found next rest ls here
-found-next at next text rest ls here h = ap (nest_all ls here) h
-
--- blanks were passed over
-pub step-blank : (old : Nesting) (at size : ℕ) (text : List ℕ) → IsFront text size (blank (chars text)) → 0 < size →
-    IsStep (Some size) old old at text
-step-blank old at size text f z ls here n = record {
+-- a blank was passed over
+pub step-blank : (old : Nesting) (at size count : ℕ) (text : List ℕ) → 0 < size → blank_length (chars text) ≡ Size count → IsFront text size count →
+    IsStep (progress.Reads size) old old at text
+step-blank old at size count text z b f ls here n = record {
   positive = z;
   boundary = f.boundary;
   levels = ls;
   trees = here;
   nested = n;
   steps =
-      ap (nest_all ls here)
-      (lexemes-blank at (blank (chars text)) (chars text) refl (front-some size (blank (chars text)) text f z) ∙
-      lexemes-front at size (blank (chars text)) text f);
+      ap (nest_all ls here old.deep)
+      (reading-blank at count (chars text) b (front-some size count text f z) ∙ reading-front at size count text f);
 }
 
-pub step-none : (old : Nesting) (at blanks : ℕ) (text : List ℕ) → IsUtf8 text → 0 < length text → IsFront text blanks (blank (chars text)) →
-    blanks ≡ 0 → row at (chars text) ≡ None → IsStep None old old at text
-step-none old at blanks text u z f q r ls here n =
-    let b : blank (chars text) ≡ 0 = no_blank text blanks (blank (chars text)) u z f q in
+pub step-size : (old : Nesting) (at size : ℕ) (text : List ℕ) (b : Blank) → IsBlank text b (blank_length (chars text)) → b ≡ Size size →
+    IsStep (progress.Reads size) old old at text
+step-size old at size text b h e =
+    let P : Blank → Type 0 = λ v. IsBlank text v (blank_length (chars text)) in
+    let s : IsBlank text (Size size) (blank_length (chars text)) = subst P e h in
+    step-blank old at size s.1.0 text s.0 s.1.1 s.1.2
+
+fault-steps : (old : Nesting) (at n : ℕ) (text : List ℕ) (s : Span) → reading at 0 (chars text) ≡ faulty (range at (chars text) n) →
+    range at (chars text) n ≡ s → IsStep (progress.Fault s) old old at text
+fault-steps old at n text s r q ls here k = ap (nest_all ls here old.deep) r ∙ ap has_fault q
+
+-- what reads by its characters reads so from a text
+from-chars : (at n : ℕ) (text : List ℕ) → IsUtf8 text → 0 < length text →
+    ((c : ℕ) (cs : List ℕ) → chars text ≡ c ∷ cs → reading at 0 (c ∷ cs) ≡ faulty (range at (c ∷ cs) n)) →
+    reading at 0 (chars text) ≡ faulty (range at (chars text) n)
+from-chars at n text u z h =
     elim (text-begins text u z) [
       | begins c ds e ↦
-          let P : List ℕ → Type 0 = λ l. blank l ≡ 0 → row at l ≡ None → nest_all ls here (lexemes at 0 l) ≡ None in
-          subst P (sym e) (λ h k. ap (nest_all ls here) (lexemes-none at c ds h k)) b r
+          let P : List ℕ → Type 0 = λ l. reading at 0 l ≡ faulty (range at l n) in
+          subst P (sym e) (h c ds e)
     ]
 
-lexeme-goes_on : (at size : ℕ) (text : List ℕ) (x : Lexeme) → blank (chars text) ≡ 0 → IsLexeme x size at text →
-    lexemes at 0 (chars text) ≡ with_lexeme x (lexemes (at + size) 0 (chars (drop size text)))
-lexeme-goes_on at size text x b l =
-    lexemes-row at l.count (chars text) x b l.row_is (front-some size l.count text l.front l.positive) ∙
-    ap (with_lexeme x) (lexemes-front at size l.count text l.front)
+pair-small : (a b c d : ℕ) → a < 128 → b < 128 → (nat_eq c a && nat_eq d b) ≡ true → (c < 128) × (d < 128)
+pair-small a b c d p q h = (grind (arith, nat_tests), grind (arith, nat_tests))
 
-nest_all-with : (ls levels : List Level) (here trees : Trees) (x : Lexeme) (rest : Option (List Lexeme)) →
-    ((xs : List Lexeme) → nest ls here (x ∷ xs) ≡ nest levels trees xs) → nest_all ls here (with_lexeme x rest) ≡ nest_all levels trees rest
-nest_all-with ls levels here trees x None h = refl
-nest_all-with ls levels here trees x (Some xs) h = h xs
+pair_front_chars : (text cs : List ℕ) (a b : ℕ) → IsUtf8 text → a < 128 → b < 128 → chars text ≡ cs → begins_pair a b cs ≡ true → IsFront text 2 2
+pair_front_chars text [] a b u p q k h = absurd (cc)
+pair_front_chars text (c ∷ []) a b u p q k h = absurd (cc)
+pair_front_chars text (c ∷ d ∷ cs) a b u p q k h =
+    let after : List ℕ = encode_utf8_all (d ∷ cs) in
+    let beyond : List ℕ = encode_utf8_all cs in
+    let e : text ≡ encode_utf8 c ++ after = sym (encodes-chars text u) ∙ ap encode_utf8_all k in
+    let ua : IsUtf8 after = IsUtf8-past_char text after c u e in
+    let ka : d ∷ cs ≡ chars after = chars_from_encodes (d ∷ cs) after ua refl in
+    let ub : IsUtf8 beyond = IsUtf8-past_char after beyond d ua refl in
+    let kb : cs ≡ chars beyond = chars_from_encodes cs beyond ub refl in
+    let small : (c < 128) × (d < 128) = pair-small a b c d p q h in
+    (behind-two text after beyond c d u small.0 small.1 e (k ∙ ap (λ l. c ∷ l) ka) refl (sym ka ∙ ap (λ l. d ∷ l) kb)).front
 
-nest_all-refused : (ls : List Level) (here : Trees) (x : Lexeme) (rest : Option (List Lexeme)) →
-    ((xs : List Lexeme) → nest ls here (x ∷ xs) ≡ None) → nest_all ls here (with_lexeme x rest) ≡ None
-nest_all-refused ls here x None h = refl
-nest_all-refused ls here x (Some xs) h = h xs
+unclosed-pair : (a b c : Bool) (s t : ℕ) (x : Blank) → cond a (Size s) (cond b (Size t) (cond c x Absent)) ≡ Unclosed → c ≡ true
+unclosed-pair true b c s t x h = absurd (cc)
+unclosed-pair false true c s t x h = absurd (cc)
+unclosed-pair false false true s t x h = refl
+unclosed-pair false false false s t x h = absurd (cc)
+
+pub unclosed-front : (text : List ℕ) → IsUtf8 text → blank_length (chars text) ≡ Unclosed → IsFront text 2 2
+unclosed-front text u h =
+    pair_front_chars text (chars text) 47 42 u (omega arith) (omega arith) refl (unclosed-pair (begins_blank_char (chars text)) (begins_pair 47 47 (chars text)) (begins_pair 47 42 (chars text)) 1
+    (2 + run (words.passes Line) (drop 2 (chars text))) (block (closing 0 (drop 2 (chars text)))) h)
+
+pub step-unclosed : (old : Nesting) (at : ℕ) (text : List ℕ) (s : Span) → IsUtf8 text → 0 < length text → blank_length (chars text) ≡ Unclosed →
+    s ≡ record { start = at; «end» = at + 2 } → IsStep (progress.Fault s) old old at text
+step-unclosed old at text s u z b q =
+    fault-steps old at 2 text s (from-chars at 2 text u z (λ c cs e. reading-unclosed at c cs (ap blank_length (sym e) ∙ b)))
+    (range-front at 2 2 text (unclosed-front text u b) ∙ sym q)
+
+pub step-refused : (old : Nesting) (at size : ℕ) (text : List ℕ) (s : Span) → IsUtf8 text → 0 < length text → blank_length (chars text) ≡ Absent →
+    IsRefusing (row at (chars text)) size text → s ≡ record { start = at; «end» = at + size } → IsStep (progress.Fault s) old old at text
+step-refused old at size text s u z b r q =
+    fault-steps old at r.count text s
+    (from-chars at r.count text u z (λ c cs e. reading-refused at c r.count cs (ap blank_length (sym e) ∙ b) (ap (row at) (sym e) ∙ r.row_is)))
+    (range-front at size r.count text r.front ∙ sym q)
+
+given-goes_on : (at size : ℕ) (text : List ℕ) (x : Lexeme) → IsUtf8 text → 0 < length text → blank_length (chars text) ≡ Absent →
+    IsGiven (row at (chars text)) x size text → reading at 0 (chars text) ≡ with_lexeme x (reading (at + size) 0 (chars (drop size text)))
+given-goes_on at size text x u z b g =
+    (elim (text-begins text u z) [
+      | begins c ds e ↦
+          let P : List ℕ → Type 0 = λ l. reading at 0 l ≡ with_lexeme x (reading at g.count l) in
+          subst P (sym e)
+          (reading-given at g.count c ds x (ap blank_length (sym e) ∙ b) (ap (row at) (sym e) ∙ g.row_is) (front-some size g.count text g.front g.positive))
+    ]) ∙
+    ap (with_lexeme x) (reading-front at size g.count text g.front)
 
 -- a lexeme was taken
-pub step-lexeme : (old new : Nesting) (at blanks size : ℕ) (text : List ℕ) (x : Lexeme) (takes : Bool) → IsUtf8 text → 0 < length text →
-    IsFront text blanks (blank (chars text)) → blanks ≡ 0 → IsLexeme x size at text → Takes takes old new x → takes ≡ true →
-    IsStep (Some size) old new at text
-step-lexeme old new at blanks size text x takes u z f q l k e ls here n =
-    let b : blank (chars text) ≡ 0 = no_blank text blanks (blank (chars text)) u z f q in
-    let P : Bool → Type 0 = λ v. Takes v old new x in
-    let a : After new x ls here = subst P e k ls here n in
+pub step-given : (old new : Nesting) (at size : ℕ) (text : List ℕ) (x : Lexeme) (takes : Option Span) → IsUtf8 text → 0 < length text →
+    blank_length (chars text) ≡ Absent → IsGiven (row at (chars text)) x size text → Takes takes old new x → takes ≡ None →
+    IsStep (progress.Reads size) old new at text
+step-given old new at size text x takes u z b g k e ls here n =
+    let P : Option Span → Type 0 = λ v. Takes v old new x in
+    let a : After old new x ls here = subst P e k ls here n in
+    let rest : Reading = reading (at + size) 0 (chars (drop size text)) in
     record {
-      positive = l.positive;
-      boundary = l.front.boundary;
+      positive = g.positive;
+      boundary = g.front.boundary;
       levels = a.levels;
       trees = a.trees;
       nested = a.nested;
-      steps =
-          ap (nest_all ls here) (lexeme-goes_on at size text x b l) ∙
-          nest_all-with ls a.levels here a.trees x (lexemes (at + size) 0 (chars (drop size text))) a.steps;
+      steps = ap (nest_all ls here old.deep) (given-goes_on at size text x u z b g) ∙ a.steps rest.lexemes rest.fault;
     }
 
-pub step-refused : (old new : Nesting) (at blanks size : ℕ) (text : List ℕ) (x : Lexeme) (takes : Bool) → IsUtf8 text → 0 < length text →
-    IsFront text blanks (blank (chars text)) → blanks ≡ 0 → IsLexeme x size at text → Takes takes old new x → takes ≡ false →
-    IsStep None old old at text
-step-refused old new at blanks size text x takes u z f q l k e ls here n =
-    let b : blank (chars text) ≡ 0 = no_blank text blanks (blank (chars text)) u z f q in
-    let P : Bool → Type 0 = λ v. Takes v old new x in
-    ap (nest_all ls here) (lexeme-goes_on at size text x b l) ∙
-    nest_all-refused ls here x (lexemes (at + size) 0 (chars (drop size text))) (subst P e k ls here n)
-
--- the rows
-
-open_row-none : (found : Option Delim) (at : ℕ) (below : Option (Lexeme × ℕ)) → found ≡ None → open_row found at below ≡ below
-open_row-none found at below h = ap (λ v. open_row v at below) h
-
-open_row-some : (found : Option Delim) (at : ℕ) (below : Option (Lexeme × ℕ)) (d : Delim) → found ≡ Some d →
-    open_row found at below ≡ Some (lexeme.Open d (byte_at at), 1)
-open_row-some found at below d h = ap (λ v. open_row v at below) h
-
-close_row-none : (found : Option Delim) (at : ℕ) (below : Option (Lexeme × ℕ)) → found ≡ None → close_row found at below ≡ below
-close_row-none found at below h = ap (λ v. close_row v at below) h
-
-close_row-some : (found : Option Delim) (at : ℕ) (below : Option (Lexeme × ℕ)) (d : Delim) → found ≡ Some d →
-    close_row found at below ≡ Some (lexeme.Close d (byte_at at), 1)
-close_row-some found at below d h = ap (λ v. close_row v at below) h
-
-row-word : (at c : ℕ) (cs : List ℕ) → begins_raw (c ∷ cs) ≡ false → starts_word c ≡ true →
-    row at (c ∷ cs) ≡ Some (word at (run goes_on (c ∷ cs)) (c ∷ cs), run goes_on (c ∷ cs))
-row-word at c cs h k = cond-false _ _ _ h ∙ cond-true _ _ _ k
-
-row-open : (at c : ℕ) (cs : List ℕ) (d : Delim) → begins_raw (c ∷ cs) ≡ false → starts_word c ≡ false → opened_by c ≡ Some d →
-    row at (c ∷ cs) ≡ Some (lexeme.Open d (byte_at at), 1)
-row-open at c cs d h k o = cond-false _ _ _ h ∙ cond-false _ _ _ k ∙ open_row-some _ _ _ _ o
-
-row-close : (at c : ℕ) (cs : List ℕ) (d : Delim) → begins_raw (c ∷ cs) ≡ false → starts_word c ≡ false → opened_by c ≡ None →
-    closed_by c ≡ Some d → row at (c ∷ cs) ≡ Some (lexeme.Close d (byte_at at), 1)
-row-close at c cs d h k o q =
-    cond-false _ _ _ h ∙ cond-false _ _ _ k ∙ open_row-none _ _ _ o ∙ close_row-some _ _ _ _ q
-
-row-punct : (at c : ℕ) (cs : List ℕ) → begins_raw (c ∷ cs) ≡ false → starts_word c ≡ false → opened_by c ≡ None → closed_by c ≡ None →
-    is_punct c ≡ true → row at (c ∷ cs) ≡ Some (punct at c cs, 1)
-row-punct at c cs h k o q p =
-    cond-false _ _ _ h ∙ cond-false _ _ _ k ∙ open_row-none _ _ _ o ∙ close_row-none _ _ _ q ∙ cond-true _ _ _ p
-
-pub row-other : (at c : ℕ) (cs : List ℕ) (l : List ℕ) → l ≡ c ∷ cs → begins_raw l ≡ false → starts_word c ≡ false → opened_by c ≡ None →
-    closed_by c ≡ None → is_punct c ≡ false → row at l ≡ None
-row-other at c cs l e h k o q p =
-    let b : begins_raw (c ∷ cs) ≡ false = ap begins_raw (sym e) ∙ h in
-    ap (row at) e ∙ cond-false _ _ _ b ∙ cond-false _ _ _ k ∙ open_row-none _ _ _ o ∙ close_row-none _ _ _ q ∙ cond-false _ _ _ p
-
-pub row-raw : (at : ℕ) (l : List ℕ) → begins_raw l ≡ true → row at l ≡ None
-row-raw at [] h = refl
-row-raw at (c ∷ cs) h = cond-true _ _ _ h
-
-opened-ascii : (c : ℕ) (d : Delim) → opened_by c ≡ Some d → c < 128
-opened-ascii c d h = grind (arith, nat_tests)
-
-closed-ascii : (c : ℕ) (d : Delim) → closed_by c ≡ Some d → c < 128
-closed-ascii c d h = grind (arith, nat_tests)
-
-punct-ascii : (c : ℕ) → is_punct c ≡ true → c < 128
-punct-ascii c h = grind (arith, nat_tests)
-
-word-goes_on : (c : ℕ) → starts_word c ≡ true → goes_on c ≡ true
-word-goes_on c h = grind (arith, nat_tests)
-
-front-ascii : (text after : List ℕ) (c : ℕ) → IsUtf8 text → text ≡ encode_utf8 c ++ after → chars text ≡ c ∷ chars after → c < 128 → IsFront text 1 1
-front-ascii text after c u e k a =
-    let P : ℕ → Type 0 = λ i. IsFront text i 1 in
-    subst P (len_utf8_ascii c a) (front-one text after c u e k)
-
--- the lexeme of a row, in the words of the program
-
-pub lexeme-open : (text after : List ℕ) (at c : ℕ) (d : Delim) (s : Span) → IsUtf8 text → text ≡ encode_utf8 c ++ after →
-    chars text ≡ c ∷ chars after → begins_raw (chars text) ≡ false → starts_word c ≡ false → opened_by c ≡ Some d → s ≡ byte_at at →
-    IsLexeme (lexeme.Open d s) 1 at text
-lexeme-open text after at c d s u e k r w o q =
-    let b : begins_raw (c ∷ chars after) ≡ false = ap begins_raw (sym k) ∙ r in
-    record {
-      count = 1;
-      row_is = ap (row at) k ∙ row-open at c (chars after) d b w o ∙ ap (λ v. Some (lexeme.Open d v, 1)) (sym q);
-      front = front-ascii text after c u e k (opened-ascii c d o);
-      positive = omega arith;
-    }
-
-pub lexeme-close : (text after : List ℕ) (at c : ℕ) (d : Delim) (s : Span) → IsUtf8 text → text ≡ encode_utf8 c ++ after →
-    chars text ≡ c ∷ chars after → begins_raw (chars text) ≡ false → starts_word c ≡ false → opened_by c ≡ None → closed_by c ≡ Some d →
-    s ≡ byte_at at → IsLexeme (lexeme.Close d s) 1 at text
-lexeme-close text after at c d s u e k r w n o q =
-    let b : begins_raw (c ∷ chars after) ≡ false = ap begins_raw (sym k) ∙ r in
-    record {
-      count = 1;
-      row_is = ap (row at) k ∙ row-close at c (chars after) d b w n o ∙ ap (λ v. Some (lexeme.Close d v, 1)) (sym q);
-      front = front-ascii text after c u e k (closed-ascii c d o);
-      positive = omega arith;
-    }
-
-pub lexeme-punct : (text after : List ℕ) (at c : ℕ) (spacing : Spacing) (s : Span) → IsUtf8 text → text ≡ encode_utf8 c ++ after →
-    chars text ≡ c ∷ chars after → begins_raw (chars text) ≡ false → starts_word c ≡ false → opened_by c ≡ None → closed_by c ≡ None →
-    is_punct c ≡ true → spacing ≡ spacing_before (chars after) → s ≡ byte_at at →
-    IsLexeme (lexeme.Token (t.Punct record { ch = c; spacing = spacing; span = s })) 1 at text
-lexeme-punct text after at c spacing s u e k r w n o p g q =
-    let b : begins_raw (c ∷ chars after) ≡ false = ap begins_raw (sym k) ∙ r in
-    record {
-      count = 1;
-      row_is =
-          ap (row at) k ∙ row-punct at c (chars after) b w n o p ∙
-          ap (λ v. Some (lexeme.Token (t.Punct record { ch = c; spacing = v; span = byte_at at }), 1)) (sym g) ∙
-          ap (λ v. Some (lexeme.Token (t.Punct record { ch = c; spacing = spacing; span = v }), 1)) (sym q);
-      front = front-ascii text after c u e k (punct-ascii c p);
-      positive = omega arith;
-    }
-
-front-positive : (text cs : List ℕ) (c size n : ℕ) → IsFront text size n → chars text ≡ c ∷ cs → 0 < n → 0 < size
-front-positive text cs c size zero f k z = absurd (omega arith)
-front-positive text cs c size (suc n) f k z =
-    let e : size ≡ length (encode_utf8 c ++ encode_utf8_all (take n cs)) =
-    front-length text size (suc n) f ∙ ap (λ l. length (encode_utf8_all (take (suc n) l))) k in
-    omega (arith, e, length-append (encode_utf8 c) (encode_utf8_all (take n cs)), length-encode c, len_utf8_bounds c)
-
-row-word_text : (at c : ℕ) (cs l : List ℕ) → l ≡ c ∷ cs → begins_raw l ≡ false → starts_word c ≡ true →
-    row at l ≡ Some (word at (run goes_on l) l, run goes_on l)
-row-word_text at c cs l e h k =
-    let b : begins_raw (c ∷ cs) ≡ false = ap begins_raw (sym e) ∙ h in
-    ap (row at) e ∙ row-word at c cs b k ∙ ap (λ m. Some (word at (run goes_on m) m, run goes_on m)) (sym e)
-
-pub lexeme-word : (text cs : List ℕ) (at c size : ℕ) → chars text ≡ c ∷ cs → begins_raw (chars text) ≡ false → starts_word c ≡ true →
-    IsFront text size (run goes_on (chars text)) →
-    IsLexeme (lexeme.Token (t.Ident record { name = take size text; raw = false; span = record { start = at; «end» = at + size } })) size at text
-lexeme-word text cs at c size k r w f =
-    let n : ℕ = run goes_on (chars text) in
-    let m : n ≡ suc (run goes_on cs) = ap (run goes_on) k ∙ cond-true _ _ _ (word-goes_on c w) in
-    record {
-      count = n;
-      row_is =
-          row-word_text at c cs (chars text) k r w ∙
-          ap (λ v. Some (lexeme.Token (t.Ident record { name = v; raw = false; span = record { start = at; «end» = at + length v } }), n)) (sym f.bytes_are) ∙
-          ap (λ v. Some (lexeme.Token (t.Ident record { name = take size text; raw = false; span = record { start = at; «end» = at + v } }), n))
-          (ap length f.bytes_are ∙ sym (front-length text size n f));
-      front = f;
-      positive = front-positive text cs c size n f k (omega (arith, m));
-    }
+-- a closer closes no group
+pub step-unmatched : (old new last : Nesting) (at size : ℕ) (text : List ℕ) (x : Lexeme) (takes : Option Span) (s : Span) → IsUtf8 text →
+    0 < length text → blank_length (chars text) ≡ Absent → IsGiven (row at (chars text)) x size text → Takes takes old new x → takes ≡ Some s →
+    IsStep (progress.Fault s) old last at text
+step-unmatched old new last at size text x takes s u z b g k e ls here n =
+    let P : Option Span → Type 0 = λ v. Takes v old new x in
+    let rest : Reading = reading (at + size) 0 (chars (drop size text)) in
+    ap (nest_all ls here old.deep) (given-goes_on at size text x u z b g) ∙ subst P e k ls here n rest.lexemes rest.fault
 
 -- the whole text
 
@@ -317,20 +227,27 @@ pub record IsLexedSoFar (text : List ℕ) (at : ℕ) (n : Nesting) : Type 0 wher
   pub levels : List Level
   pub here : Trees
   pub nested : IsNesting n levels here
-  pub steps : found 0 text [] no_trees ≡ found at (drop at text) levels here
+  pub steps : found 0 text [] no_trees None ≡ found at (drop at text) levels here n.deep
 
-pub lex-start : (text : List ℕ) (n : Nesting) → IsUtf8 text → IsNesting n [] no_trees → IsLexedSoFar text 0 n
-lex-start text n u h = record { fits = omega arith; utf8 = u; levels = []; here = no_trees; nested = h; steps = refl }
+pub lex-start : (text : List ℕ) (n : Nesting) → IsUtf8 text → IsNesting n [] no_trees → n.deep ≡ None → IsLexedSoFar text 0 n
+lex-start text n u h d = record {
+  fits = omega arith;
+  utf8 = u;
+  levels = [];
+  here = no_trees;
+  nested = h;
+  steps = ap (found 0 text [] no_trees) (sym d);
+}
 
 pub lex-nested : (text : List ℕ) (at : ℕ) (n : Nesting) → IsLexedSoFar text at n → IsNested n
 lex-nested text at n s = (s.levels, s.here, s.nested)
 
-pub lex-step : (text rest : List ℕ) (at size : ℕ) (old new : Nesting) (o : Option ℕ) → IsLexedSoFar text at old → rest ≡ drop at text →
-    IsStep o old new at rest → o ≡ Some size → IsLexedSoFar text (at + size) new × (0 < size) × (at + size ≤ length text)
-lex-step text rest at size old new o s r t h =
-    let S : Option ℕ → Type 0 = λ v. IsStep v old new at rest in
-    let Q : List ℕ → Type 0 = λ l. Advances new at l size s.levels s.here in
-    let a : Advances new at (drop at text) size s.levels s.here = subst Q r (subst S h t s.levels s.here s.nested) in
+pub lex-step : (text rest : List ℕ) (at size : ℕ) (old new : Nesting) (p : Progress) → IsLexedSoFar text at old → rest ≡ drop at text →
+    IsStep p old new at rest → p ≡ progress.Reads size → IsLexedSoFar text (at + size) new × (0 < size) × (at + size ≤ length text)
+lex-step text rest at size old new p s r t h =
+    let S : Progress → Type 0 = λ v. IsStep v old new at rest in
+    let Q : List ℕ → Type 0 = λ l. Advances old new at l size s.levels s.here in
+    let a : Advances old new at (drop at text) size s.levels s.here = subst Q r (subst S h t s.levels s.here s.nested) in
     let d : drop (at + size) text ≡ drop size (drop at text) = drop-more at size text s.fits in
     let b : size ≤ length (drop at text) = a.boundary.0 in
     let fits : at + size ≤ length text = omega (arith, s.fits, b, length-drop at text) in (
@@ -340,53 +257,88 @@ lex-step text rest at size old new o s r t h =
         levels = a.levels;
         here = a.trees;
         nested = a.nested;
-        steps = s.steps ∙ a.steps ∙ ap (λ l. found (at + size) l a.levels a.trees) (sym d);
+        steps = s.steps ∙ a.steps ∙ ap (λ l. found (at + size) l a.levels a.trees new.deep) (sym d);
       },
       a.positive,
       fits,
     )
 
-no-trees : (text : List ℕ) → found 0 text [] no_trees ≡ None → (ts : Trees) → IsTreesOf text ts → ⊥
-no-trees text h ts e = let c : Some ts ≡ None = sym (nest_all-complete (lexemes 0 0 (chars text)) ts e) ∙ h in cc
+-- what becomes of the whole text, by the definitions
 
-refused-as : (text : List ℕ) (e : Error) → e ≡ Refused (not_yet text) → found 0 text [] no_trees ≡ None → IsRefusalOf text e
-refused-as text e h k =
-    let P : Error → Type 0 = λ v. IsRefusalOf text v in
-    subst P (sym h) (refl, no-trees text k)
+whole-fault : (text : List ℕ) (v : Verdict) → found 0 text [] no_trees None ≡ v → fault_of (reading 0 0 (chars text)) ≡ fault_in v
+whole-fault text v h =
+    let r : Reading = reading 0 0 (chars text) in
+    nest-fault r.lexemes [] no_trees None r.fault ∙ ap fault_in h
 
-pub lex-refused : (text rest : List ℕ) (at : ℕ) (old new : Nesting) (e : Error) (o : Option ℕ) → IsLexedSoFar text at old →
-    rest ≡ drop at text → IsStep o old new at rest → o ≡ None → e ≡ Refused (not_yet text) → IsRefusalOf text e
-lex-refused text rest at old new e o s r t k h =
-    let S : Option ℕ → Type 0 = λ v. IsStep v old new at rest in
-    let Q : List ℕ → Type 0 = λ l. found at l s.levels s.here ≡ None in
-    refused-as text e h (s.steps ∙ subst Q r (subst S k t s.levels s.here s.nested))
+whole-deep : (text : List ℕ) (ts : Trees) (more : Option Span) → found 0 text [] no_trees None ≡ are_trees ts more →
+    first_deep 0 (reading 0 0 (chars text)).lexemes ≡ more
+whole-deep text ts more h =
+    let r : Reading = reading 0 0 (chars text) in
+    nest-deep r.lexemes [] no_trees None r.fault ts more h
+
+refused-lex : (text : List ℕ) (s : Span) → found 0 text [] no_trees None ≡ has_fault s → IsRefused text kind.Lex s
+refused-lex text s h = (whole-fault text (has_fault s) h, faulty-none (reading 0 0 (chars text)) s h)
+
+as-lex : (text : List ℕ) (e : Error) (s : Span) → e ≡ Refused record { kind = kind.Lex; span = s } → found 0 text [] no_trees None ≡ has_fault s →
+    IsRefusalOf text e
+as-lex text e s h k = let P : Error → Type 0 = λ v. IsRefusalOf text v in subst P (sym h) (refused-lex text s k)
+
+pub lex-fault : (text rest : List ℕ) (at : ℕ) (old new : Nesting) (p : Progress) (s : Span) (e : Error) → IsLexedSoFar text at old →
+    rest ≡ drop at text → IsStep p old new at rest → p ≡ progress.Fault s → e ≡ Refused record { kind = kind.Lex; span = s } → IsRefusalOf text e
+lex-fault text rest at old new p s e l r t k h =
+    let S : Progress → Type 0 = λ v. IsStep v old new at rest in
+    let Q : List ℕ → Type 0 = λ m. found at m l.levels l.here old.deep ≡ has_fault s in
+    as-lex text e s h (l.steps ∙ subst Q r (subst S k t l.levels l.here l.nested))
 
 -- at the end of the text
 at-end : (text : List ℕ) (at : ℕ) (n : Nesting) (s : IsLexedSoFar text at n) → length text ≤ at →
-    found 0 text [] no_trees ≡ at_end s.levels s.here
+    found 0 text [] no_trees None ≡ at_end None s.levels s.here n.deep
 at-end text at n s h =
     let e : drop at text ≡ [] = drop_of_length-le text h in
-    s.steps ∙ ap (λ l. nest_all s.levels s.here (lexemes at 0 l)) (ap chars e ∙ chars-nil)
+    s.steps ∙ ap (λ l. nest_all s.levels s.here n.deep (reading at 0 l)) (ap chars e ∙ chars-nil)
 
-levels-end : (text : List ℕ) (n : Nesting) (ls : List Level) (here : Trees) → IsNesting n ls here → 0 < length n.opened.items → at_end ls here ≡ None
-levels-end text n [] here h k = let l : length n.opened.items ≡ 0 = ap length h.opened_are in absurd (omega (arith, k, l))
-levels-end text n (l ∷ ls) here h k = refl
+levels-open : (n : Nesting) (ls : List Level) (here : Trees) (deep : Option Span) (s : Span) → IsNesting n ls here → IsInnermost n.opened.items s →
+    at_end None ls here deep ≡ has_fault s
+levels-open n [] here deep s h i =
+    let l : length n.opened.items ≡ 0 = ap length h.opened_are in
+    let k : length n.opened.items ≡ length i.rest + 1 = ap length i.items ∙ length-append i.rest (i.last ∷ []) in
+    absurd (omega (arith, l, k))
+levels-open n (l ∷ ls) here deep s h i = ap has_fault (innermost-from n ls l here i.rest i.last h i.items ∙ sym i.from)
 
-pub lex-unclosed : (text : List ℕ) (at : ℕ) (n : Nesting) (e : Error) → IsLexedSoFar text at n → length text ≤ at → 0 < length n.opened.items →
-    e ≡ Refused (not_yet text) → IsRefusalOf text e
-lex-unclosed text at n e s h k q = refused-as text e q (at-end text at n s h ∙ levels-end text n s.levels s.here s.nested k)
+pub lex-unclosed : (text : List ℕ) (at : ℕ) (n : Nesting) (e : Error) (s : Span) → IsLexedSoFar text at n → length text ≤ at →
+    IsInnermost n.opened.items s → e ≡ Refused record { kind = kind.Lex; span = s } → IsRefusalOf text e
+lex-unclosed text at n e s l h i q = as-lex text e s q (at-end text at n l h ∙ levels-open n l.levels l.here n.deep s l.nested i)
 
-pub lex-flat : (text : List ℕ) (at : ℕ) (n : Nesting) → IsLexedSoFar text at n → length n.opened.items ≡ 0 →
+-- where no group is open
+closed-end : (text : List ℕ) (at : ℕ) (n : Nesting) (s : IsLexedSoFar text at n) → length text ≤ at → n.opened.items ≡ [] →
+    found 0 text [] no_trees None ≡ are_trees s.here n.deep
+closed-end text at n s h k =
+    let f = nesting-flat n s.levels s.here s.nested (ap length k) in
+    at-end text at n s h ∙ ap (λ l. at_end None l s.here n.deep) f.1
+
+pub lex-deep : (text : List ℕ) (at : ℕ) (n : Nesting) (e : Error) (s : Span) → IsLexedSoFar text at n → length text ≤ at → n.opened.items ≡ [] →
+    n.deep ≡ Some s → e ≡ Refused record { kind = kind.TooDeep; span = s } → IsRefusalOf text e
+lex-deep text at n e s l h k d q =
+    let a : found 0 text [] no_trees None ≡ are_trees l.here n.deep = closed-end text at n l h k in
+    let P : Error → Type 0 = λ v. IsRefusalOf text v in
+    subst P (sym q) (whole-fault text _ a, whole-deep text l.here n.deep a ∙ d)
+
+pub lex-whole : (text : List ℕ) (at : ℕ) (n : Nesting) → IsLexedSoFar text at n → length text ≤ at → n.opened.items ≡ [] → n.deep ≡ None →
+    IsWhole text
+lex-whole text at n l h k d =
+    let a : found 0 text [] no_trees None ≡ are_trees l.here n.deep = closed-end text at n l h k in
+    record { no_fault = whole-fault text _ a; shallow = whole-deep text l.here n.deep a ∙ d }
+
+pub lex-flat : (text : List ℕ) (at : ℕ) (n : Nesting) → IsLexedSoFar text at n → n.opened.items ≡ [] →
     flatten (unflatten n.entries.items) ≡ n.entries.items
 lex-flat text at n s k =
-    let f : n.entries.items ≡ flatten s.here = (nesting-flat n s.levels s.here s.nested k).0 in
+    let f : n.entries.items ≡ flatten s.here = (nesting-flat n s.levels s.here s.nested (ap length k)).0 in
     rw f (ap flatten (unflatten-flatten s.here))
 
-pub lex-trees : (text : List ℕ) (at : ℕ) (n : Nesting) (ts : Trees) → IsLexedSoFar text at n → length text ≤ at → length n.opened.items ≡ 0 →
+pub lex-trees : (text : List ℕ) (at : ℕ) (n : Nesting) (ts : Trees) → IsLexedSoFar text at n → length text ≤ at → n.opened.items ≡ [] →
     ts ≡ unflatten n.entries.items → IsTreesOf text ts
 lex-trees text at n ts s h k e =
-    let f : (n.entries.items ≡ flatten s.here) × (s.levels ≡ []) = nesting-flat n s.levels s.here s.nested k in
+    let f : (n.entries.items ≡ flatten s.here) × (s.levels ≡ []) = nesting-flat n s.levels s.here s.nested (ap length k) in
     let same : ts ≡ s.here = e ∙ ap unflatten f.0 ∙ unflatten-flatten s.here in
-    let a : found 0 text [] no_trees ≡ Some s.here = at-end text at n s h ∙ ap (λ l. at_end l s.here) f.1 in
     let P : Trees → Type 0 = λ t. IsTreesOf text t in
-    subst P (sym same) (nest_all-sound (lexemes 0 0 (chars text)) s.here a)
+    subst P (sym same) (nest_all-sound (reading 0 0 (chars text)) s.here n.deep (closed-end text at n s h k))

@@ -1,5 +1,5 @@
 -- The nesting of lexemes, and the entries that were made of them.
-use Rattle.std.specs.Prelude.{◌≡◌, ℕ, ◌+◌, ◌-◌, ◌<◌, Bool, true, false, Option, Some, None, List, [], ◌∷◌, ◌++◌, length, refl}
+use Rattle.std.specs.Prelude.{◌≡◌, ℕ, suc, ◌+◌, ◌-◌, ◌<◌, Bool, true, false, nat_lt, cond, Option, Some, None, List, [], ◌∷◌, ◌++◌, length, refl}
 use Rattle.std.proofs.Common.{ap, ◌∙◌, sym, append_assoc, append-nil, arith, length-append, set}
 use Rattle.std.proofs.Math.Seq.{set-append_seam}
 use Rattle.dm_tokens.specs.declared.tokens.Span.{Span}
@@ -12,8 +12,9 @@ use Rattle.dm_tokens.specs.declared.lexing.Lexeme.TheVariants as lexeme
 use Rattle.dm_tokens.specs.declared.nesting.Nesting.{Nesting}
 use Rattle.dm_tokens.specs.declared.nesting.Opened.{Opened}
 use Rattle.dm_tokens.specs.Trees.{Trees, no_trees, token, group, join, flatten, join-no_trees, join_assoc}
-use Rattle.dm_tokens.specs.Cursors.{same_delim}
-use Rattle.dm_tokens.specs.Nesting.{marks, nest, nest_all, Level, if_same, so_far, opened_at, IsNesting, IsNested, Takes}
+use Rattle.dm_tokens.specs.Cursors.{same_delim, token_span}
+use Rattle.dm_tokens.specs.Rows.{Reading}
+use Rattle.dm_tokens.specs.Nesting.{marks, nest, nest_all, Level, Verdict, are_trees, has_fault, if_same, deeper, fault, first_deep, so_far, opened_at, IsNesting, IsNested, Takes}
 use Rattle.dm_tokens.proofs.Trees.{flatten-join}
 
 same_delim-refl : (d : Delim) → same_delim d d ≡ true
@@ -33,17 +34,24 @@ same_delim-eq Brace Paren h = absurd (cc)
 same_delim-eq Brace Bracket h = absurd (cc)
 
 -- the lexemes of trees are nested as these trees
-pub nest-marks : (ts : Trees) (ls : List Level) (here : Trees) (xs : List Lexeme) → nest ls here (marks ts ++ xs) ≡ nest ls (join here ts) xs
-nest-marks no_trees ls here xs = ap (λ h. nest ls h xs) (sym (join-no_trees here))
-nest-marks (token t rest) ls here xs =
-    nest-marks rest ls (join here (token t no_trees)) xs ∙ ap (λ h. nest ls h xs) (join_assoc here (token t no_trees) rest)
-nest-marks (group d from inside upto rest) ls here xs =
+pub nest-marks : (ts : Trees) (ls : List Level) (here : Trees) (deep : Option Span) (xs : List Lexeme) (read : Option Span) →
+    (more : Option Span) × (nest ls here deep (marks ts ++ xs) read ≡ nest ls (join here ts) more xs read)
+nest-marks no_trees ls here deep xs read = (deep, ap (λ h. nest ls h deep xs read) (sym (join-no_trees here)))
+nest-marks (token t rest) ls here deep xs read =
+    let r = nest-marks rest ls (join here (token t no_trees)) (deeper deep (length ls) (token_span t)) xs read in
+    (r.0, r.1 ∙ ap (λ h. nest ls h r.0 xs read) (join_assoc here (token t no_trees) rest))
+nest-marks (group d from inside upto rest) ls here deep xs read =
     let level : Level = record { before = here; delim = d; from = from } in
     let whole : Trees = join here (group d from inside upto no_trees) in
-    ap (nest (level ∷ ls) no_trees) (append_assoc (marks inside) (lexeme.Close d upto ∷ marks rest) xs) ∙
-    nest-marks inside (level ∷ ls) no_trees (lexeme.Close d upto ∷ (marks rest ++ xs)) ∙
-    ap (λ b. if_same b (nest ls whole (marks rest ++ xs))) (same_delim-refl d) ∙ nest-marks rest ls whole xs ∙
-    ap (λ h. nest ls h xs) (join_assoc here (group d from inside upto no_trees) rest)
+    let a = nest-marks inside (level ∷ ls) no_trees (deeper deep (length ls) from) (lexeme.Close d upto ∷ (marks rest ++ xs)) read in
+    let b = nest-marks rest ls whole (deeper a.0 (length ls) upto) xs read in (
+      b.0,
+      ap (λ l. nest (level ∷ ls) no_trees (deeper deep (length ls) from) l read) (append_assoc (marks inside) (lexeme.Close d upto ∷ marks rest) xs) ∙
+          a.1 ∙
+          ap (λ v. if_same v upto (nest ls whole (deeper a.0 (length ls) upto) (marks rest ++ xs) read)) (same_delim-refl d) ∙
+          b.1 ∙
+          ap (λ h. nest ls h b.0 xs read) (join_assoc here (group d from inside upto no_trees) rest),
+    )
 
 marks-join : (ts us : Trees) → marks (join ts us) ≡ marks ts ++ marks us
 marks-join no_trees us = refl
@@ -57,44 +65,154 @@ abbrev pub outer : List Level → List Lexeme → List Lexeme
 outer [] xs = xs
 outer (l ∷ ls) xs = outer ls (marks l.before ++ lexeme.Open l.delim l.from ∷ xs)
 
-closed-same : (b : Bool) (found : Option Trees) (ts : Trees) → if_same b found ≡ Some ts → (b ≡ true) × (found ≡ Some ts)
-closed-same true found ts h = (refl, h)
-closed-same false found ts h = absurd (cc)
+closed-same : (b : Bool) (upto : Span) (found : Verdict) (ts : Trees) (more : Option Span) → if_same b upto found ≡ are_trees ts more →
+    (b ≡ true) × (found ≡ are_trees ts more)
+closed-same true upto found ts more h = (refl, h)
+closed-same false upto found ts more h = absurd (cc)
 
--- lexemes that nest are those of the trees
-pub nest-sound : (xs : List Lexeme) (ls : List Level) (here ts : Trees) → nest ls here xs ≡ Some ts → outer ls (marks here ++ xs) ≡ marks ts
-nest-sound [] [] here ts h = let e : here ≡ ts = cc in append-nil (marks here) ∙ ap marks e
-nest-sound [] (l ∷ ls) here ts h = absurd (cc)
-nest-sound (lexeme.Token t ∷ xs) ls here ts h =
-    ap (outer ls) (sym (append_assoc (marks here) (lexeme.Token t ∷ []) xs) ∙ ap (λ l. l ++ xs) (sym (marks-join here (token t no_trees)))) ∙
-    nest-sound xs ls (join here (token t no_trees)) ts h
-nest-sound (lexeme.Open d from ∷ xs) ls here ts h = nest-sound xs (record { before = here; delim = d; from = from } ∷ ls) no_trees ts h
-nest-sound (lexeme.Close d upto ∷ xs) [] here ts h = absurd (cc)
-nest-sound (lexeme.Close d upto ∷ xs) (l ∷ ls) here ts h =
+-- lexemes that nest are those of the trees, and nothing else was read
+pub nest-sound : (xs : List Lexeme) (ls : List Level) (here : Trees) (deep read : Option Span) (ts : Trees) (more : Option Span) →
+    nest ls here deep xs read ≡ are_trees ts more → (outer ls (marks here ++ xs) ≡ marks ts) × (read ≡ None)
+nest-sound [] [] here deep None ts more h = let e : here ≡ ts = cc in (append-nil (marks here) ∙ ap marks e, refl)
+nest-sound [] [] here deep (Some s) ts more h = absurd (cc)
+nest-sound [] (l ∷ ls) here deep None ts more h = absurd (cc)
+nest-sound [] (l ∷ ls) here deep (Some s) ts more h = absurd (cc)
+nest-sound (lexeme.Token t ∷ xs) ls here deep read ts more h =
+    let r = nest-sound xs ls (join here (token t no_trees)) (deeper deep (length ls) (token_span t)) read ts more h in (
+      ap (outer ls) (sym (append_assoc (marks here) (lexeme.Token t ∷ []) xs) ∙ ap (λ l. l ++ xs) (sym (marks-join here (token t no_trees)))) ∙ r.0,
+      r.1,
+    )
+nest-sound (lexeme.Open d from ∷ xs) ls here deep read ts more h =
+    nest-sound xs (record { before = here; delim = d; from = from } ∷ ls) no_trees (deeper deep (length ls) from) read ts more h
+nest-sound (lexeme.Close d upto ∷ xs) [] here deep read ts more h = absurd (cc)
+nest-sound (lexeme.Close d upto ∷ xs) (l ∷ ls) here deep read ts more h =
     let whole : Trees = group l.delim l.from here upto no_trees in
-    let s : (same_delim l.delim d ≡ true) × (nest ls (join l.before whole) xs ≡ Some ts) =
-    closed-same (same_delim l.delim d) (nest ls (join l.before whole) xs) ts h in
+    let next : Verdict = nest ls (join l.before whole) (deeper deep (length ls) upto) xs read in
+    let s : (same_delim l.delim d ≡ true) × (next ≡ are_trees ts more) = closed-same (same_delim l.delim d) upto next ts more h in
     let e : d ≡ l.delim = sym (same_delim-eq l.delim d s.0) in
     let inner : marks whole ++ xs ≡ lexeme.Open l.delim l.from ∷ (marks here ++ lexeme.Close l.delim upto ∷ xs) =
     ap (λ k. lexeme.Open l.delim l.from ∷ k) (append_assoc (marks here) (lexeme.Close l.delim upto ∷ []) xs) in
     let all : marks (join l.before whole) ++ xs ≡ marks l.before ++ lexeme.Open l.delim l.from ∷ (marks here ++ lexeme.Close l.delim upto ∷ xs) =
     ap (λ k. k ++ xs) (marks-join l.before whole) ∙ append_assoc (marks l.before) (marks whole) xs ∙ ap (λ k. marks l.before ++ k) inner in
-    ap (λ k. outer ls (marks l.before ++ lexeme.Open l.delim l.from ∷ (marks here ++ lexeme.Close k upto ∷ xs))) e ∙
-    ap (outer ls) (sym all) ∙ nest-sound xs ls (join l.before whole) ts s.1
+    let r = nest-sound xs ls (join l.before whole) (deeper deep (length ls) upto) read ts more s.1 in (
+      ap (λ k. outer ls (marks l.before ++ lexeme.Open l.delim l.from ∷ (marks here ++ lexeme.Close k upto ∷ xs))) e ∙
+          ap (outer ls) (sym all) ∙ r.0,
+      r.1,
+    )
 
-pub nest_all-sound : (found : Option (List Lexeme)) (ts : Trees) → nest_all [] no_trees found ≡ Some ts → found ≡ Some (marks ts)
-nest_all-sound None ts h = absurd (cc)
-nest_all-sound (Some xs) ts h = ap Some (nest-sound xs [] no_trees ts h)
+pub nest_all-sound : (r : Reading) (ts : Trees) (more : Option Span) → nest_all [] no_trees None r ≡ are_trees ts more →
+    r ≡ record { lexemes = marks ts; fault = None }
+nest_all-sound r ts more h =
+    let s : (r.lexemes ≡ marks ts) × (r.fault ≡ None) = nest-sound r.lexemes [] no_trees None r.fault ts more h in
+    ap (λ l. record { lexemes = l; fault = r.fault }) s.0 ∙ ap (λ f. record { lexemes = marks ts; fault = f }) s.1
 
-pub nest_all-complete : (found : Option (List Lexeme)) (ts : Trees) → found ≡ Some (marks ts) → nest_all [] no_trees found ≡ Some ts
-nest_all-complete found ts h =
-    ap (nest_all [] no_trees) h ∙ ap (nest [] no_trees) (sym (append-nil (marks ts))) ∙ nest-marks ts [] no_trees []
+pub nest_all-complete : (r : Reading) (ts : Trees) → r ≡ record { lexemes = marks ts; fault = None } →
+    (more : Option Span) × (nest_all [] no_trees None r ≡ are_trees ts more)
+nest_all-complete r ts h =
+    let m = nest-marks ts [] no_trees None [] None in
+    (m.0, ap (nest_all [] no_trees None) h ∙ ap (λ l. nest [] no_trees None l None) (sym (append-nil (marks ts))) ∙ m.1)
 
 -- a text has one list of trees at most
-pub trees-only : (found : Option (List Lexeme)) (ts us : Trees) → found ≡ Some (marks ts) → found ≡ Some (marks us) → us ≡ ts
-trees-only found ts us h k =
-    let e : Some us ≡ Some ts = sym (nest_all-complete found us k) ∙ nest_all-complete found ts h in
+pub trees-only : (r : Reading) (ts us : Trees) → r ≡ record { lexemes = marks ts; fault = None } → r ≡ record { lexemes = marks us; fault = None } →
+    us ≡ ts
+trees-only r ts us h k =
+    let u = nest_all-complete r us k in
+    let t = nest_all-complete r ts h in
+    let e : are_trees us u.0 ≡ are_trees ts t.0 = sym u.1 ∙ t.1 in
     cc
+
+-- no trees are those of a text with a fault
+pub faulty-none : (r : Reading) (s : Span) → nest_all [] no_trees None r ≡ has_fault s → (ts : Trees) → r ≡ record { lexemes = marks ts; fault = None } → ⊥
+faulty-none r s h ts k =
+    let t = nest_all-complete r ts k in
+    let e : are_trees ts t.0 ≡ has_fault s = sym t.1 ∙ h in
+    absurd cc
+
+-- the place of a fault
+
+abbrev pub openers : List Level → List (Delim × Span)
+openers [] = []
+openers (l ∷ ls) = (l.delim, l.from) ∷ openers ls
+
+abbrev pub fault_in : Verdict → Option Span
+fault_in (are_trees ts more) = None
+fault_in (has_fault s) = Some s
+
+fault-same : (b : Bool) (upto : Span) (found : Option Span) (v : Verdict) → found ≡ fault_in v → cond b found (Some upto) ≡ fault_in (if_same b upto v)
+fault-same true upto found v h = h
+fault-same false upto found v h = refl
+
+pub nest-fault : (xs : List Lexeme) (ls : List Level) (here : Trees) (deep read : Option Span) →
+    fault (openers ls) xs read ≡ fault_in (nest ls here deep xs read)
+nest-fault [] [] here deep None = refl
+nest-fault [] [] here deep (Some s) = refl
+nest-fault [] (l ∷ ls) here deep None = refl
+nest-fault [] (l ∷ ls) here deep (Some s) = refl
+nest-fault (lexeme.Token t ∷ xs) [] here deep read =
+    nest-fault xs [] (join here (token t no_trees)) (deeper deep 0 (token_span t)) read
+nest-fault (lexeme.Token t ∷ xs) (l ∷ ls) here deep read =
+    nest-fault xs (l ∷ ls) (join here (token t no_trees)) (deeper deep (length (l ∷ ls)) (token_span t)) read
+nest-fault (lexeme.Open d from ∷ xs) [] here deep read =
+    nest-fault xs (record { before = here; delim = d; from = from } ∷ []) no_trees (deeper deep 0 from) read
+nest-fault (lexeme.Open d from ∷ xs) (l ∷ ls) here deep read =
+    nest-fault xs (record { before = here; delim = d; from = from } ∷ l ∷ ls) no_trees (deeper deep (length (l ∷ ls)) from) read
+nest-fault (lexeme.Close d upto ∷ xs) [] here deep read = refl
+nest-fault (lexeme.Close d upto ∷ xs) (l ∷ ls) here deep read =
+    let whole : Trees = join l.before (group l.delim l.from here upto no_trees) in
+    let more : Option Span = deeper deep (length ls) upto in
+    fault-same (same_delim l.delim d) upto (fault (openers ls) xs read) (nest ls whole more xs read) (nest-fault xs ls whole more read)
+
+-- the first lexeme that is too deep
+
+abbrev pub deep_with : Option Span → ℕ → List Lexeme → Option Span
+deep_with (Some s) depth xs = Some s
+deep_with None depth xs = first_deep depth xs
+
+deep-cond : (b : Bool) (s : Span) (depth : ℕ) (xs : List Lexeme) → cond b (Some s) (first_deep depth xs) ≡ deep_with (cond b (Some s) None) depth xs
+deep-cond true s depth xs = refl
+deep-cond false s depth xs = refl
+
+deep_open_cond : (b : Bool) (s : Span) (depth : ℕ) (xs : List Lexeme) →
+    cond b (Some s) (first_deep (suc depth) xs) ≡ deep_with (cond b (Some s) None) (suc depth) xs
+deep_open_cond b s depth xs = deep-cond b s (suc depth) xs
+
+deep-token : (deep : Option Span) (depth : ℕ) (t : Token) (xs : List Lexeme) →
+    deep_with deep depth (lexeme.Token t ∷ xs) ≡ deep_with (deeper deep depth (token_span t)) depth xs
+deep-token None depth t xs = deep-cond (nat_lt 128 depth) (token_span t) depth xs
+deep-token (Some s) depth t xs = refl
+
+deep-open : (deep : Option Span) (depth : ℕ) (d : Delim) (from : Span) (xs : List Lexeme) →
+    deep_with deep depth (lexeme.Open d from ∷ xs) ≡ deep_with (deeper deep depth from) (suc depth) xs
+deep-open None depth d from xs = deep_open_cond (nat_lt 128 depth) from depth xs
+deep-open (Some s) depth d from xs = refl
+
+suc-less : (n : ℕ) → suc n - 1 ≡ n
+suc-less n = omega arith
+
+deep-close : (deep : Option Span) (depth : ℕ) (d : Delim) (upto : Span) (xs : List Lexeme) →
+    deep_with deep (suc depth) (lexeme.Close d upto ∷ xs) ≡ deep_with (deeper deep depth upto) depth xs
+deep-close None depth d upto xs =
+    ap (λ n. cond (nat_lt 128 n) (Some upto) (first_deep n xs)) (suc-less depth) ∙ deep-cond (nat_lt 128 depth) upto depth xs
+deep-close (Some s) depth d upto xs = refl
+
+pub nest-deep : (xs : List Lexeme) (ls : List Level) (here : Trees) (deep read : Option Span) (ts : Trees) (more : Option Span) →
+    nest ls here deep xs read ≡ are_trees ts more → deep_with deep (length ls) xs ≡ more
+nest-deep [] [] here None None ts more h = cc
+nest-deep [] [] here (Some s) None ts more h = cc
+nest-deep [] [] here deep (Some s) ts more h = absurd (cc)
+nest-deep [] (l ∷ ls) here deep None ts more h = absurd (cc)
+nest-deep [] (l ∷ ls) here deep (Some s) ts more h = absurd (cc)
+nest-deep (lexeme.Token t ∷ xs) ls here deep read ts more h =
+    deep-token deep (length ls) t xs ∙ nest-deep xs ls (join here (token t no_trees)) (deeper deep (length ls) (token_span t)) read ts more h
+nest-deep (lexeme.Open d from ∷ xs) ls here deep read ts more h =
+    deep-open deep (length ls) d from xs ∙
+    nest-deep xs (record { before = here; delim = d; from = from } ∷ ls) no_trees (deeper deep (length ls) from) read ts more h
+nest-deep (lexeme.Close d upto ∷ xs) [] here deep read ts more h = absurd (cc)
+nest-deep (lexeme.Close d upto ∷ xs) (l ∷ ls) here deep read ts more h =
+    let whole : Trees = join l.before (group l.delim l.from here upto no_trees) in
+    let next : Verdict = nest ls whole (deeper deep (length ls) upto) xs read in
+    let s : (same_delim l.delim d ≡ true) × (next ≡ are_trees ts more) = closed-same (same_delim l.delim d) upto next ts more h in
+    deep-close deep (length ls) d upto xs ∙ nest-deep xs ls whole (deeper deep (length ls) upto) read ts more s.1
 
 -- the entries
 
@@ -104,22 +222,34 @@ so_far-join (l ∷ ls) here more =
     ap (λ f. so_far ls l.before ++ entry.Open l.delim l.from 0 ∷ f) (flatten-join here more) ∙
     sym (append_assoc (so_far ls l.before) (entry.Open l.delim l.from 0 ∷ flatten here) (flatten more))
 
+opened-length : (ls : List Level) → length (opened_at ls) ≡ length ls
+opened-length [] = refl
+opened-length (l ∷ ls) =
+    length-append (opened_at ls) (record { delim = l.delim; from = l.from; place = length (so_far ls l.before) } ∷ []) ∙
+    (let e : length (opened_at ls) ≡ length ls = opened-length ls in omega (arith, e))
+
+-- as many groups are open as there are levels
+deep-at : (old new : Nesting) (ls : List Level) (here : Trees) (s : Span) → IsNesting old ls here →
+    new.deep ≡ deeper old.deep (length old.opened.items) s → new.deep ≡ deeper old.deep (length ls) s
+deep-at old new ls here s n q = q ∙ ap (λ k. deeper old.deep k s) (ap length n.opened_are ∙ opened-length ls)
+
 pub nesting-add : (old new : Nesting) (t : Token) → new.entries.items ≡ old.entries.items ++ entry.Token t ∷ [] →
-    new.opened.items ≡ old.opened.items → Takes true old new (lexeme.Token t)
-nesting-add old new t e o ls here n = record {
+    new.opened.items ≡ old.opened.items → new.deep ≡ deeper old.deep (length old.opened.items) (token_span t) → Takes None old new (lexeme.Token t)
+nesting-add old new t e o q ls here n = record {
   levels = ls;
   trees = join here (token t no_trees);
   nested = record {
     entries_are = e ∙ ap (λ l. l ++ entry.Token t ∷ []) n.entries_are ∙ sym (so_far-join ls here (token t no_trees));
     opened_are = o ∙ n.opened_are;
   };
-  steps = λ xs. refl;
+  steps = λ xs read. ap (λ k. nest ls (join here (token t no_trees)) k xs read) (sym (deep-at old new ls here (token_span t) n q));
 }
 
 pub nesting-open : (old new : Nesting) (d : Delim) (from : Span) (place : ℕ) → place ≡ length old.entries.items →
     new.entries.items ≡ old.entries.items ++ entry.Open d from 0 ∷ [] →
-    new.opened.items ≡ old.opened.items ++ record { delim = d; from = from; place = place } ∷ [] → Takes true old new (lexeme.Open d from)
-nesting-open old new d from place p e o ls here n =
+    new.opened.items ≡ old.opened.items ++ record { delim = d; from = from; place = place } ∷ [] →
+    new.deep ≡ deeper old.deep (length old.opened.items) from → Takes None old new (lexeme.Open d from)
+nesting-open old new d from place p e o v ls here n =
     let q : place ≡ length (so_far ls here) = p ∙ ap length n.entries_are in
     record {
       levels = record { before = here; delim = d; from = from } ∷ ls;
@@ -130,7 +260,8 @@ nesting-open old new d from place p e o ls here n =
             o ∙ ap (λ l. l ++ record { delim = d; from = from; place = place } ∷ []) n.opened_are ∙
             ap (λ k. opened_at ls ++ record { delim = d; from = from; place = k } ∷ []) q;
       };
-      steps = λ xs. refl;
+      steps = λ xs read.
+          ap (λ k. nest (record { before = here; delim = d; from = from } ∷ ls) no_trees k xs read) (sym (deep-at old new ls here from n v));
     }
 
 snoc-some : {A : Type 0} (xs : List A) (x : A) → xs ++ x ∷ [] ≡ [] → ⊥
@@ -162,6 +293,12 @@ entries-length : (n : Nesting) (ls : List Level) (l : Level) (here : Trees) → 
 entries-length n ls l here h =
     omega (arith, ap length h.entries_are, length-append (so_far ls l.before) (entry.Open l.delim l.from 0 ∷ flatten here))
 
+-- the opener of the innermost level
+pub innermost-from : (n : Nesting) (ls : List Level) (l : Level) (here : Trees) (rest : List Opened) (o : Opened) → IsNesting n (l ∷ ls) here →
+    n.opened.items ≡ rest ++ o ∷ [] → l.from ≡ o.from
+unfolding level_opened
+innermost-from n ls l here rest o h e = ap (λ x. x.from) (innermost n ls l here rest o h e).1
+
 pub place-within : (n : Nesting) (rest : List Opened) (o : Opened) → IsNested n → n.opened.items ≡ rest ++ o ∷ [] →
     o.place < length n.entries.items
 unfolding level_opened
@@ -170,27 +307,28 @@ place-within n rest o (l ∷ ls, here, h) e =
     let p : length (so_far ls l.before) ≡ o.place = ap (λ x. x.place) (innermost n ls l here rest o h e).1 in
     omega (arith, entries-length n ls l here h, p)
 
-pub nesting-none_open : (old new : Nesting) (d : Delim) (upto : Span) → old.opened.items ≡ [] → Takes false old new (lexeme.Close d upto)
-nesting-none_open old new d upto e [] here n xs = refl
-nesting-none_open old new d upto e (l ∷ ls) here n xs =
+pub nesting-none_open : (old new : Nesting) (d : Delim) (upto : Span) → old.opened.items ≡ [] → Takes (Some upto) old new (lexeme.Close d upto)
+nesting-none_open old new d upto e [] here n xs read = refl
+nesting-none_open old new d upto e (l ∷ ls) here n xs read =
     absurd (snoc-some (opened_at ls) record { delim = l.delim; from = l.from; place = length (so_far ls l.before) } (sym n.opened_are ∙ e))
 
 pub nesting-other_delim : (old new : Nesting) (d : Delim) (upto : Span) (rest : List Opened) (o : Opened) → old.opened.items ≡ rest ++ o ∷ [] →
-    same_delim o.delim d ≡ false → Takes false old new (lexeme.Close d upto)
+    same_delim o.delim d ≡ false → Takes (Some upto) old new (lexeme.Close d upto)
 unfolding level_opened
-nesting-other_delim old new d upto rest o e h [] here n xs = refl
-nesting-other_delim old new d upto rest o e h (l ∷ ls) here n xs =
+nesting-other_delim old new d upto rest o e h [] here n xs read = refl
+nesting-other_delim old new d upto rest o e h (l ∷ ls) here n xs read =
     let s : l.delim ≡ o.delim = ap (λ x. x.delim) (innermost old ls l here rest o n e).1 in
     let f : same_delim l.delim d ≡ false = ap (λ x. same_delim x d) s ∙ h in
-    ap (λ b. if_same b (nest ls (join l.before (group l.delim l.from here upto no_trees)) xs)) f
+    ap
+    (λ b. if_same b upto (nest ls (join l.before (group l.delim l.from here upto no_trees)) (deeper old.deep (length ls) upto) xs read)) f
 
 pub nesting-close : (old new : Nesting) (d : Delim) (upto : Span) (rest : List Opened) (o : Opened) → old.opened.items ≡ rest ++ o ∷ [] →
     same_delim o.delim d ≡ true → new.opened.items ≡ rest →
     new.entries.items ≡ set old.entries.items o.place (entry.Open o.delim o.from (length old.entries.items - o.place)) ++ entry.Close d upto ∷ [] →
-    Takes true old new (lexeme.Close d upto)
+    new.deep ≡ deeper old.deep (length rest) upto → Takes None old new (lexeme.Close d upto)
 unfolding level_opened
-nesting-close old new d upto rest o e h r k [] here n = absurd (snoc-some rest o (sym e ∙ n.opened_are))
-nesting-close old new d upto rest o e h r k (l ∷ ls) here n =
+nesting-close old new d upto rest o e h r k v [] here n = absurd (snoc-some rest o (sym e ∙ n.opened_are))
+nesting-close old new d upto rest o e h r k v (l ∷ ls) here n =
     let q : (opened_at ls ≡ rest) × (level_opened l ls ≡ o) = innermost old ls l here rest o n e in
     let dd : o.delim ≡ l.delim = sym (ap (λ x. x.delim) q.1) in
     let ff : o.from ≡ l.from = sym (ap (λ x. x.from) q.1) in
@@ -198,6 +336,8 @@ nesting-close old new d upto rest o e h r k (l ∷ ls) here n =
     let same : same_delim l.delim d ≡ true = ap (λ x. same_delim x d) (sym dd) ∙ h in
     let de : d ≡ l.delim = sym (same_delim-eq l.delim d same) in
     let whole : Trees = group l.delim l.from here upto no_trees in
+    let deep : new.deep ≡ deeper old.deep (length ls) upto =
+    v ∙ ap (λ m. deeper old.deep m upto) (ap length (sym q.0) ∙ opened-length ls) in
     let all = entries-length old ls l here n in
     let count : length old.entries.items - o.place ≡ length (flatten here) + 1 = omega (arith, all, pp) in
     let entries : old.entries.items ≡ so_far ls l.before ++ entry.Open l.delim l.from 0 ∷ flatten here = n.entries_are in
@@ -217,7 +357,9 @@ nesting-close old new d upto rest o e h r k (l ∷ ls) here n =
             sym (so_far-join ls l.before whole);
         opened_are = r ∙ sym q.0;
       };
-      steps = λ xs. ap (λ b. if_same b (nest ls (join l.before whole) xs)) same;
+      steps = λ xs read.
+          ap (λ b. if_same b upto (nest ls (join l.before whole) (deeper old.deep (length ls) upto) xs read)) same ∙
+          ap (λ m. nest ls (join l.before whole) m xs read) (sym deep);
     }
 
 -- with no group open, the entries are a flat form

@@ -1,5 +1,5 @@
--- The trees of a text: those whose flattening is its lexemes.
-use Rattle.std.specs.Prelude.{◌≡◌, ℕ, ◌+◌, ◌<◌, Bool, true, false, Option, Some, None, List, [], ◌∷◌, ◌++◌, length, drop, ⊤}
+-- The trees of a text: those whose flattening is its lexemes. The places at which a text has none, or is too deep.
+use Rattle.std.specs.Prelude.{◌≡◌, ℕ, suc, ◌+◌, ◌-◌, ◌<◌, Bool, true, false, nat_lt, cond, Option, Some, None, List, [], ◌∷◌, ◌++◌, length, drop, ⊤}
 use Rattle.std.specs.Str.{chars, IsCharBoundary}
 use Rattle.dm_tokens.specs.declared.tokens.Span.{Span}
 use Rattle.dm_tokens.specs.declared.tokens.Delim.{Delim}
@@ -7,15 +7,17 @@ use Rattle.dm_tokens.specs.declared.tokens.Entry.{Entry}
 use Rattle.dm_tokens.specs.declared.tokens.Entry.TheVariants as entry
 use Rattle.dm_tokens.specs.declared.error.Error.{Error}
 use Rattle.dm_tokens.specs.declared.error.Error.TheVariants.{NoMemory, Refused}
-use Rattle.dm_tokens.specs.declared.error.Kind.TheVariants.{NotYet}
-use Rattle.dm_tokens.specs.declared.error.Refusal.{Refusal}
+use Rattle.dm_tokens.specs.declared.error.Kind.{Kind}
+use Rattle.dm_tokens.specs.declared.error.Kind.TheVariants as kind
 use Rattle.dm_tokens.specs.declared.lexing.Lexeme.{Lexeme}
 use Rattle.dm_tokens.specs.declared.lexing.Lexeme.TheVariants as lexeme
+use Rattle.dm_tokens.specs.declared.lexing.Progress.{Progress}
+use Rattle.dm_tokens.specs.declared.lexing.Progress.TheVariants as progress
 use Rattle.dm_tokens.specs.declared.nesting.Nesting.{Nesting}
 use Rattle.dm_tokens.specs.declared.nesting.Opened.{Opened}
 use Rattle.dm_tokens.specs.Trees.{Trees, no_trees, token, group, join, flatten}
-use Rattle.dm_tokens.specs.Cursors.{same_delim}
-use Rattle.dm_tokens.specs.Lexemes.{lexemes}
+use Rattle.dm_tokens.specs.Cursors.{same_delim, token_span}
+use Rattle.dm_tokens.specs.Rows.{Reading, reading}
 
 -- the flattening of a list of trees: of a group its opener, its inside and its closer
 abbrev pub marks : Trees → List Lexeme
@@ -25,21 +27,49 @@ marks (group d from inside upto rest) = lexeme.Open d from ∷ (marks inside ++ 
 
 -- these are the trees of the text
 abbrev pub IsTreesOf : List ℕ → Trees → Type 0
-IsTreesOf text ts = lexemes 0 0 (chars text) ≡ Some (marks ts)
+IsTreesOf text ts = reading 0 0 (chars text) ≡ record { lexemes = marks ts; fault = None }
 
 -- no other trees are those of the text
 abbrev pub AreTheOnly : List ℕ → Trees → Type 0
 AreTheOnly text ts = (us : Trees) → IsTreesOf text us → us ≡ ts
 
-abbrev pub not_yet : List ℕ → Refusal
-not_yet text = record { kind = NotYet; span = record { start = 0; «end» = length text } }
+-- The first fault of lexemes and of what was read behind them: a closer that does not match the innermost open opener, else the fault
+-- that was read, else the innermost opener that is open at the end. The openers that are open come first, the innermost at the front.
+abbrev pub fault : List (Delim × Span) → List Lexeme → Option Span → Option Span
+fault around [] (Some s) = Some s
+fault [] [] None = None
+fault (o ∷ os) [] None = Some o.1
+fault around (lexeme.Token t ∷ xs) read = fault around xs read
+fault around (lexeme.Open d s ∷ xs) read = fault ((d, s) ∷ around) xs read
+fault [] (lexeme.Close d s ∷ xs) read = Some s
+fault (o ∷ os) (lexeme.Close d s ∷ xs) read = cond (same_delim o.0 d) (fault os xs read) (Some s)
 
--- a refusal says that the text has no trees
+abbrev pub fault_of : Reading → Option Span
+fault_of r = fault [] r.lexemes r.fault
+
+-- the first of the lexemes that stands inside more than 128 groups, where the first one stands inside `depth` groups
+abbrev pub first_deep : ℕ → List Lexeme → Option Span
+first_deep depth [] = None
+first_deep depth (lexeme.Token t ∷ xs) = cond (nat_lt 128 depth) (Some (token_span t)) (first_deep depth xs)
+first_deep depth (lexeme.Open d s ∷ xs) = cond (nat_lt 128 depth) (Some s) (first_deep (suc depth) xs)
+first_deep depth (lexeme.Close d s ∷ xs) = cond (nat_lt 128 (depth - 1)) (Some s) (first_deep (depth - 1) xs)
+
+-- a refusal at this place: the text has no trees and this is its first fault, or it has trees and this is too deep
+abbrev pub IsRefused : List ℕ → Kind → Span → Type 0
+IsRefused text kind.Lex s = (fault_of (reading 0 0 (chars text)) ≡ Some s) × ((ts : Trees) → IsTreesOf text ts → ⊥)
+IsRefused text kind.TooDeep s = (fault_of (reading 0 0 (chars text)) ≡ None) × (first_deep 0 (reading 0 0 (chars text)).lexemes ≡ Some s)
+IsRefused text _ s = ⊥
+
 abbrev pub IsRefusalOf : List ℕ → Error → Type 0
 IsRefusalOf text NoMemory = ⊤
-IsRefusalOf text (Refused r) = (r ≡ not_yet text) × ((ts : Trees) → IsTreesOf text ts → ⊥)
+IsRefusalOf text (Refused r) = IsRefused text r.kind r.span
 
--- What follows is for the proof that the lexer finds these trees.
+-- the text has no fault, and none of its lexemes is too deep
+pub record IsWhole (text : List ℕ) : Type 0 where
+  pub no_fault : fault_of (reading 0 0 (chars text)) ≡ None
+  pub shallow : first_deep 0 (reading 0 0 (chars text)).lexemes ≡ None
+
+-- What follows is for the proof that the lexer finds these trees and places.
 
 -- a group that is not closed yet, and the trees before it in its list
 pub record Level : Type 0 where
@@ -47,33 +77,46 @@ pub record Level : Type 0 where
   pub delim : Delim
   pub from : Span
 
-abbrev pub at_end : List Level → Trees → Option Trees
-at_end [] here = Some here
-at_end (l ∷ ls) here = None
+-- what becomes of lexemes: trees, and the first lexeme that is too deep; or a fault
+pub data Verdict : Type 0 where
+  are_trees : Trees → Option Span → Verdict
+  has_fault : Span → Verdict
 
-abbrev pub if_same : Bool → Option Trees → Option Trees
-if_same true found = found
-if_same false found = None
+-- the first lexeme that is too deep, with one more that stands inside `depth` groups
+abbrev pub deeper : Option Span → ℕ → Span → Option Span
+deeper (Some s) depth here = Some s
+deeper None depth here = cond (nat_lt 128 depth) (Some here) None
 
-abbrev pub closed : List Level → Trees → Delim → Span → (List Level → Trees → Option Trees) → Option Trees
-closed [] here d upto next = None
-closed (l ∷ ls) here d upto next =
-    if_same (same_delim l.delim d) (next ls (join l.before (group l.delim l.from here upto no_trees)))
+abbrev pub at_end : Option Span → List Level → Trees → Option Span → Verdict
+at_end (Some s) ls here deep = has_fault s
+at_end None [] here deep = are_trees here deep
+at_end None (l ∷ ls) here deep = has_fault l.from
 
--- the trees of the lexemes that follow these open groups and then the trees `here`
-abbrev pub nest : List Level → Trees → List Lexeme → Option Trees
-nest ls here [] = at_end ls here
-nest ls here (lexeme.Token t ∷ xs) = nest ls (join here (token t no_trees)) xs
-nest ls here (lexeme.Open d from ∷ xs) = nest (record { before = here; delim = d; from = from } ∷ ls) no_trees xs
-nest ls here (lexeme.Close d upto ∷ xs) = closed ls here d upto (λ levels trees. nest levels trees xs)
+abbrev pub if_same : Bool → Span → Verdict → Verdict
+if_same true upto found = found
+if_same false upto found = has_fault upto
 
-abbrev pub nest_all : List Level → Trees → Option (List Lexeme) → Option Trees
-nest_all ls here None = None
-nest_all ls here (Some xs) = nest ls here xs
+abbrev pub closed : List Level → Trees → Option Span → Delim → Span → (List Level → Trees → Option Span → Verdict) → Verdict
+closed [] here deep d upto next = has_fault upto
+closed (l ∷ ls) here deep d upto next =
+    if_same (same_delim l.delim d) upto
+    (next ls (join l.before (group l.delim l.from here upto no_trees)) (deeper deep (length ls) upto))
 
--- the trees of the text that starts at the byte `at`, behind these open groups and the trees `here`
-abbrev pub found : ℕ → List ℕ → List Level → Trees → Option Trees
-found at text ls here = nest_all ls here (lexemes at 0 (chars text))
+-- what becomes of the lexemes that follow these open groups and then the trees `here`
+abbrev pub nest : List Level → Trees → Option Span → List Lexeme → Option Span → Verdict
+nest ls here deep [] read = at_end read ls here deep
+nest ls here deep (lexeme.Token t ∷ xs) read = nest ls (join here (token t no_trees)) (deeper deep (length ls) (token_span t)) xs read
+nest ls here deep (lexeme.Open d from ∷ xs) read =
+    nest (record { before = here; delim = d; from = from } ∷ ls) no_trees (deeper deep (length ls) from) xs read
+nest ls here deep (lexeme.Close d upto ∷ xs) read =
+    closed ls here deep d upto (λ levels trees more. nest levels trees more xs read)
+
+abbrev pub nest_all : List Level → Trees → Option Span → Reading → Verdict
+nest_all ls here deep r = nest ls here deep r.lexemes r.fault
+
+-- what becomes of the text that starts at the byte `at`, behind these open groups and the trees `here`
+abbrev pub found : ℕ → List ℕ → List Level → Trees → Option Span → Verdict
+found at text ls here deep = nest_all ls here deep (reading at 0 (chars text))
 
 -- the entries of what was read so far, where an open group has the number 0 yet
 abbrev pub so_far : List Level → Trees → List Entry
@@ -88,30 +131,38 @@ pub record IsNesting (n : Nesting) (ls : List Level) (here : Trees) : Type 0 whe
   pub entries_are : n.entries.items ≡ so_far ls here
   pub opened_are : n.opened.items ≡ opened_at ls
 
+-- s is the opener of the group that was opened last
+pub record IsInnermost (opened : List Opened) (s : Span) : Type 0 where
+  pub rest : List Opened
+  pub last : Opened
+  pub items : opened ≡ rest ++ last ∷ []
+  pub from : s ≡ last.from
+
 abbrev pub IsNested : Nesting → Type 0
 IsNested n = (ls : List Level) × (here : Trees) × IsNesting n ls here
 
 -- a lexeme was taken, and what follows goes on from there
-pub record After (new : Nesting) (x : Lexeme) (ls : List Level) (here : Trees) : Type 0 where
+pub record After (old new : Nesting) (x : Lexeme) (ls : List Level) (here : Trees) : Type 0 where
   pub levels : List Level
   pub trees : Trees
   pub nested : IsNesting new levels trees
-  pub steps : (xs : List Lexeme) → nest ls here (x ∷ xs) ≡ nest levels trees xs
+  pub steps : (xs : List Lexeme) (read : Option Span) → nest ls here old.deep (x ∷ xs) read ≡ nest levels trees new.deep xs read
 
--- whether a lexeme can stand there, and what was made of it
-abbrev pub Takes : Bool → Nesting → Nesting → Lexeme → Type 0
-Takes true old new x = (ls : List Level) (here : Trees) → IsNesting old ls here → After new x ls here
-Takes false old new x = (ls : List Level) (here : Trees) → IsNesting old ls here → (xs : List Lexeme) → nest ls here (x ∷ xs) ≡ None
+-- the place of the lexeme where it can't stand there, and what was made of it otherwise
+abbrev pub Takes : Option Span → Nesting → Nesting → Lexeme → Type 0
+Takes None old new x = (ls : List Level) (here : Trees) → IsNesting old ls here → After old new x ls here
+Takes (Some s) old new x =
+    (ls : List Level) (here : Trees) → IsNesting old ls here → (xs : List Lexeme) (read : Option Span) → nest ls here old.deep (x ∷ xs) read ≡ has_fault s
 
 -- the first n bytes of a text were read
-pub record Advances (new : Nesting) (at : ℕ) (text : List ℕ) (n : ℕ) (ls : List Level) (here : Trees) : Type 0 where
+pub record Advances (old new : Nesting) (at : ℕ) (text : List ℕ) (n : ℕ) (ls : List Level) (here : Trees) : Type 0 where
   pub positive : 0 < n
   pub boundary : IsCharBoundary text n
   pub levels : List Level
   pub trees : Trees
   pub nested : IsNesting new levels trees
-  pub steps : found at text ls here ≡ found (at + n) (drop n text) levels trees
+  pub steps : found at text ls here old.deep ≡ found (at + n) (drop n text) levels trees new.deep
 
-abbrev pub IsStep : Option ℕ → Nesting → Nesting → ℕ → List ℕ → Type 0
-IsStep None old new at text = (ls : List Level) (here : Trees) → IsNesting old ls here → found at text ls here ≡ None
-IsStep (Some n) old new at text = (ls : List Level) (here : Trees) → IsNesting old ls here → Advances new at text n ls here
+abbrev pub IsStep : Progress → Nesting → Nesting → ℕ → List ℕ → Type 0
+IsStep (progress.Fault s) old new at text = (ls : List Level) (here : Trees) → IsNesting old ls here → found at text ls here old.deep ≡ has_fault s
+IsStep (progress.Reads n) old new at text = (ls : List Level) (here : Trees) → IsNesting old ls here → Advances old new at text n ls here

@@ -294,7 +294,7 @@ fn tree_len(entries: &[Entry<'_>]) -> usize
 }
 
 /// Where a token stands.
-fn span_of(token: &Token<'_>) -> Span
+pub(crate) fn span_of(token: &Token<'_>) -> Span
     ensures { result ≡ token_span token.now }
 {
     match token {

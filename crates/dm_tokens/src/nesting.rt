@@ -1,10 +1,10 @@
-ghost use Rattle.std.specs.Prelude.{◌≡◌, ◌<◌, [], true, slice_set, IfOk};
+ghost use Rattle.std.specs.Prelude.{◌≡◌, ◌<◌, [], None, slice_set, IfOk, MatchOption};
 ghost use Rattle.std.specs.Vec.{vec_len};
-ghost use Rattle.dm_tokens.specs.Nesting.{IsNested, IsNesting, Takes};
+ghost use Rattle.dm_tokens.specs.Nesting.{IsInnermost, IsNested, IsNesting, Takes, deeper};
 ghost use Rattle.dm_tokens.specs.Trees.{no_trees};
 ghost use Rattle.dm_tokens.specs.declared.lexing.Lexeme.TheVariants as lexeme;
 
-use super::cursor::is_same_delim;
+use super::cursor::{is_same_delim, span_of};
 use super::lexing::Lexeme;
 use super::tokens::{Delim, Entry, Span, Token};
 use std::alloc::{AllocError, Global};
@@ -17,11 +17,24 @@ pub struct Opened {
     pub place: usize,
 }
 
-/// The entries that were read so far, and the groups among them that are open.
+/// The entries that were read so far, the groups among them that are open, and the place of the first one that is inside more than
+/// 128 groups.
 #[derive(Drop)]
 pub struct Nesting<'a> {
     pub entries: Vec<Entry<'a>>,
     pub opened: Vec<Opened>,
+    pub deep: Option<Span>,
+}
+
+/// The first place that is too deep, with one more, which stands inside `depth` groups.
+fn deeper_of(deep: Option<Span>, depth: usize, here: Span) -> Option<Span>
+    ensures { result ≡ deeper deep depth here }
+{
+    match deep {
+        Some(span) => Some(span),
+        None if 128 < depth => Some(here),
+        None => None,
+    }
 }
 
 /// Puts an entry in place of another.
@@ -34,62 +47,77 @@ fn put<'a>(entries: &mut Vec<Entry<'a>>, place: usize, item: Entry<'a>)
 
 impl<'a> Nesting<'a> {
     pub fn new(alloc: Global) -> Nesting<'a>
-        ensures { IsNesting result [] no_trees }
+        ensures nested { IsNesting result [] no_trees }
+        ensures deep { result.deep ≡ None }
     {
         Nesting {
             entries: Vec::new(alloc),
             opened: Vec::new(alloc),
+            deep: None,
         }
     }
 
-    /// Takes the next lexeme, or says that it closes no open group.
-    pub fn take(&mut self, next: Lexeme<'a>) -> Result<bool, AllocError>
+    /// The range of the innermost opener that is open.
+    pub fn innermost(&self) -> Option<Span>
+        ensures { MatchOption result (self.now.opened.items ≡ []) (λ s. IsInnermost self.now.opened.items s) }
+    {
+        match self.opened.last() {
+            Some(open) => Some(open.from),
+            None => None,
+        }
+    }
+
+    /// Takes the next lexeme, or gives its range where it closes no open group.
+    pub fn take(&mut self, next: Lexeme<'a>) -> Result<Option<Span>, AllocError>
         requires { IsNested self.old }
-        ensures { IfOk result (λ b. Takes b self.old self.new next.entry) }
+        ensures { IfOk result (λ s. Takes s self.old self.new next.entry) }
     {
         match next {
             Lexeme::Token(token) => {
                 self.add(token)?;
-                Ok(true)
+                Ok(None)
             }
             Lexeme::Open(delim, from) => {
                 self.open(delim, from)?;
-                Ok(true)
+                Ok(None)
             }
             Lexeme::Close(delim, upto) => self.close(delim, upto),
         }
     }
 
     fn add(&mut self, item: Token<'a>) -> Result<(), AllocError>
-        ensures { IfOk result (λ _. Takes true self.old self.new (lexeme.Token item.entry)) }
+        ensures { IfOk result (λ _. Takes None self.old self.new (lexeme.Token item.entry)) }
     {
+        self.deep = deeper_of(self.deep, self.opened.len(), span_of(&item));
         self.entries.push(Entry::Token(item))?;
         Ok(())
     }
 
     fn open(&mut self, delim: Delim, from: Span) -> Result<(), AllocError>
-        ensures { IfOk result (λ _. Takes true self.old self.new (lexeme.Open delim from)) }
+        ensures { IfOk result (λ _. Takes None self.old self.new (lexeme.Open delim from)) }
     {
+        self.deep = deeper_of(self.deep, self.opened.len(), from);
         let place = self.entries.len();
         self.entries.push(Entry::Open(delim, from, 0))?;
         self.opened.push(Opened { delim, from, place })?;
         Ok(())
     }
 
-    fn close(&mut self, delim: Delim, upto: Span) -> Result<bool, AllocError>
+    fn close(&mut self, delim: Delim, upto: Span) -> Result<Option<Span>, AllocError>
         requires { IsNested self.old }
-        ensures { IfOk result (λ b. Takes b self.old self.new (lexeme.Close delim upto)) }
+        ensures { IfOk result (λ s. Takes s self.old self.new (lexeme.Close delim upto)) }
     {
         let Some(innermost) = self.opened.pop() else {
-            return Ok(false);
+            return Ok(Some(upto));
         };
         if !is_same_delim(innermost.delim, delim) {
-            return Ok(false);
+            return Ok(Some(upto));
         }
+        self.deep = deeper_of(self.deep, self.opened.len(), upto);
         let count = self.entries.len() - innermost.place;
         let opener = Entry::Open(innermost.delim, innermost.from, count);
         put(&mut self.entries, innermost.place, opener);
         self.entries.push(Entry::Close(delim, upto))?;
-        Ok(true)
+        Ok(None)
     }
 }

@@ -1,16 +1,12 @@
-use Rattle.dm_tokens.proofs.LexSteps.{step-none, step-lexeme, step-refused}
+use Rattle.std.proofs.Common.{◌≤◌, length, arith}
+use Rattle.dm_tokens.proofs.LexSteps.{step-blank, unclosed-front}
 use Rattle.dm_tokens.proofs.lexing.step.Goals as goal
 
-pub returns-in_default : goal.returns-in_default
-returns-in_default c =
-    step-none c.args.nesting.now _ _ _ c.utf8.text c.requires.some c.blank_len-blanks.ensures c.if-blanks-ne0.false c.in_default.ensures
+pub span_at-requires : goal.span_at-requires
+span_at-requires c =
+    let b : 2 ≤ length c.args.text.now = (unclosed-front _ c.utf8.text c.in-Unclosed.ensures).boundary.0 in
+    omega arith
 
-pub returns-then-branch : goal.returns-then-branch
-returns-then-branch c =
-    step-lexeme _ _ _ _ _ _ _ _ c.utf8.text c.requires.some c.blank_len-blanks.ensures c.if-blanks-ne0.false c.in-Some.ensures c.in_ok-take.ensures
-    c.if-branch.true
-
-pub returns-else-branch : goal.returns-else-branch
-returns-else-branch c =
-    step-refused _ _ _ _ _ _ _ _ c.utf8.text c.requires.some c.blank_len-blanks.ensures c.if-blanks-ne0.false c.in-Some.ensures c.in_ok-take.ensures
-    c.if-branch.false
+pub returns-in-Size : goal.returns-in-Size
+returns-in-Size c =
+    step-blank _ _ _ c.in-Size.ensures.1.0 _ c.in-Size.ensures.0 c.in-Size.ensures.1.1 c.in-Size.ensures.1.2

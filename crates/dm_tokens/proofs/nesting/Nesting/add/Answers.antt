@@ -1,6 +1,8 @@
-use Rattle.std.proofs.Common.{refl}
+use Rattle.std.proofs.Common.{◌≡◌, length, arith, refl}
 use Rattle.dm_tokens.proofs.Nestings.{nesting-add}
 use Rattle.dm_tokens.proofs.nesting.Nesting.add.Goals as goal
 
 pub returns : goal.returns
-returns c = nesting-add _ _ _ c.in_ok-push.ensures.items refl
+returns c =
+    let n : c.len.result ≡ length c.args.self.now.opened.items = omega arith in
+    nesting-add _ _ _ c.in_ok-push.ensures.items refl (cc (c.deeper_of-self.ensures, n, c.span_of.ensures))

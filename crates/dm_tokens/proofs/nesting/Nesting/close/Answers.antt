@@ -16,5 +16,6 @@ put-requires c =
 pub returns : goal.returns
 returns c =
     let same : same_delim c.in-Some.innermost.delim c.args.delim ≡ true = cc in
-    let count : c.len.result ≡ length c.args.self.now.entries.items = omega arith in
-    nesting-close _ _ _ _ _ _ c.in-Some.ensures.items same refl (cc (c.in_ok-push.ensures.items, c.put.ensures, count))
+    let n : c.len.result ≡ length c.pop.new.self.items = omega arith in
+    let count : c.len-2.result ≡ length c.args.self.now.entries.items = omega arith in
+    nesting-close _ _ _ _ _ _ c.in-Some.ensures.items same refl (cc (c.in_ok-push.ensures.items, c.put.ensures, count)) (cc (c.deeper_of-self.ensures, n))
