@@ -25,6 +25,25 @@ def fields(size):
     return head + "".join("Field%02x," % (i % 256) for i in range(count)) + tail
 
 
+def listed(head, part, tail):
+    """A text of numbered parts between a head and a tail."""
+    def text(size):
+        parts, length = [], len(head) + len(tail)
+        while length < size - 600:
+            parts.append(part(len(parts)))
+            length += len(parts[-1])
+        return head + "".join(parts) + tail
+    return text
+
+
+def variant(i):
+    return ("V%d," % i, "V%d(T, u8)," % i, "V%d { a: T, b: u8 }," % i)[i % 3]
+
+
+def sample(count):
+    return "enum Sample<T> {" + "".join(variant(i) for i in range(count)) + " }"
+
+
 def nested_comments(size):
     depth = size // 4
     return "/*" * depth + "*/" * depth
@@ -38,6 +57,20 @@ TEXTS = {
     "nested comments": nested_comments,
     "open parentheses": lambda size: "(" * size,
     "puncts": lambda size: repeated("+-=", size),
+    "an enum of unit variants": listed("enum E {", lambda i: "V%d," % i, "}"),
+    "an enum of variants of all forms": listed("enum Sample<T> {", variant, " }"),
+    "generic parameters": listed("struct S<", lambda i: "T%d: A," % i, ">;"),
+    "attributes": listed("", lambda i: "#[a%d(b)]" % i, "struct S;"),
+    "types nested 127 deep": listed("struct S(", lambda i: "&" * 127 + "u8,", ");"),
+    "paths nested 127 deep": listed("struct S(", lambda i: "a<" * 127 + "u8" + ">" * 127 + ",", ");"),
+    "discriminants": listed("enum E {", lambda i: "V%d = a::<b, c>::d + %d," % (i, i), "}"),
+}
+
+# What is timed at one size.
+ONCE = {
+    "a name of no trait": "Hash\n",
+    "a struct of three fields": "PartialEq\nstruct S { a: u8, b: u8, c: u8 }",
+    "an enum of 2000 variants": "PartialEq\n" + sample(2000),
 }
 
 
@@ -51,6 +84,13 @@ def best_of(path, times):
         best = took if best is None else min(best, took)
     return best, answer.stdout
 
+
+for name, text in ONCE.items():
+    path = f"{work}/input"
+    with open(path, "w") as file:
+        file.write(text)
+    took, written = best_of(path, 20)
+    print(f"{name}: {took:.4f}, {len(written)} bytes written")
 
 for name, text in TEXTS.items():
     print(name)

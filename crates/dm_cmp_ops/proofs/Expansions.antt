@@ -1,11 +1,7 @@
 -- The emitted implementation is one of `PartialEq`, and the premises of its laws hold of what is read.
 use Rattle.std.proofs.Common.{◌≡◌, ℕ, List, [], ◌∷◌, map, true, false, cond, Result, Ok, Err, refl, sym, subst, codes}
 use Rattle.std.specs.Prelude.{IfOk}
-use Rattle.dm_tokens.specs.declared.tokens.Span.{Span}
-use Rattle.dm_tokens.specs.declared.tokens.Ident.{Ident}
-use Rattle.dm_tokens.specs.Trees.{Trees}
-use Rattle.dm_syntax.specs.Declarations.{Declaration, Listed, FieldTree, ShapeTree, struct_shape, enum_shape, union_shape, named, unnamed, unit}
-use Rattle.dm_syntax.specs.Spells.{ShapeOf}
+use Rattle.dm_syntax.specs.Declarations.{Declaration}
 use Rattle.dm_emit.specs.declared.print.Expansion.{Expansion}
 use Rattle.dm_emit.specs.Output.{ItemTree, item_view}
 use Rattle.dm_emit.specs.Values.{cases}
@@ -16,27 +12,9 @@ use Rattle.dm_cmp_ops.specs.Direct.{Gives, direct_eq, direct_ne}
 use Rattle.dm_cmp_ops.specs.Heads.{IsComparison, AreMethods, IsPartialEq, some_compared}
 use Rattle.dm_cmp_ops.specs.Emitted.{item, method, method_name, methods}
 use Rattle.dm_cmp_ops.specs.Named.{AreNamed, AreSmall}
-use Rattle.dm_cmp_ops.specs.Expanded.{IsExpanded, IsSpelled}
-use Rattle.dm_cmp_ops.proofs.PartialEqLaws.{eq-gives, ne-gives, struct-AreNamed}
-
--- ---- what is read is a struct whose fields stand between parentheses
-
-pub record IsTupleStruct (s : ShapeTree) : Type 0 where
-  pub word : Span
-  pub fields : Listed FieldTree
-  pub is : s ≡ struct_shape word (unnamed fields)
-
-shape-tuple : (s : ShapeTree) (i : Ident) (ts : Trees) → ShapeOf s i ts → IsTupleStruct s
-shape-tuple (struct_shape w (unnamed fs)) i ts h = record { word = w; fields = fs; is = refl }
-shape-tuple (struct_shape w (named fs)) i ts h = absurd h
-shape-tuple (struct_shape w unit) i ts h = absurd h
-shape-tuple (enum_shape w vs) i ts h = absurd h
-shape-tuple (union_shape w fs) i ts h = absurd h
-
-spelled-named : (d : Declaration) → IsSpelled d → AreNamed d
-spelled-named d s =
-    let t : IsTupleStruct d.shape = shape-tuple d.shape d.ident s.trees s.spelled.is_shape in
-    struct-AreNamed d t.word (unnamed t.fields) t.is refl
+use Rattle.dm_cmp_ops.specs.Expanded.{IsExpanded, IsReadable}
+use Rattle.dm_cmp_ops.proofs.PartialEqLaws.{eq-gives, ne-gives}
+use Rattle.dm_cmp_ops.proofs.ReadNames.{readable-named}
 
 -- ---- the implementation
 
@@ -56,7 +34,7 @@ are-methods d names small =
       | false ↦ eq-method d names small
     ]
 
-expanded : (d : Declaration) (i : ItemTree) (items : List ItemTree) (text : List ℕ) → IsSpelled d → AreSmall (cases d) → i ≡ item d →
+expanded : (d : Declaration) (i : ItemTree) (items : List ItemTree) (text : List ℕ) → IsReadable d → AreSmall (cases d) → i ≡ item d →
     items ≡ i ∷ [] → text ≡ printed (i ∷ []) → IsExpanded d items text
 expanded d i items text s small is one t =
     let P : ItemTree → Type 0 = IsPartialEq d in
@@ -67,11 +45,11 @@ expanded d i items text s small is one t =
       ty = refl;
       predicates = refl;
       assocs = refl;
-      methods = are-methods d (spelled-named d s) small;
+      methods = are-methods d (readable-named d s) small;
     } in
     record { item = i; one = one; is_partial_eq = subst P (sym is) whole; text_is = t }
 
-pub expands : {E : Type 0} (d : Declaration) (i : ItemTree) (r : Result Expansion E) → IsSpelled d → AreSmall (cases d) → i ≡ item d →
+pub expands : {E : Type 0} (d : Declaration) (i : ItemTree) (r : Result Expansion E) → IsReadable d → AreSmall (cases d) → i ≡ item d →
     IfOk r (λ x. (map item_view x.items ≡ i ∷ []) × (x.text ≡ printed (i ∷ []))) →
     IfOk r (λ x. IsExpanded d (map item_view x.items) x.text)
 expands d i (Ok x) s small is h = expanded d i (map item_view x.items) x.text s small is h.0 h.1

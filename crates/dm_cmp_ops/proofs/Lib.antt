@@ -3,7 +3,11 @@ pub mod BindingLaws
 pub mod ChainLaws
 pub mod ArmLaws
 pub mod PartialEqLaws
+pub mod CheckLaws
 mod Builders
 mod Joined
+mod Parameters
 mod SkipSteps
+mod CheckSteps
+mod ReadNames
 mod Expansions

@@ -1,13 +1,10 @@
 -- The bodies that are emitted for `eq` and `ne` give what `eq` and `ne` mean.
 use Rattle.std.proofs.Common.{◌≡◌, ℕ, zero, suc, ◌<◌, ◌^◌, List, [], ◌∷◌, length, Bool, true, false, not, cond, ◌&&◌, ◌||◌, eqb, nat_lt, Option, Some, None, codes, slice_get, refl, sym, ap, ◌∙◌, arith}
 use Rattle.std.proofs.lemmas.Bool.{eqb-true}
-use Rattle.dm_syntax.specs.Declarations.{Declaration, FieldTree, FieldsTree, struct_shape}
-use Rattle.dm_tokens.specs.declared.tokens.Span.{Span}
-use Rattle.dm_tokens.specs.declared.tokens.Ident.{Ident}
-use Rattle.dm_syntax.specs.declared.plain.Attribute.{Attribute}
+use Rattle.dm_syntax.specs.Declarations.{Declaration, FieldTree}
 use Rattle.dm_emit.specs.Output.{exprs_of, arms_of, MethodTree}
-use Rattle.dm_emit.specs.Values.{Value, mine, theirs, truth, value, Case, cases, cases_of_shape, is_enum, is_enum_shape, field_list, fits_case, IsValue}
-use Rattle.dm_emit.specs.Run.{Env, run, run_arms, run_block, brace_fields}
+use Rattle.dm_emit.specs.Values.{Value, mine, theirs, truth, value, Case, cases, is_enum, field_list, fits_case, IsValue}
+use Rattle.dm_emit.specs.Run.{Env, run, run_arms, run_block}
 use Rattle.dm_cmp_ops.specs.declared.partial_eq.Comparing.{Comparing}
 use Rattle.dm_cmp_ops.specs.declared.partial_eq.Comparing.TheVariants.{Equal, Unequal}
 use Rattle.dm_cmp_ops.specs.Skips.{is_skipped}
@@ -157,29 +154,3 @@ eq-gives d names small m head is = record { gives = λ x y os vx vy len. rw (hea
 
 pub ne-gives : (d : Declaration) → AreNamed d → AreSmall (cases d) → (m : MethodTree) → IsComparison (codes "ne") m → m.body ≡ body Unequal d → Gives d m direct_ne
 ne-gives d names small m head is = record { gives = λ x y os vx vy len. rw (head.receiver, head.param, is) (body-runs Unequal d names small x y os vx vy len) }
-
--- ---- declarations without fields between braces
-
-abbrev fields_or : FieldsTree → Option Case → FieldsTree
-fields_or fs None = fs
-fields_or fs (Some c) = c.fields
-
-no-braces : (attrs : List Attribute) (ident : Ident) (fs : FieldsTree) → brace_fields fs ≡ None → (n : ℕ) (c : Case) (gs : List FieldTree) →
-    slice_get (record { attrs = attrs; ident = ident; fields = fs } ∷ []) n ≡ Some c → brace_fields c.fields ≡ Some gs → ⊥
-no-braces attrs ident fs none zero c gs at braces =
-    let e : fs ≡ c.fields = ap (λ (o : Option Case). fields_or fs o) at in
-    let both : None ≡ Some gs = sym none ∙ ap brace_fields e ∙ braces in
-    cc
-no-braces attrs ident fs none (suc n) c gs at braces = cc
-
--- a struct that is named so: its fields stand between parentheses, or there are none
-pub struct-AreNamed : (d : Declaration) (w : Span) (fs : FieldsTree) → d.shape ≡ struct_shape w fs → brace_fields fs ≡ None → AreNamed d
-struct-AreNamed d w fs shape none =
-    let one : cases d ≡ record { attrs = d.attrs; ident = d.ident; fields = fs } ∷ [] = ap (cases_of_shape d.attrs d.ident) shape in
-    let not_enum : is_enum d ≡ false = ap is_enum_shape shape in
-    record {
-      distinct = λ i j x y ax ay e. only-case d i x not_enum ax ∙ sym (only-case d j y not_enum ay);
-      fields = λ n c gs at braces.
-          let here : slice_get (record { attrs = d.attrs; ident = d.ident; fields = fs } ∷ []) n ≡ Some c = ap (λ cs. slice_get cs n) (sym one) ∙ at in
-          absurd (no-braces d.attrs d.ident fs none n c gs here braces);
-    }

@@ -11,7 +11,7 @@ use Rattle.dm_emit.specs.Run.{discriminant_names}
 use Rattle.dm_cmp_ops.specs.declared.partial_eq.Comparing.{Comparing}
 use Rattle.dm_cmp_ops.specs.declared.partial_eq.Comparing.TheVariants.{Equal, Unequal}
 use Rattle.dm_cmp_ops.specs.Skips.{is_skipped}
-use Rattle.dm_cmp_ops.specs.Heads.{word, words, plain_path, is_compared, some_compared, ref_self, name_type, partial_eq_path, implementor}
+use Rattle.dm_cmp_ops.specs.Heads.{word, words, plain_path, is_compared, some_compared, ref_self, name_type, partial_eq_path, params_of, predicates_of, implementor}
 use Rattle.dm_emit.specs.declared.item.ItemAttr.TheVariants.{AllowPrivateBounds, AutomaticallyDerived, Inline}
 use Rattle.dm_emit.specs.declared.item.Receiver.TheVariants.{Ref}
 
@@ -183,10 +183,10 @@ abbrev pub item : Declaration → ItemTree
 item d =
     record {
       attrs = AllowPrivateBounds ∷ AutomaticallyDerived ∷ [];
-      params = [];
+      params = params_of d;
       trait_path = Some partial_eq_path;
       ty = implementor d;
-      predicates = [];
+      predicates = predicates_of d;
       assocs = [];
       methods = methods d;
     }

@@ -1,16 +1,25 @@
--- What an expansion of `PartialEq` is: one implementation, and its text.
-use Rattle.std.specs.Prelude.{◌≡◌, ℕ, List, [], ◌∷◌}
+-- What `PartialEq` answers: an expansion, which is one implementation and its text, or a refusal.
+use Rattle.std.specs.Prelude.{◌≡◌, ℕ, List, [], ◌∷◌, map, Some, None, Result, Ok, Err}
+use Rattle.dm_tokens.specs.declared.error.Error.{Error}
+use Rattle.dm_tokens.specs.declared.error.Error.TheVariants.{NoMemory, Refused}
 use Rattle.dm_tokens.specs.Trees.{Trees}
 use Rattle.dm_syntax.specs.Declarations.{Declaration}
-use Rattle.dm_syntax.specs.Spells.{DeclarationOf}
-use Rattle.dm_emit.specs.Output.{ItemTree}
+use Rattle.dm_syntax.specs.Spelling.{Marks}
+use Rattle.dm_syntax.specs.Parsed.{SpelledBy}
+use Rattle.dm_syntax.specs.Names.{Named}
+use Rattle.dm_emit.specs.declared.print.Expansion.{Expansion}
+use Rattle.dm_emit.specs.Output.{ItemTree, item_view}
 use Rattle.dm_emit.specs.Tokens.{printed}
 use Rattle.dm_cmp_ops.specs.Heads.{IsPartialEq}
+use Rattle.dm_cmp_ops.specs.Checks.{refusal}
 
--- some trees are the tokens of the declaration
-pub record IsSpelled (d : Declaration) : Type 0 where
+-- the declaration of some trees, whose names may be declared
+pub record IsReadable (d : Declaration) : Type 0 where
+  pub limit : ℕ
   pub trees : Trees
-  pub spelled : DeclarationOf d trees
+  pub marks : Marks
+  pub spelled : SpelledBy d limit trees marks
+  pub named : Named d
 
 -- one implementation, whose head and methods are those of `PartialEq`, and its text
 pub record IsExpanded (d : Declaration) (items : List ItemTree) (text : List ℕ) : Type 0 where
@@ -18,3 +27,9 @@ pub record IsExpanded (d : Declaration) (items : List ItemTree) (text : List ℕ
   pub one : items ≡ item ∷ []
   pub is_partial_eq : IsPartialEq d item
   pub text_is : text ≡ printed (item ∷ [])
+
+-- what a declaration is answered with, want of memory aside: an expansion where nothing is refused, and else the first refusal
+abbrev pub IsAnswer : Declaration → Result Expansion Error → Type 0
+IsAnswer d (Ok x) = (refusal d ≡ None) × IsExpanded d (map item_view x.items) x.text
+IsAnswer d (Err NoMemory) = Unit {0}
+IsAnswer d (Err (Refused r)) = refusal d ≡ Some r

@@ -1,5 +1,6 @@
 pub mod Skips
 pub mod Found
+pub mod Checks
 pub mod Direct
 pub mod Heads
 pub mod Emitted

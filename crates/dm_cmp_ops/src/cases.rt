@@ -39,13 +39,27 @@ fn fields_ref<'x, 'a>(fields: &'x Fields<'a>) -> FieldsRef<'x, 'a>
     }
 }
 
-fn case_of_variant<'x, 'a>(variant: &'x Variant<'a>) -> CaseRef<'x, 'a>
+pub(crate) fn case_of_variant<'x, 'a>(variant: &'x Variant<'a>) -> CaseRef<'x, 'a>
     ensures { case_view result ≡ values.case_of_variant (variant_view variant.now) }
 {
     CaseRef {
         attrs: variant.attrs.as_slice(),
         ident: &variant.ident,
         fields: fields_ref(&variant.fields),
+    }
+}
+
+/// A struct with these fields as its only variant.
+pub(crate) fn case_of_struct<'x, 'a>(
+    input: &'x DeriveInput<'a>,
+    fields: &'x Fields<'a>,
+) -> CaseRef<'x, 'a>
+    ensures { case_view result ≡ record { attrs = input.now.attrs; ident = input.now.ident; fields = fields_view fields.now } }
+{
+    CaseRef {
+        attrs: input.attrs.as_slice(),
+        ident: &input.ident,
+        fields: fields_ref(fields),
     }
 }
 

@@ -1,4 +1,4 @@
-//! The head of the implementation of `PartialEq`, and the types that it names.
+//! The head of the implementation of `PartialEq`, and the types that its methods name.
 #![tactic(auto, using(crate::proofs::Builders::builder_steps))]
 
 ghost use Rattle.std.specs.Prelude.{◌≡◌, codes, None, false, IfOk};
@@ -15,7 +15,7 @@ use dm_tokens::{Ident, Span};
 use std::alloc::{AllocError, Global};
 
 #[tactic(auto, using(crate::proofs::Joined::joined_steps))]
-fn plain_type(path: Path<'_>) -> Ty<'_>
+pub(crate) fn plain_type(path: Path<'_>) -> Ty<'_>
     ensures { ty_view result ≡ type_tree (tree_path no_self (path_view path.entry)) nowhere }
 {
     Ty {
@@ -24,7 +24,7 @@ fn plain_type(path: Path<'_>) -> Ty<'_>
     }
 }
 
-fn name_type(alloc: Global, ident: Ident<'_>) -> Result<Ty<'_>, AllocError>
+pub(crate) fn name_type(alloc: Global, ident: Ident<'_>) -> Result<Ty<'_>, AllocError>
     ensures { IfOk result (λ t. ty_view t ≡ spec.name_type ident.entry) }
 {
     let path = path_of_one(alloc, ident)?;
@@ -77,12 +77,4 @@ pub(crate) fn partial_eq_path<'a>(alloc: Global) -> Result<Path<'a>, AllocError>
     ensures { IfOk result (λ p. path_view p ≡ spec.partial_eq_path) }
 {
     path_of(alloc, &["derive_more", "core", "cmp", "PartialEq"])
-}
-
-/// The declared type.
-pub(crate) fn implementor<'a>(alloc: Global, input: &DeriveInput<'a>) -> Result<Ty<'a>, AllocError>
-    ensures { IfOk result (λ t. ty_view t ≡ spec.implementor (declaration_view input.now)) }
-{
-    let ident = input.ident.clone_in(alloc)?;
-    name_type(alloc, ident)
 }

@@ -2,9 +2,15 @@
 #![tactic(auto)]
 
 mod cases;
+mod checks;
 mod comparing;
+mod generics;
+#[cfg(test)]
+mod head_tests;
 mod heads;
 mod names;
 pub mod partial_eq;
 mod sides;
 mod skips;
+#[cfg(test)]
+mod tests;

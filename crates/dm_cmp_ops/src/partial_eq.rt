@@ -1,8 +1,7 @@
 //! `PartialEq`.
 #![tactic(auto, using(crate::proofs::Builders::builder_steps))]
 
-ghost use Rattle.std.specs.Prelude.{◌≡◌, ◌∷◌, [], map, ◌++◌, codes, IfOk, MatchResult, OnOk};
-ghost use Rattle.dm_tokens.specs.declared.error.Error.TheVariants.{NoMemory};
+ghost use Rattle.std.specs.Prelude.{◌≡◌, ◌∷◌, [], map, ◌++◌, codes, IfOk, OnOk};
 ghost use Rattle.dm_syntax.specs.Tree.{path_view, no_self};
 ghost use Rattle.dm_syntax.specs.Declarations.{declaration_view};
 ghost use Rattle.dm_emit.specs.Output.{expr_view, block_view, method_view, item_view, match_expr, deref, no_arms, call, exprs_of, tuple, expr_then, no_exprs};
@@ -12,11 +11,13 @@ ghost use Rattle.dm_cmp_ops.specs.Heads as heads;
 ghost use Rattle.dm_cmp_ops.specs.Emitted as spec;
 ghost use Rattle.dm_cmp_ops.specs.CaseViews.{case_view, IsCasesOf};
 ghost use Rattle.dm_cmp_ops.specs.Named.{AreSmall};
-ghost use Rattle.dm_cmp_ops.specs.Expanded.{IsExpanded, IsSpelled};
+ghost use Rattle.dm_cmp_ops.specs.Expanded.{IsAnswer, IsExpanded, IsReadable};
 
 use crate::cases::{CaseRef, cases_of, count_fields, is_enum, some_compared, some_skipped_case};
+use crate::checks::refusal;
 use crate::comparing::{arms, block_of, chain, test_of};
-use crate::heads::{implementor, other_param, partial_eq_path, word_type};
+use crate::generics::{implementor, params, predicates};
+use crate::heads::{other_param, partial_eq_path, word_type};
 use crate::names::{append, boxed, name, one, path_of, two, word};
 use dm_emit::{Block, Expansion, Expr, Item, ItemAttr, Method, PathExpr, Receiver, with_text};
 use dm_syntax::{DeriveInput, Path};
@@ -265,22 +266,24 @@ fn methods<'a>(
     one(alloc, equal)
 }
 
-/// The implementation for a declaration without parameters.
+/// The implementation.
 pub(crate) fn item<'a>(alloc: Global, input: &DeriveInput<'a>) -> Result<Item<'a>, AllocError>
     ensures { IfOk result (λ i. item_view i ≡ spec.item (declaration_view input.now)) }
 {
     let cases = cases_of(alloc, input)?;
     let methods = methods(alloc, input, cases.as_slice())?;
+    let params = params(alloc, input)?;
+    let ty = implementor(alloc, input, params.as_slice())?;
     Ok(Item {
         attrs: two(
             alloc,
             ItemAttr::AllowPrivateBounds,
             ItemAttr::AutomaticallyDerived,
         )?,
-        params: Seq::new(alloc),
+        params,
         trait_path: Some(partial_eq_path(alloc)?),
-        ty: implementor(alloc, input)?,
-        predicates: Seq::new(alloc),
+        ty,
+        predicates: predicates(alloc, input)?,
         assocs: Seq::new(alloc),
         methods,
     })
@@ -303,7 +306,7 @@ fn expansion_of<'a>(alloc: Global, item: Item<'a>) -> Result<Expansion<'a>, Allo
 }
 
 fn expanded<'a>(alloc: Global, input: &DeriveInput<'a>) -> Result<Expansion<'a>, AllocError>
-    requires { IsSpelled (declaration_view input.now) }
+    requires { IsReadable (declaration_view input.now) }
     ensures { IfOk result (λ x. IsExpanded (declaration_view input.now) (map item_view x.items) x.text) }
 {
     counted(alloc, input)?;
@@ -313,15 +316,23 @@ fn expanded<'a>(alloc: Global, input: &DeriveInput<'a>) -> Result<Expansion<'a>,
 
 /// The implementation of `PartialEq`: `eq`, and `ne` where some variant is compared, each field by field, with their text.
 ///
-/// The declaration is one that the reader gives: a struct whose fields stand between parentheses, without parameters.
-/// Nothing is refused but for want of memory. The trait's name isn't looked at.
+/// The declaration is any that the reader gives, whose names may be declared. The trait's name isn't looked at.
+///
+/// A union is refused with `Kind::WrongShape` at the word `union`. Of a struct, then of each of its fields, or of each
+/// variant of an enum and then its fields, the attributes `#[partial_eq(..)]` are looked at, or `#[eq(..)]` where there
+/// are none. One that isn't `skip` or `ignore` between delimiters is refused with `Kind::AttrSyntax`, and a second one that is
+/// with `Kind::AttrRepeated`, at its own range. The attributes of an enum and the fields of a skipped struct or variant
+/// aren't looked at. The first refusal in this order is the answer.
 pub fn expand<'a>(
     alloc: Global,
     input: &DeriveInput<'a>,
     _trait_name: &str,
 ) -> Result<Expansion<'a>, Error>
-    requires { IsSpelled (declaration_view input.now) }
-    ensures { MatchResult result (λ x. IsExpanded (declaration_view input.now) (map item_view x.items) x.text) (λ e. e ≡ NoMemory) }
+    requires { IsReadable (declaration_view input.now) }
+    ensures { IsAnswer (declaration_view input.now) result }
 {
-    Ok(expanded(alloc, input)?)
+    match refusal(input) {
+        Some(first) => Err(Error::Refused(first)),
+        None => Ok(expanded(alloc, input)?),
+    }
 }

@@ -1,20 +1,22 @@
-//! Which places `PartialEq` leaves out.
+//! What the attributes of a place say: whether `PartialEq` leaves it out, or that one of them is refused.
 #![tactic(auto, using(crate::proofs::SkipSteps::skip_steps))]
 
-ghost use Rattle.std.specs.Prelude.{◌≡◌, ◌||◌, codes};
+ghost use Rattle.std.specs.Prelude.{◌≡◌, ◌||◌, codes, filter};
 ghost use Rattle.dm_cmp_ops.specs.Skips as spec;
+ghost use Rattle.dm_cmp_ops.specs.Checks as checks;
 ghost use Rattle.dm_cmp_ops.specs.Found as after;
-ghost use Rattle.dm_cmp_ops.specs.Found.{found};
+ghost use Rattle.dm_cmp_ops.specs.Found.{found, refused};
+ghost use Rattle.dm_cmp_ops.specs.declared.skips.Said.TheVariants.{No};
 
 use dm_syntax::{AttrArgs, Attribute, PlainPath};
-use dm_tokens::{Ident, TokenStream, is_same};
+use dm_tokens::{Ident, Kind, Refusal, TokenStream, is_same};
 
 /// What the attributes of one name say.
 #[derive(Clone, Copy, Debug, PartialEq, Eq)]
-enum Said {
+pub(crate) enum Said {
     No,
     Yes,
-    Bad,
+    Bad(Refusal),
 }
 
 /// Whether an identifier is written so, and not raw.
@@ -64,25 +66,50 @@ fn reads_skip(args: &AttrArgs<'_>) -> bool
     }
 }
 
+fn refusal_at(kind: Kind, attr: &Attribute<'_>) -> Refusal
+    ensures { result ≡ checks.refusal_at kind attr.now }
+{
+    Refusal {
+        kind,
+        span: attr.span,
+    }
+}
+
+/// What the first attribute of the name says.
+fn first(attr: &Attribute<'_>) -> Said
+    ensures { result ≡ after.with_one_more No attr.now }
+{
+    if reads_skip(&attr.args) {
+        Said::Yes
+    } else {
+        Said::Bad(refusal_at(Kind::AttrSyntax, attr))
+    }
+}
+
+/// The refusal of an attribute behind one that reads.
+fn repetition(attr: &Attribute<'_>) -> Refusal
+    ensures { result ≡ checks.repeated attr.now }
+{
+    if reads_skip(&attr.args) {
+        refusal_at(Kind::AttrRepeated, attr)
+    } else {
+        refusal_at(Kind::AttrSyntax, attr)
+    }
+}
+
 /// What is said where one more attribute of the name is found.
 fn with_one_more(before: Said, attr: &Attribute<'_>) -> Said
-    ensures { found result ≡ after.with_one_more (found before) attr.now }
+    ensures { result ≡ after.with_one_more before attr.now }
 {
     match before {
-        Said::No => {
-            if reads_skip(&attr.args) {
-                Said::Yes
-            } else {
-                Said::Bad
-            }
-        }
-        Said::Yes => Said::Bad,
-        Said::Bad => Said::Bad,
+        Said::No => first(attr),
+        Said::Yes => Said::Bad(repetition(attr)),
+        Said::Bad(refusal) => Said::Bad(refusal),
     }
 }
 
 fn with_next(before: Said, attr: &Attribute<'_>, name: &str) -> Said
-    ensures { found result ≡ after.with_next name.now (found before) attr.now }
+    ensures { result ≡ after.with_next name.now before attr.now }
 {
     if is_examined(attr, name) {
         return with_one_more(before, attr);
@@ -91,7 +118,8 @@ fn with_next(before: Said, attr: &Attribute<'_>, name: &str) -> Said
 }
 
 fn skip(attrs: &[Attribute<'_>], name: &str) -> Said
-    ensures { found result ≡ spec.skip attrs.now name.now }
+    ensures skip { found result ≡ spec.skip attrs.now name.now }
+    ensures refusal { refused result ≡ checks.refusal_among (filter (spec.is_examined name.now) attrs.now) }
 {
     let mut said = Said::No;
     for attr in attrs {
@@ -100,23 +128,16 @@ fn skip(attrs: &[Attribute<'_>], name: &str) -> Said
     said
 }
 
-/// What is said first, or next where that is nothing.
-fn or_else(first: Said, next: Said) -> Said
-    ensures { found result ≡ spec.or_else (found first) (found next) }
+/// What the attributes of a place say to `PartialEq`.
+pub(crate) fn said_to_partial_eq(attrs: &[Attribute<'_>]) -> Said
+    ensures skip { found result ≡ spec.partial_eq_skip attrs.now }
+    ensures refusal { refused result ≡ checks.place_refusal attrs.now }
 {
-    match first {
-        Said::No => next,
+    match skip(attrs, "partial_eq") {
+        Said::No => skip(attrs, "eq"),
         Said::Yes => Said::Yes,
-        Said::Bad => Said::Bad,
+        Said::Bad(refusal) => Said::Bad(refusal),
     }
-}
-
-fn partial_eq_skip(attrs: &[Attribute<'_>]) -> Said
-    ensures { found result ≡ spec.partial_eq_skip attrs.now }
-{
-    let first = skip(attrs, "partial_eq");
-    let next = skip(attrs, "eq");
-    or_else(first, next)
 }
 
 /// Whether `PartialEq` leaves out the place with these attributes.
@@ -124,7 +145,7 @@ fn partial_eq_skip(attrs: &[Attribute<'_>]) -> Said
 pub(crate) fn is_skipped(attrs: &[Attribute<'_>]) -> bool
     ensures { result ≡ spec.is_skipped attrs.now }
 {
-    let said = partial_eq_skip(attrs);
+    let said = said_to_partial_eq(attrs);
     is_yes(said)
 }
 
@@ -134,6 +155,24 @@ fn is_yes(said: Said) -> bool
     match said {
         Said::No => false,
         Said::Yes => true,
-        Said::Bad => false,
+        Said::Bad(_) => false,
+    }
+}
+
+/// The first refusal of the attributes of a place.
+pub(crate) fn place_refusal(attrs: &[Attribute<'_>]) -> Option<Refusal>
+    ensures { result ≡ checks.place_refusal attrs.now }
+{
+    let said = said_to_partial_eq(attrs);
+    refusal_of(said)
+}
+
+fn refusal_of(said: Said) -> Option<Refusal>
+    ensures { result ≡ refused said }
+{
+    match said {
+        Said::No => None,
+        Said::Yes => None,
+        Said::Bad(refusal) => Some(refusal),
     }
 }

@@ -1,50 +1,141 @@
 -- What the steps of a derive say of the text.
-use Rattle.std.proofs.Common.{◌≡◌, ℕ, List, map, Result, Ok, Err, inl, inr}
-use Rattle.std.specs.Prelude.{MatchResult, IfOk}
+use Rattle.std.proofs.Common.{◌≡◌, ℕ, List, length, map, Some, Result, Ok, Err, sym, ap, subst, ◌∙◌, inl, inr}
+use Rattle.std.specs.Prelude.{◌⊎◌, IfOk}
+use Rattle.std.specs.Str.{chars}
+use Rattle.dm_tokens.specs.declared.error.Kind.{Kind}
 use Rattle.dm_tokens.specs.declared.error.Kind.TheVariants as kind
+use Rattle.dm_tokens.specs.declared.tokens.Span.{Span}
 use Rattle.dm_tokens.specs.declared.error.Refusal.{Refusal}
 use Rattle.dm_tokens.specs.declared.error.Error.{Error}
 use Rattle.dm_tokens.specs.declared.error.Error.TheVariants.{NoMemory, Refused}
-use Rattle.dm_tokens.specs.Nesting.{IsRefusalOf}
+use Rattle.dm_tokens.specs.Trees.{Trees}
+use Rattle.dm_tokens.specs.Rows.{reading}
+use Rattle.dm_tokens.specs.Nesting.{IsTreesOf, AreTheOnly, IsRefusalOf, IsRefused, IsWhole}
+use Rattle.dm_tokens.proofs.Nestings.{trees-only}
 use Rattle.dm_syntax.specs.declared.decl.DeriveInput.{DeriveInput}
-use Rattle.dm_syntax.specs.Declarations.{declaration_view}
+use Rattle.dm_syntax.specs.Declarations.{Declaration, declaration_view}
+use Rattle.dm_syntax.specs.Parsed.{SpelledBy, IsTheDeclaration, IsUnread, IsRefusal}
+use Rattle.dm_syntax.specs.Names.{names_refusal, IsNamesError}
+use Rattle.dm_syntax.proofs.NameRefusals.{refused_not_named}
 use Rattle.dm_emit.specs.declared.print.Expansion.{Expansion}
 use Rattle.dm_emit.specs.Output.{item_view}
-use Rattle.dm_cmp_ops.specs.Expanded.{IsExpanded, IsSpelled}
-use Rattle.dm_derive.specs.Derived.{Answers, IsKnown, Reads, Derives, Refuses}
+use Rattle.dm_cmp_ops.specs.Checks.{refusal, IsValid}
+use Rattle.dm_cmp_ops.specs.Expanded.{IsAnswer, IsReadable}
+use Rattle.dm_cmp_ops.proofs.CheckLaws.{unrefused}
+use Rattle.dm_derive.specs.Derived.{Answers, AreTrees, IsKnown, IsRead, Reads, Derives, IsNotLexed, IsNotParsed, IsMisnamed, IsNotDerived, Refuses, IsDerivable}
+
+-- ---- reading
 
 pub not-lexed : (text : List ℕ) (e : Error) → IsRefusalOf text e → Reads text (Err e)
 not-lexed text NoMemory h = tt
-not-lexed text (Refused r) h = inl h
+not-lexed text (Refused r) h = inl (record { refused = h })
+
+-- what lexing gives of a text
+pub record IsLexed (text : List ℕ) (limit : ℕ) (ts : Trees) : Type 0 where
+  pub trees : IsTreesOf text ts
+  pub only : AreTheOnly text ts
+  pub limit_is : limit ≡ length text
+  pub whole : IsWhole text
+
+are-trees : (text : List ℕ) (limit : ℕ) (ts : Trees) → IsLexed text limit ts → AreTrees text ts
+are-trees text limit ts l = record { whole = l.whole; are_trees = l.trees }
+
+pub not-parsed : (text : List ℕ) (limit : ℕ) (ts : Trees) (e : Error) → IsLexed text limit ts → IsRefusal e limit ts → Reads text (Err e)
+not-parsed text limit ts NoMemory l h = tt
+not-parsed text limit ts (Refused r) l h =
+    inr (inl (record { trees = ts; are_trees = are-trees text limit ts l; unread = subst (λ n. IsUnread r.kind r.span n ts) l.limit_is h }))
+
+pub is-read : (text : List ℕ) (limit : ℕ) (ts : Trees) (d : Declaration) → IsLexed text limit ts → IsTheDeclaration d limit ts → IsRead text d
+is-read text limit ts d l h =
+    let whole : IsTheDeclaration d (length text) ts = subst (λ n. IsTheDeclaration d n ts) l.limit_is h in
+    record {
+      trees = ts;
+      are_trees = are-trees text limit ts l;
+      is_the_one = whole;
+      only = λ e g. (whole.only e g.marks (subst (λ us. SpelledBy e (length text) us g.marks) (l.only g.trees g.are_trees) g.spelled)).0;
+    }
+
+pub misnamed : (text : List ℕ) (limit : ℕ) (ts : Trees) (d : Declaration) (e : Error) → IsTheDeclaration d limit ts → IsLexed text limit ts →
+    IsNamesError d e → Reads text (Err e)
+misnamed text limit ts d NoMemory h l m = tt
+misnamed text limit ts d (Refused r) h l m = inr (inr (record { declaration = d; is_read = is-read text limit ts d l h; misnamed = m }))
+
+-- ---- deriving
 
 pub not-derived : (name text : List ℕ) (e : Error) → IsKnown name → Reads text (Err e) → Derives name text (Err e)
 unfolding Refuses
 not-derived name text NoMemory known h = tt
 not-derived name text (Refused r) known h =
     elim h as (λ _. Refuses name text r) [
-      | inl bad ↦ inr (inl (record { known = known; refused = bad }))
-      | inr late ↦ inr (inr (record { known = known; unread = late.0; is = late.1 }))
+      | inl bad ↦ inr (known, inl bad)
+      | inr late ↦ elim late as (λ _. Refuses name text r) [ inl bad ↦ inr (known, inr (inl bad)) | inr bad ↦ inr (known, inr (inr (inl bad))) ]
     ]
 
-pub not-known : (name text : List ℕ) (r : Refusal) → (IsKnown name → ⊥) → r ≡ record { kind = kind.UnknownTrait; span = record { start = 0; «end» = 0 } } → Refuses name text r
+pub not-known : (name text : List ℕ) (r : Refusal) → (IsKnown name → ⊥) →
+    r ≡ record { kind = kind.UnknownTrait; span = record { start = 0; «end» = 0 } } → Refuses name text r
 unfolding Refuses
 not-known name text r un is = inl (record { unknown = un; is = is })
 
 -- what was read can be expanded
-pub can-expand : (text : List ℕ) (d : DeriveInput) → Reads text (Ok d) → IsSpelled (declaration_view d)
-can-expand text d h = record { trees = h.0.grammar.trees; spelled = h.0.grammar.spelled }
+pub can-expand : (text : List ℕ) (d : DeriveInput) → Reads text (Ok d) → IsReadable (declaration_view d)
+can-expand text d h =
+    let one = h.0.is_the_one in
+    record { limit = length text; trees = h.0.trees; marks = one.marks; spelled = one.there; named = h.1 }
 
 pub derived : (name text : List ℕ) (d : DeriveInput) (r : Result Expansion Error) → IsKnown name → Reads text (Ok d) →
-    MatchResult r (λ x. IsExpanded (declaration_view d) (map item_view x.items) x.text) (λ e. e ≡ NoMemory) → Derives name text r
-derived name text d (Ok x) known h m = record { is_known = known; declaration = declaration_view d; is_read = h.0; named = h.1; expanded = m }
+    IsAnswer (declaration_view d) r → Derives name text r
+unfolding Refuses
+derived name text d (Ok x) known h m = record { is_known = known; declaration = declaration_view d; is_read = h.0; named = h.1; expanded = m.1 }
 derived name text d (Err NoMemory) known h m = tt
-derived name text d (Err (Refused r)) known h m = absurd cc
+derived name text d (Err (Refused r)) known h m =
+    inr (known, inr (inr (inr (record { declaration = declaration_view d; is_read = h.0; named = h.1; refused = m }))))
 
 pub answered : (name text : List ℕ) (d : DeriveInput) (r : Result Expansion Error) → IsKnown name → Reads text (Ok d) →
-    MatchResult r (λ x. IsExpanded (declaration_view d) (map item_view x.items) x.text) (λ e. e ≡ NoMemory) →
-    IfOk r (λ x. Answers name text x.text)
+    IsAnswer (declaration_view d) r → IfOk r (λ x. Answers name text x.text)
 unfolding Answers
-answered name text d (Ok x) known h m = (map item_view x.items, record { is_known = known; declaration = declaration_view d; is_read = h.0; named = h.1; expanded = m })
+answered name text d (Ok x) known h m =
+    (map item_view x.items, record { is_known = known; declaration = declaration_view d; is_read = h.0; named = h.1; expanded = m.1 })
 answered name text d (Err e) known h m = tt
 
-pub ruleset derive_steps = (not-lexed, not-derived, not-known, can-expand, derived, answered)
+pub ruleset derive_steps = (not-lexed, not-parsed, is-read, misnamed, not-derived, not-known, can-expand, derived, answered)
+
+-- ---- texts of which nothing is refused
+
+whole-lexed : (text : List ℕ) (k : Kind) (s : Span) → IsWhole text → IsRefused text k s → ⊥
+whole-lexed text kind.Lex s whole h = let e = whole.no_fault in let f = h.0 in cc
+whole-lexed text kind.TooDeep s whole h = let e = whole.shallow in let f = h.1 in cc
+whole-lexed text _ s whole h = h
+
+-- a declaration is read from these trees
+not-unread : (k : Kind) (s : Span) (limit : ℕ) (ts : Trees) (d : Declaration) → IsTheDeclaration d limit ts → IsUnread k s limit ts → ⊥
+not-unread kind.TooDeep s limit ts d one h = let deep = h.first d one.marks one.there in let within = one.within in cc
+not-unread kind.Syntax s limit ts d one h = h.none d one.marks one.there
+not-unread _ s limit ts d one h = h
+
+-- the trait refuses none that is valid
+not-refused : (d : Declaration) (r : Refusal) → IsValid d → refusal d ≡ Some r → ⊥
+not-refused d r valid some = let none = (unrefused d).1 valid in cc
+
+-- a text has one declaration
+read-one : (text : List ℕ) (d e : Declaration) → IsRead text d → IsRead text e → e ≡ d
+read-one text d e h k =
+    let one = k.is_the_one in
+    h.only e (record { trees = k.trees; are_trees = k.are_trees.are_trees; marks = one.marks; spelled = one.there })
+
+not-parsed-not : (text : List ℕ) (d : Declaration) (r : Refusal) → IsRead text d → IsNotParsed text r → ⊥
+not-parsed-not text d r h bad =
+    let same : bad.trees ≡ h.trees = trees-only (reading 0 0 (chars text)) h.trees bad.trees h.are_trees.are_trees bad.are_trees.are_trees in
+    not-unread r.kind r.span (length text) h.trees d h.is_the_one (subst (λ ts. IsUnread r.kind r.span (length text) ts) same bad.unread)
+
+none-late : (name text : List ℕ) (r : Refusal) → IsDerivable name text →
+    IsNotLexed text r ⊎ IsNotParsed text r ⊎ IsMisnamed text r ⊎ IsNotDerived text r → ⊥
+none-late name text r d (inl h) = whole-lexed text r.kind r.span d.is_read.are_trees.whole h.refused
+none-late name text r d (inr (inl h)) = not-parsed-not text d.declaration r d.is_read h
+none-late name text r d (inr (inr (inl h))) =
+    refused_not_named d.declaration r (sym (ap names_refusal (read-one text d.declaration h.declaration d.is_read h.is_read)) ∙ h.misnamed) d.named
+none-late name text r d (inr (inr (inr h))) =
+    not-refused d.declaration r d.valid (sym (ap refusal (read-one text d.declaration h.declaration d.is_read h.is_read)) ∙ h.refused)
+
+pub derivable : (name text : List ℕ) → IsDerivable name text → (r : Refusal) → ¬ (Refuses name text r)
+unfolding Refuses
+derivable name text d r h = elim h as (λ _. ⊥) [ inl un ↦ un.unknown d.known | inr late ↦ none-late name text r d late.1 ]

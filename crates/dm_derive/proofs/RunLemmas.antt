@@ -9,6 +9,7 @@ use Rattle.dm_derive.specs.declared.top.Status.{Status}
 use Rattle.dm_derive.specs.declared.top.Status.TheVariants.{Done, Refused, BadInput, ReadFault, WriteFault, NoMemory, Usage}
 use Rattle.dm_derive.specs.Derived.{Refuses}
 use Rattle.dm_derive.specs.Split.{HasLine, IsSplit}
+use Rattle.dm_derive.proofs.Deriving.{derivable}
 use Rattle.dm_derive.specs.Runs.{WasRead, IsTooMuch, IsAccepted, IsFaultless, Responds, Ran, Means}
 
 -- a run that read all is one that responds to what it read
@@ -61,7 +62,7 @@ faultless : (bytes : List ℕ) (before now : Option (List ℕ)) (status : Status
 faultless bytes before now Done m a = tt
 faultless bytes before now Refused m a =
     let r = m.1.1 in
-    a.accepted r.refusal (refuses_same bytes r.name r.declaration a.name a.declaration r.refusal r.split a.split r.refused)
+    derivable a.name a.declaration a.derivable r.refusal (refuses_same bytes r.name r.declaration a.name a.declaration r.refusal r.split a.split r.refused)
 faultless bytes before now BadInput m a =
     elim m.0 [ inl many ↦ absurd (omega (arith, many, a.few)) | inr none ↦ absurd (none a.split.line) ]
 faultless bytes before now ReadFault m a = tt

@@ -3,7 +3,7 @@ use Rattle.std.specs.Prelude.{ℕ, List, ◌++◌, codes}
 use Rattle.std.specs.Fmt.{decimal}
 use Rattle.dm_tokens.specs.Messages.{message_of}
 use Rattle.dm_tokens.specs.declared.error.Kind.{Kind}
-use Rattle.dm_tokens.specs.declared.error.Kind.TheVariants.{UnknownTrait, Lex, TooDeep, Syntax, Unsupported, DuplicateName, ReservedName, WrongShape, AllSkipped, AttrSyntax, AttrNotAllowed, LegacySyntax, AttrRepeated, AttrMixed, FieldCount, TupleLength, FieldConflict, MissingFormat, MissingAttr, NotYet}
+use Rattle.dm_tokens.specs.declared.error.Kind.TheVariants.{UnknownTrait, Lex, TooDeep, Syntax, Unsupported, DuplicateName, ReservedName, WrongShape, AllSkipped, AttrSyntax, AttrNotAllowed, LegacySyntax, AttrRepeated, AttrMixed, FieldCount, TupleLength, FieldConflict, MissingFormat, MissingAttr}
 use Rattle.dm_tokens.specs.declared.error.Refusal.{Refusal}
 
 -- the name of a kind, as it is declared
@@ -27,7 +27,6 @@ kind_name TupleLength = codes "TupleLength"
 kind_name FieldConflict = codes "FieldConflict"
 kind_name MissingFormat = codes "MissingFormat"
 kind_name MissingAttr = codes "MissingAttr"
-kind_name NotYet = codes "NotYet"
 
 -- `Kind start..end: message`, and LF
 abbrev pub located_line : List ℕ → ℕ → ℕ → List ℕ → List ℕ

@@ -2,7 +2,7 @@
 use Rattle.std.specs.Prelude.{◌≡◌, ℕ, ◌≤◌, ◌<◌, List, Option, length, take, ◌⊎◌}
 use Rattle.std.specs.Io.KnownBytes.{Consumes, Appends, Keeps, IsAtEnd}
 use Rattle.dm_tokens.specs.declared.error.Refusal.{Refusal}
-use Rattle.dm_derive.specs.Derived.{Answers, Refuses}
+use Rattle.dm_derive.specs.Derived.{Answers, Refuses, IsDerivable}
 use Rattle.dm_derive.specs.Line.{line_of}
 use Rattle.dm_derive.specs.Split.{HasLine, IsSplit}
 use Rattle.dm_derive.specs.declared.top.Status.{Status}
@@ -80,13 +80,13 @@ Means bytes before now WriteFault = (length bytes ≤ 1048576) × Responds bytes
 Means bytes before now NoMemory = Keeps before now
 Means bytes before now Usage = ⊥
 
--- the bytes name a trait and a declaration, and the derive refuses nothing of it
+-- the bytes name a trait and a declaration that it derives
 pub record IsAccepted (bytes : List ℕ) : Type 0 where
   pub few : length bytes ≤ 1048576
   pub name : List ℕ
   pub declaration : List ℕ
   pub split : IsSplit bytes name declaration
-  pub accepted : (r : Refusal) → ¬ (Refuses name declaration r)
+  pub derivable : IsDerivable name declaration
 
 -- the runs that are done, or lack memory or the outside
 abbrev pub IsFaultless : Status → Type 0

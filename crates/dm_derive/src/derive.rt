@@ -4,20 +4,29 @@
 ghost use Rattle.std.specs.Prelude.{◌≡◌, ◌↔◌, IsTrue, IfOk};
 ghost use Rattle.dm_tokens.specs.declared.error.Error.TheVariants as error;
 ghost use Rattle.dm_tokens.specs.declared.error.Kind.TheVariants as kind;
-ghost use Rattle.dm_derive.specs.Derived.{Answers, Derives, IsKnown, Reads, not_yet};
+ghost use Rattle.dm_derive.specs.Derived.{Answers, Derives, IsKnown, Reads};
 
 use dm_cmp_ops::partial_eq;
 use dm_emit::Expansion;
-use dm_syntax::{DeriveInput, check_names, parse_decl};
+use dm_syntax::{DeriveInput, check_many_names, parse_decl};
 use dm_tokens::{Error, Kind, Refusal, Span, lex};
 use std::alloc::Global;
 
 /// The implementations that the trait of this name derives for the declaration.
 ///
-/// The name is that of the trait alone, as `PartialEq`. A name of no trait that is derived is refused with
-/// `Kind::UnknownTrait` at 0..0; a text that isn't made of tokens with `Kind::Lex` and the range of its first fault; one whose
-/// tokens stand inside more than 128 groups with `Kind::TooDeep` and the first such token's range; a text that isn't `struct Name(Name, ..);` with names that derives can work with is
-/// refused with `Kind::NotYet` and the range of the whole text, in bytes.
+/// The name is that of the trait alone, as `PartialEq`. Of these refusals the first that applies is the answer; ranges are in
+/// bytes of the declaration's text:
+///
+/// - `Kind::UnknownTrait` at 0..0: no trait of this name is derived;
+/// - `Kind::Lex`: the text isn't made of tokens, at its first fault;
+/// - `Kind::TooDeep`: a token stands inside more than 128 groups, at the first such token;
+/// - `Kind::TooDeep` or `Kind::Syntax`: the tokens are those of no declaration, or one of them stands deeper than level 128, see
+///   `parse_decl`;
+/// - `Kind::Unsupported`: a type is a macro call, at the first such type;
+/// - `Kind::DuplicateName`: a name is declared twice, at the first name that stands for an earlier one again;
+/// - `Kind::ReservedName`: a name begins with `__`, or the type or a type or const parameter is called `derive_more`, at the first
+///   such name;
+/// - what the trait refuses, see `partial_eq::expand`.
 pub fn derive_text<'a>(
     alloc: Global,
     trait_name: &str,
@@ -60,32 +69,12 @@ fn unknown_trait() -> Error
     })
 }
 
-fn not_read(decl: &str) -> Error
-    ensures { result ≡ error.Refused (not_yet decl.now) }
-{
-    Error::Refused(Refusal {
-        kind: Kind::NotYet,
-        span: Span {
-            start: 0,
-            end: decl.len(),
-        },
-    })
-}
-
-/// The declaration of a text, with names that derives can work with.
+/// The declaration of a text, whose names may be declared.
 fn read<'a>(alloc: Global, decl: &'a str) -> Result<DeriveInput<'a>, Error>
     ensures { Reads decl.now result }
 {
-    let stream = match lex(alloc, decl) {
-        Ok(stream) => stream,
-        Err(error) => return Err(error),
-    };
-    let input = match parse_decl(alloc, &stream) {
-        Ok(input) => input,
-        Err(error) => return Err(error),
-    };
-    match check_names(&input) {
-        Ok(()) => Ok(input),
-        Err(_) => Err(not_read(decl)),
-    }
+    let stream = lex(alloc, decl)?;
+    let input = parse_decl(alloc, &stream)?;
+    check_many_names(alloc, &input)?;
+    Ok(input)
 }

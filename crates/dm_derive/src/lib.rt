@@ -2,6 +2,10 @@
 #![tactic(auto)]
 
 mod derive;
+#[cfg(test)]
+mod derive_text_tests;
+#[cfg(test)]
+mod implementation_tests;
 mod input;
 mod line;
 mod memory;

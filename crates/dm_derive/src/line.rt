@@ -28,7 +28,6 @@ fn name_of(kind: Kind) -> &'static str
         Kind::FieldConflict => "FieldConflict",
         Kind::MissingFormat => "MissingFormat",
         Kind::MissingAttr => "MissingAttr",
-        Kind::NotYet => "NotYet",
     }
 }
 

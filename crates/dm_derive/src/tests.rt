@@ -8,6 +8,14 @@ const INPUT: &[u8] = b"PartialEq\nstruct P(i32);";
 const ONE_FIELD: &[u8] =
     b"# [allow (private_bounds)] # [automatically_derived] impl derive_more :: core :: cmp :: PartialEq for P { # [inline] fn eq (& self , __other : & Self) -> bool { match (self , __other) { (Self (__self_0 ,) , Self (__other_0 ,)) => { __self_0 == __other_0 } , } } # [inline] fn ne (& self , __other : & Self) -> bool { match (self , __other) { (Self (__self_0 ,) , Self (__other_0 ,)) => { __self_0 != __other_0 } , } } }\n";
 
+/// The implementation for `struct P();`.
+const NO_FIELD: &[u8] =
+    b"# [allow (private_bounds)] # [automatically_derived] impl derive_more :: core :: cmp :: PartialEq for P { # [inline] fn eq (& self , __other : & Self) -> bool { true } }\n";
+
+/// The implementation for `struct P<T>(T);`.
+const GENERIC: &[u8] =
+    b"# [allow (private_bounds)] # [automatically_derived] impl < T > derive_more :: core :: cmp :: PartialEq for P < T > { # [inline] fn eq (& self , __other : & Self) -> bool { match (self , __other) { (Self (__self_0 ,) , Self (__other_0 ,)) => { __self_0 == __other_0 } , } } # [inline] fn ne (& self , __other : & Self) -> bool { match (self , __other) { (Self (__self_0 ,) , Self (__other_0 ,)) => { __self_0 != __other_0 } , } } }\n";
+
 /// The implementation for `struct r#P(i32);`.
 const RAW_NAME: &[u8] =
     b"# [allow (private_bounds)] # [automatically_derived] impl derive_more :: core :: cmp :: PartialEq for r#P { # [inline] fn eq (& self , __other : & Self) -> bool { match (self , __other) { (Self (__self_0 ,) , Self (__other_0 ,)) => { __self_0 == __other_0 } , } } # [inline] fn ne (& self , __other : & Self) -> bool { match (self , __other) { (Self (__self_0 ,) , Self (__other_0 ,)) => { __self_0 != __other_0 } , } } }\n";
@@ -55,6 +63,8 @@ fn implementations(rt: HostRuntime) -> Result<(), AllocError> {
         (INPUT, ONE_FIELD),
         (b"PartialEq\r\nstruct P(i32);".as_slice(), ONE_FIELD),
         (b"PartialEq\nstruct P(i32,);\n".as_slice(), ONE_FIELD),
+        (b"PartialEq\nstruct P();".as_slice(), NO_FIELD),
+        (b"PartialEq\nstruct P<T>(T);".as_slice(), GENERIC),
         (b"PartialEq\nstruct P(A, B);".as_slice(), TWO_FIELDS),
         (
             b"PartialEq\n\tstruct\r\nP ( A,B , );".as_slice(),
@@ -76,36 +86,44 @@ fn refusals(rt: HostRuntime) -> Result<(), AllocError> {
     let alloc = rt.alloc();
     for (input, line) in [
         (
-            b"PartialEq\nstruct P<T>(T);".as_slice(),
-            b"NotYet 0..15: form is not built yet\n".as_slice(),
-        ),
-        (
             b"PartialEq\n".as_slice(),
-            b"NotYet 0..0: form is not built yet\n".as_slice(),
-        ),
-        (
-            b"PartialEq\nstruct P();".as_slice(),
-            b"NotYet 0..11: form is not built yet\n".as_slice(),
+            b"Syntax 0..0: not one struct, enum or union declaration\n".as_slice(),
         ),
         (
             b"PartialEq\nstruct P(A)".as_slice(),
-            b"NotYet 0..11: form is not built yet\n".as_slice(),
+            b"Syntax 11..11: not one struct, enum or union declaration\n".as_slice(),
         ),
         (
             b"PartialEq\nstruct P(fn);".as_slice(),
-            b"NotYet 0..13: form is not built yet\n".as_slice(),
+            b"Syntax 11..11: not one struct, enum or union declaration\n".as_slice(),
+        ),
+        (
+            b"PartialEq\nstruct P(m!());".as_slice(),
+            b"Unsupported 9..13: left out of this port\n".as_slice(),
+        ),
+        (
+            b"PartialEq\nstruct P<T, T>(T);".as_slice(),
+            b"DuplicateName 12..13: name is declared twice\n".as_slice(),
         ),
         (
             b"PartialEq\nstruct __P(A);".as_slice(),
-            b"NotYet 0..14: form is not built yet\n".as_slice(),
+            b"ReservedName 7..10: name is reserved\n".as_slice(),
         ),
         (
             b"PartialEq\nstruct derive_more(A);".as_slice(),
-            b"NotYet 0..22: form is not built yet\n".as_slice(),
+            b"ReservedName 7..18: name is reserved\n".as_slice(),
         ),
         (
             b"PartialEq\nstruct r#__P(A);".as_slice(),
-            b"NotYet 0..16: form is not built yet\n".as_slice(),
+            b"ReservedName 7..12: name is reserved\n".as_slice(),
+        ),
+        (
+            b"PartialEq\nunion U { a: A }".as_slice(),
+            b"WrongShape 0..5: trait cannot be derived for this shape\n".as_slice(),
+        ),
+        (
+            b"PartialEq\n#[eq] struct P(A);".as_slice(),
+            b"AttrSyntax 0..5: attribute does not read here\n".as_slice(),
         ),
         (
             b"PartialEq\nstruct S([u8; 1e5]);".as_slice(),
@@ -223,7 +241,10 @@ fn nested(alloc: Global, depth: usize) -> Result<Vec<u8>, AllocError> {
 fn depths(rt: HostRuntime) -> Result<(), AllocError> {
     let alloc = rt.alloc();
     for (depth, line) in [
-        (129, b"NotYet 0..258: form is not built yet\n".as_slice()),
+        (
+            129,
+            b"Syntax 0..1: not one struct, enum or union declaration\n".as_slice(),
+        ),
         (
             130,
             b"TooDeep 129..130: nested deeper than 128\n".as_slice(),

@@ -9,6 +9,8 @@ ghost use Rattle.dm_derive.specs.Runs.{exit_code};
 mod standard;
 #[cfg(test)]
 mod tests;
+#[cfg(test)]
+mod vectors;
 mod words;
 
 use dm_derive::{Status, derive_main};

@@ -217,7 +217,7 @@ pub fn write_bounds<'a>(
 }
 
 #[cycle(emit)]
-fn write_bound<'a>(
+pub(crate) fn write_bound<'a>(
     alloc: Global,
     out: &mut TokenStream<'a>,
     bound: &Bound<'a>,

@@ -1,14 +1,18 @@
 //! The syntax tree of a declaration: its types, its grammar, and what reads and writes it.
 #![tactic(auto)]
 
+mod copy_decl;
+mod copy_plain;
+mod copy_ty;
 mod decl;
 mod emit;
+mod emit_decl;
 mod emit_parts;
-mod names;
+mod naming;
 mod parse;
 mod plain;
-#[cfg(test)]
-mod tests;
+mod read;
+mod to_tokens;
 mod ty;
 
 pub use decl::{
@@ -17,7 +21,8 @@ pub use decl::{
 };
 pub use emit::{write_arguments, write_bounds, write_path, write_qualified, write_type};
 pub use emit_parts::{write_attribute, write_attributes, write_const, write_for, write_plain};
-pub use names::check_names;
+pub use naming::check::check_names;
+pub use naming::many::check_many_names;
 pub use parse::parse_decl;
 pub use plain::{AttrArgs, Attribute, ConstArg, Opaque, PlainPath, Vis};
 pub use ty::{

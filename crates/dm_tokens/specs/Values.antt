@@ -1,10 +1,14 @@
 -- The values of strings and raw strings.
-use Rattle.std.specs.Prelude.{ℕ, Bool, true, false, nat_lt, cond, Option, Some, None, option_map, List, [], ◌∷◌, length, drop}
-use Rattle.std.specs.Str.{chars, encode_utf8_all}
+use Rattle.std.specs.Prelude.{ℕ, Bool, true, false, nat_lt, cond, Option, Some, None, option_map, List, [], ◌∷◌, length, drop, IsSome, ⊤, ◌≡◌}
+use Rattle.std.specs.Str.{chars, encode_utf8_all, IsUtf8}
 use Rattle.dm_tokens.specs.declared.tokens.LitKind.{LitKind}
 use Rattle.dm_tokens.specs.declared.tokens.LitKind.TheVariants as kind
+use Rattle.dm_tokens.specs.declared.tokens.Token.{Token}
+use Rattle.dm_tokens.specs.declared.tokens.Token.TheVariants as t
 use Rattle.dm_tokens.specs.declared.quotes.Opening.{Opening}
 use Rattle.dm_tokens.specs.Quotes.{opening, quoted_length, closes_raw, meaning, meant_with}
+use Rattle.dm_tokens.specs.Trees.{Trees, no_trees, token, group}
+use Rattle.dm_tokens.specs.Nesting.{IsTreesOf}
 
 -- the bytes of what a piece of a string means
 abbrev pub meant_bytes : Option ℕ → List ℕ
@@ -41,3 +45,22 @@ meant k (Some o) cs = meant_behind k o.kind o.hashes (drop o.size cs)
 -- the value of a literal, of its kind and its bytes
 abbrev pub str_value : LitKind → List ℕ → Option (List ℕ)
 str_value k text = option_map encode_utf8_all (meant k (whole_opening (chars text)) (chars text))
+
+-- the law: a string that stands among the trees of a text has a value
+
+abbrev pub is_string : LitKind → Bool
+is_string kind.Str = true
+is_string kind.RawStr = true
+is_string k = false
+
+abbrev pub HasValue : Token → Type 0
+HasValue (t.Literal l) = is_string l.kind ≡ true → IsSome (str_value l.kind l.text)
+HasValue x = ⊤
+
+abbrev pub AllHaveValues : Trees → Type 0
+AllHaveValues no_trees = ⊤
+AllHaveValues (token t rest) = HasValue t × AllHaveValues rest
+AllHaveValues (group d from inside upto rest) = AllHaveValues inside × AllHaveValues rest
+
+abbrev pub StringsHaveValues : Type 0
+StringsHaveValues = (text : List ℕ) (ts : Trees) → IsUtf8 text → IsTreesOf text ts → AllHaveValues ts

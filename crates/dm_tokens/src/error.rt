@@ -12,7 +12,8 @@ pub enum Kind {
     UnknownTrait,
     /// The text is not made of tokens (Rust Reference, Lexical structure). The range tells where it stops to be.
     Lex,
-    /// A token stands inside more than 128 groups, types and bounds.
+    /// A token stands at a level over 128. The level is the number of groups and `<..>` around the token, and of types `&`, `*`,
+    /// `fn`, `dyn` and `impl` behind whose first token it stands.
     TooDeep,
     /// The tokens are those of no declaration.
     Syntax,
@@ -46,8 +47,6 @@ pub enum Kind {
     MissingFormat,
     /// An attribute is missing that the trait needs.
     MissingAttr,
-    /// The declaration is of a form that is not read yet.
-    NotYet,
 }
 
 /// A refusal, and the range of bytes that it is about.
@@ -97,7 +96,6 @@ impl Refusal {
             Kind::FieldConflict => "two fields claim the same role",
             Kind::MissingFormat => "a format is needed or cannot be used",
             Kind::MissingAttr => "an attribute is needed",
-            Kind::NotYet => "form is not built yet",
         }
     }
 }

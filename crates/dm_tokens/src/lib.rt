@@ -5,6 +5,7 @@ mod blanks;
 mod copy;
 mod cursor;
 mod error;
+mod laws;
 mod layout;
 mod lexing;
 #[cfg(test)]
@@ -29,6 +30,7 @@ mod words_tests;
 
 pub use cursor::{Cursor, Piece};
 pub use error::{Error, Kind, Refusal};
+pub use laws::strings_have_values;
 pub use layout::{Layout, print, print_piece};
 pub use lexing::lex;
 pub use numbers::int_value;

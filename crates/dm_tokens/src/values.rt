@@ -89,8 +89,8 @@ fn meant_behind(
     }
 }
 
-/// The value of a string or a raw string, as the Rust Reference has its escapes and line ends. None for a literal of another
-/// kind, and for a text that is no literal of its kind.
+/// The value of a string or a raw string, as the Rust Reference has their escapes; a line end in it stays as it is spelled. None
+/// for a literal of another kind, and for a text that is no literal of its kind.
 pub fn str_value(alloc: Global, literal: &Literal<'_>) -> Result<Option<String>, AllocError>
     ensures { IfOk result (λ v. option_map string_bytes v ≡ spec.str_value literal.now.kind literal.now.text) }
 {

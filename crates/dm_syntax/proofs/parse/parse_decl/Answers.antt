@@ -1,17 +1,9 @@
--- The one declaration, and the refusal.
-use Rattle.std.proofs.Common.{◌≡◌, Some, None, option_map, ap, sym, ◌∙◌}
-use Rattle.dm_tokens.specs.Cursors.{left}
-use Rattle.dm_syntax.specs.Declarations.{declaration_view}
-use Rattle.dm_syntax.specs.Reading.{read_declaration}
-use Rattle.dm_syntax.proofs.Whole.{found_at, refused_at}
+-- What is read is the declaration, and what is refused is none.
+use Rattle.dm_syntax.proofs.DeclarationTheorem.{decl_found, decl_refused}
 use Rattle.dm_syntax.proofs.parse.parse_decl.Goals as goal
 
-pub returns-in-Some-clause-found : goal.returns-in-Some-clause-found
-returns-in-Some-clause-found c =
-    let read : Some (declaration_view c.in-Some.read) ≡ read_declaration (left c.cursor-cursor.result) = sym (ap (option_map declaration_view) c.in-Some.is) ∙ c.in_ok-read.ensures in
-    found_at c.in-Some.read (left c.cursor-cursor.result) c.args.stream.now.trees read c.cursor-cursor.ensures.left
+pub returns-clause-found : goal.returns-clause-found
+returns-clause-found c = decl_found c.args.stream.now.limit c.args.stream.now.trees c.read_declaration.result c.read_declaration.ensures
 
-pub returns-in-None-clause-refused : goal.returns-in-None-clause-refused
-returns-in-None-clause-refused c =
-    let unread : None ≡ read_declaration (left c.cursor-cursor.result) = sym (ap (option_map declaration_view) c.in-None.is) ∙ c.in_ok-read.ensures in
-    refused_at c.args.stream.now (left c.cursor-cursor.result) c.cursor-cursor.result.limit unread c.cursor-cursor.ensures.left c.cursor-cursor.ensures.limit
+pub returns-clause-refused : goal.returns-clause-refused
+returns-clause-refused c = decl_refused c.args.stream.now.limit c.args.stream.now.trees c.read_declaration.result c.read_declaration.ensures

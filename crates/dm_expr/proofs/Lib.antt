@@ -1,0 +1,4 @@
+pub mod Counting
+pub mod Running
+pub mod Reaching
+pub mod Joining

@@ -1,0 +1,35 @@
+//! Whether a declaration's names may stand.
+#![tactic(auto)]
+
+ghost use Rattle.std.specs.Prelude.{◌≡◌, MatchResult};
+ghost use Rattle.dm_syntax.specs.Declarations.{declaration_view};
+ghost use Rattle.dm_syntax.specs.Names.{Named, names_refusal};
+
+use crate::decl::DeriveInput;
+use crate::naming::declarations::in_declaration;
+use crate::naming::places::Wanted;
+use crate::naming::repeats::repeated_name;
+use dm_tokens::{Kind, Refusal};
+
+/// Whether the names that a declaration declares may stand: no macro type stands in it, the names of one list are
+/// distinct, and none is reserved.
+///
+/// The refusal is the first of these in this order, at its first place in the text: `Unsupported` at a macro type,
+/// `DuplicateName` at the second of two names, `ReservedName` at a name that begins with `__` or, among types, at `derive_more`.
+pub fn check_names(input: &DeriveInput<'_>) -> Result<(), Refusal>
+    ensures { MatchResult result (λ _. Named (declaration_view input.now)) (λ r. names_refusal (declaration_view input.now) ≡ Some r) }
+{
+    if let Some(span) = in_declaration(Wanted::MacroType, input) {
+        let kind = Kind::Unsupported;
+        return Err(Refusal { kind, span });
+    }
+    if let Some(span) = repeated_name(input) {
+        let kind = Kind::DuplicateName;
+        return Err(Refusal { kind, span });
+    }
+    if let Some(span) = in_declaration(Wanted::Reserved, input) {
+        let kind = Kind::ReservedName;
+        return Err(Refusal { kind, span });
+    }
+    Ok(())
+}

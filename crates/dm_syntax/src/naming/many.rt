@@ -1,0 +1,181 @@
+//! Whether a declaration's names may stand, in about linear time: the names that were seen stand in sets.
+#![tactic(auto)]
+
+ghost use Rattle.std.specs.Prelude.{◌≡◌, ◌||◌, ℕ, List, [], map, IfOk, OnOk, MatchResult};
+ghost use Rattle.std.specs.Option.{option_or};
+ghost use Rattle.std.specs.Str.{bytes_eq};
+ghost use Rattle.dm_syntax.specs.Declarations.{
+  field_view,
+  fields_view,
+  variant_view,
+  param_view,
+  shape_view,
+  declaration_view,
+};
+ghost use Rattle.dm_syntax.specs.Names.{Named, IsNamesError};
+ghost use Rattle.dm_syntax.specs.Repeats as spec;
+ghost use Rattle.dm_syntax.specs.SeenNames.{was_seen, label_seen, param_seen};
+
+use crate::decl::{Data, DeriveInput, Field, Fields, GenericParam, Variant};
+use crate::naming::declarations::in_declaration;
+use crate::naming::places::Wanted;
+use crate::naming::repeats::place_if;
+use dm_tokens::{Error, Ident, Kind, Refusal, Span};
+use std::alloc::{AllocError, Global};
+use std::collections::HashSet;
+
+/// Adds a name to those that were seen. The answer is whether it was among them.
+fn see<'t>(seen: &mut HashSet<&'t str>, name: &'t str) -> Result<bool, AllocError>
+    ensures before { IfOk result (λ r. r ≡ was_seen seen.old name.now) }
+    ensures after { OnOk result ((q : List ℕ) → was_seen seen.new q ≡ (bytes_eq name.now q || was_seen seen.old q)) }
+{
+    match seen.insert(name) {
+        Ok(is_new) => Ok(!is_new),
+        Err(_) => Err(AllocError),
+    }
+}
+
+fn label_again<'t>(
+    seen: &mut HashSet<&'t str>,
+    ident: &'t Option<Ident<'_>>,
+) -> Result<Option<Span>, AllocError>
+    ensures before { IfOk result (λ r. r ≡ label_seen (was_seen seen.old) ident.now) }
+    ensures after { OnOk result ((q : List ℕ) → was_seen seen.new q ≡ (spec.is_called q ident.now || was_seen seen.old q)) }
+{
+    match ident {
+        None => Ok(None),
+        Some(ident) => {
+            let is_there = see(seen, ident.name.as_str())?;
+            Ok(place_if(is_there, ident.span))
+        }
+    }
+}
+
+fn repeated_field(alloc: Global, all: &[Field<'_>]) -> Result<Option<Span>, AllocError>
+    ensures { IfOk result (λ r. r ≡ spec.repeats spec.field_again [] (map field_view all.now)) }
+{
+    let mut seen = HashSet::new(alloc);
+    for field in all {
+        if let Some(span) = label_again(&mut seen, &field.ident)? {
+            return Ok(Some(span));
+        }
+    }
+    Ok(None)
+}
+
+fn repeated_in_fields(alloc: Global, fields: &Fields<'_>) -> Result<Option<Span>, AllocError>
+    ensures { IfOk result (λ r. r ≡ spec.repeated_in_fields (fields_view fields.now)) }
+{
+    match fields {
+        Fields::Named(all) => repeated_field(alloc, all.items.as_slice()),
+        Fields::Unnamed(all) => repeated_field(alloc, all.items.as_slice()),
+        Fields::Unit => Ok(None),
+    }
+}
+
+fn variant_again<'t>(
+    alloc: Global,
+    seen: &mut HashSet<&'t str>,
+    variant: &'t Variant<'_>,
+) -> Result<Option<Span>, AllocError>
+    ensures before { IfOk result (λ r. r ≡ option_or (spec.place_if (was_seen seen.old variant.now.ident.name) variant.now.ident.span) (spec.repeated_in_fields (fields_view variant.now.fields))) }
+    ensures after { OnOk result ((q : List ℕ) → was_seen seen.new q ≡ (bytes_eq variant.now.ident.name q || was_seen seen.old q)) }
+{
+    let is_there = see(seen, variant.ident.name.as_str())?;
+    let inside = repeated_in_fields(alloc, &variant.fields)?;
+    Ok(place_if(is_there, variant.ident.span).or(inside))
+}
+
+fn repeated_variant(alloc: Global, all: &[Variant<'_>]) -> Result<Option<Span>, AllocError>
+    ensures { IfOk result (λ r. r ≡ spec.repeats spec.variant_again [] (map variant_view all.now)) }
+{
+    let mut seen = HashSet::new(alloc);
+    for variant in all {
+        if let Some(span) = variant_again(alloc, &mut seen, variant)? {
+            return Ok(Some(span));
+        }
+    }
+    Ok(None)
+}
+
+fn param_again<'t>(
+    lifetimes: &mut HashSet<&'t str>,
+    types: &mut HashSet<&'t str>,
+    param: &'t GenericParam<'_>,
+) -> Result<Option<Span>, AllocError>
+    ensures before { IfOk result (λ r. r ≡ param_seen (was_seen lifetimes.old) (was_seen types.old) (param_view param.now)) }
+    ensures lifetimes { OnOk result ((q : List ℕ) → was_seen lifetimes.new q ≡ (spec.is_lifetime_called q (param_view param.now) || was_seen lifetimes.old q)) }
+    ensures types { OnOk result ((q : List ℕ) → was_seen types.new q ≡ (spec.is_type_called q (param_view param.now) || was_seen types.old q)) }
+{
+    match param {
+        GenericParam::Lifetime(p) => {
+            let is_there = see(lifetimes, p.lifetime.name.as_str())?;
+            Ok(place_if(is_there, p.lifetime.span))
+        }
+        GenericParam::Ty(p) => {
+            let is_there = see(types, p.ident.name.as_str())?;
+            Ok(place_if(is_there, p.ident.span))
+        }
+        GenericParam::Const(p) => {
+            let is_there = see(types, p.ident.name.as_str())?;
+            Ok(place_if(is_there, p.ident.span))
+        }
+    }
+}
+
+fn repeated_param(
+    alloc: Global,
+    whole: &Ident<'_>,
+    all: &[GenericParam<'_>],
+) -> Result<Option<Span>, AllocError>
+    ensures { IfOk result (λ r. r ≡ spec.repeats (spec.param_again whole.now) [] (map param_view all.now)) }
+{
+    let mut lifetimes = HashSet::new(alloc);
+    let mut types = HashSet::new(alloc);
+    see(&mut types, whole.name.as_str())?;
+    for param in all {
+        if let Some(span) = param_again(&mut lifetimes, &mut types, param)? {
+            return Ok(Some(span));
+        }
+    }
+    Ok(None)
+}
+
+fn repeated_in_shape(alloc: Global, shape: &Data<'_>) -> Result<Option<Span>, AllocError>
+    ensures { IfOk result (λ r. r ≡ spec.repeated_in_shape (shape_view shape.now)) }
+{
+    match shape {
+        Data::Struct(s) => repeated_in_fields(alloc, &s.fields),
+        Data::Enum(e) => repeated_variant(alloc, e.variants.items.as_slice()),
+        Data::Union(u) => repeated_field(alloc, u.fields.items.as_slice()),
+    }
+}
+
+fn repeated_name(alloc: Global, input: &DeriveInput<'_>) -> Result<Option<Span>, AllocError>
+    ensures { IfOk result (λ r. r ≡ spec.repeated (declaration_view input.now)) }
+{
+    let all = input.generics.params.items.as_slice();
+    let params = repeated_param(alloc, &input.ident, all)?;
+    let inside = repeated_in_shape(alloc, &input.shape)?;
+    Ok(params.or(inside))
+}
+
+/// Whether the names that a declaration declares may stand, as `check_names` says it. This takes memory for the names,
+/// and about linear time.
+pub fn check_many_names(alloc: Global, input: &DeriveInput<'_>) -> Result<(), Error>
+    ensures { MatchResult result (λ _. Named (declaration_view input.now)) (IsNamesError (declaration_view input.now)) }
+{
+    if let Some(span) = in_declaration(Wanted::MacroType, input) {
+        let kind = Kind::Unsupported;
+        return Err(Error::Refused(Refusal { kind, span }));
+    }
+    if let Some(span) = repeated_name(alloc, input)? {
+        let kind = Kind::DuplicateName;
+        return Err(Error::Refused(Refusal { kind, span }));
+    }
+    if let Some(span) = in_declaration(Wanted::Reserved, input) {
+        let kind = Kind::ReservedName;
+        return Err(Error::Refused(Refusal { kind, span }));
+    }
+    Ok(())
+}

@@ -1,0 +1,33 @@
+//! Reading a declaration by its grammar.
+
+pub(crate) mod arguments;
+pub(crate) mod bounds;
+pub(crate) mod brackets;
+pub(crate) mod constants;
+pub(crate) mod entry;
+pub(crate) mod field;
+pub(crate) mod function;
+pub(crate) mod generics;
+pub(crate) mod grammar;
+pub(crate) mod group;
+pub(crate) mod item;
+pub(crate) mod kind;
+pub(crate) mod lifetimes;
+pub(crate) mod list;
+pub(crate) mod macro_call;
+pub(crate) mod node;
+pub(crate) mod param;
+pub(crate) mod parts;
+pub(crate) mod path;
+pub(crate) mod pointers;
+pub(crate) mod qualified;
+pub(crate) mod range;
+pub(crate) mod rest;
+pub(crate) mod run;
+pub(crate) mod small;
+pub(crate) mod token;
+pub(crate) mod ty;
+pub(crate) mod variant;
+pub(crate) mod visibility;
+pub(crate) mod whole;
+pub(crate) mod words;
