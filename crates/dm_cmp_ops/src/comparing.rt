@@ -10,7 +10,7 @@ ghost use Rattle.dm_cmp_ops.specs.Emitted as spec;
 ghost use Rattle.dm_cmp_ops.specs.CaseViews.{case_view, fields_ref_view, naming};
 
 use crate::cases::{CaseRef, FieldsRef, all_compared, is_compared};
-use crate::names::{append, boxed, name, one, path_of};
+use crate::names::{boxed, name, one, path_of};
 use crate::partial_eq::Comparing;
 use crate::sides::{Operand, numbered, side};
 use crate::skips::is_skipped;
@@ -74,15 +74,15 @@ fn add_test<'a>(
     comparing: Comparing,
     n: usize,
     skip: bool,
-    out: &mut Vec<Expr<'a>>,
+    out: &mut Seq<Expr<'a>>,
 ) -> Result<(), AllocError>
-    ensures { OnOk result (map expr_view out.new.items ≡ map expr_view out.old.items ++ cond skip [] (spec.test comparing n ∷ [])) }
+    ensures { OnOk result (map expr_view out.new ≡ map expr_view out.old ++ cond skip [] (spec.test comparing n ∷ [])) }
 {
     if skip {
         return Ok(());
     }
     let next = test(alloc, comparing, n)?;
-    append(out, next)
+    out.add(next)
 }
 
 #[tactic(auto, using(crate::proofs::Joined::joined_steps))]
@@ -90,10 +90,10 @@ fn tests<'a>(
     alloc: Global,
     comparing: Comparing,
     fields: &[Field<'_>],
-) -> Result<Vec<Expr<'a>>, AllocError>
-    ensures { IfOk result (λ es. map expr_view es.items ≡ spec.tests comparing 0 (map field_view fields.now)) }
+) -> Result<Seq<Expr<'a>>, AllocError>
+    ensures { IfOk result (λ es. map expr_view es ≡ spec.tests comparing 0 (map field_view fields.now)) }
 {
-    let mut out = Vec::new(alloc);
+    let mut out = Seq::with_capacity(alloc, fields.len())?;
     for (i, field) in fields.iter().enumerate() {
         let skip = is_skipped(field.attrs.as_slice());
         add_test(alloc, comparing, i, skip, &mut out)?;
@@ -105,40 +105,26 @@ fn tests_of<'a>(
     alloc: Global,
     comparing: Comparing,
     fields: FieldsRef<'_, '_>,
-) -> Result<Vec<Expr<'a>>, AllocError>
-    ensures { IfOk result (λ es. map expr_view es.items ≡ spec.tests comparing 0 (values.field_list (fields_ref_view fields.entry))) }
+) -> Result<Seq<Expr<'a>>, AllocError>
+    ensures { IfOk result (λ es. map expr_view es ≡ spec.tests comparing 0 (values.field_list (fields_ref_view fields.entry))) }
 {
     match fields {
         FieldsRef::Named(all) => tests(alloc, comparing, all.items.as_slice()),
         FieldsRef::Unnamed(all) => tests(alloc, comparing, all.items.as_slice()),
-        FieldsRef::Unit => Ok(Vec::new(alloc)),
+        FieldsRef::Unit => Ok(Seq::new(alloc)),
     }
-}
-
-fn listed<T: Drop>(alloc: Global, items: Vec<T>) -> Result<Seq<T>, AllocError>
-    ensures { IfOk result (λ it. it ≡ items.items) }
-{
-    let mut out = Seq::new(alloc);
-    for item in items {
-        out.add(item)?;
-    }
-    Ok(out)
 }
 
 /// A chain of the parts: the neutral truth where there is none, and a lone part as it is.
-pub(crate) fn chain<'a>(
-    alloc: Global,
-    comparing: Comparing,
-    mut parts: Vec<Expr<'a>>,
-) -> Result<Expr<'a>, AllocError>
-    ensures { IfOk result (λ e. expr_view e ≡ spec.chain comparing (map expr_view parts.entry.items)) }
+pub(crate) fn chain<'a>(comparing: Comparing, mut parts: Seq<Expr<'a>>) -> Expr<'a>
+    ensures { expr_view result ≡ spec.chain comparing (map expr_view parts.entry) }
 {
     if parts.len() > 1 {
-        return Ok(join_of(comparing, listed(alloc, parts)?));
+        return join_of(comparing, parts);
     }
     match parts.pop() {
-        Some(only) => Ok(only),
-        None => Ok(neutral(comparing)),
+        Some(only) => only,
+        None => neutral(comparing),
     }
 }
 
@@ -192,7 +178,7 @@ fn tested<'a>(
     ensures { IfOk result (λ e. expr_view e.value ≡ spec.chain comparing (spec.tests comparing 0 (values.field_list (fields_ref_view fields.entry)))) }
 {
     let parts = tests_of(alloc, comparing, fields)?;
-    boxed(alloc, chain(alloc, comparing, parts)?)
+    boxed(alloc, chain(comparing, parts))
 }
 
 fn arm<'a>(

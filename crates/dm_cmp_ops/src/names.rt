@@ -1,7 +1,7 @@
 //! Identifiers, paths, lists and boxes that emitted code is made of.
 #![tactic(auto, using(crate::proofs::Builders::builder_steps))]
 
-ghost use Rattle.std.specs.Prelude.{◌≡◌, [], ◌∷◌, ◌++◌, map, OnOk, IfOk};
+ghost use Rattle.std.specs.Prelude.{◌≡◌, [], ◌∷◌, map, IfOk};
 ghost use Rattle.dm_syntax.specs.Tree.{path_view, segment_view, segments_of, segment, absent, no_self};
 ghost use Rattle.dm_emit.specs.Output.{expr_view, path_expr};
 ghost use Rattle.dm_cmp_ops.specs.Heads as heads;
@@ -10,12 +10,6 @@ use dm_emit::{Expr, PathExpr};
 use dm_syntax::{Path, PathArguments, PathSegment};
 use dm_tokens::{Ident, Seq, Span, Text};
 use std::alloc::{AllocError, Global};
-
-pub(crate) fn append<T: Drop>(list: &mut Vec<T>, item: T) -> Result<(), AllocError>
-    ensures { OnOk result (list.new.items ≡ list.old.items ++ item ∷ []) }
-{
-    Ok(list.push(item)?)
-}
 
 pub(crate) fn one<T: Drop>(alloc: Global, item: T) -> Result<Seq<T>, AllocError>
     ensures { IfOk result (λ it. it ≡ item ∷ []) }
@@ -28,7 +22,8 @@ pub(crate) fn one<T: Drop>(alloc: Global, item: T) -> Result<Seq<T>, AllocError>
 pub(crate) fn two<T: Drop>(alloc: Global, first: T, second: T) -> Result<Seq<T>, AllocError>
     ensures { IfOk result (λ it. it ≡ first ∷ second ∷ []) }
 {
-    let mut out = one(alloc, first)?;
+    let mut out = Seq::with_capacity(alloc, 2)?;
+    out.add(first)?;
     out.add(second)?;
     Ok(out)
 }
@@ -86,7 +81,7 @@ pub(crate) fn path_of_two<'a>(
 fn segments<'a>(alloc: Global, names: &[&'a str]) -> Result<Seq<PathSegment<'a>>, AllocError>
     ensures { IfOk result (λ ss. segments_of (map segment_view ss) ≡ heads.segments (heads.words (map (λ s. s.now) names.now))) }
 {
-    let mut out = Seq::new(alloc);
+    let mut out = Seq::with_capacity(alloc, names.len())?;
     for name in names {
         let next = segment(word(name));
         out.add(next)?;

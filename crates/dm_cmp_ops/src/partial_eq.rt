@@ -18,7 +18,7 @@ use crate::checks::refusal;
 use crate::comparing::{arms, block_of, chain, test_of};
 use crate::generics::{implementor, params, predicates};
 use crate::heads::{other_param, partial_eq_path, word_type};
-use crate::names::{append, boxed, name, one, path_of, two, word};
+use crate::names::{boxed, name, one, path_of, two, word};
 use dm_emit::{Block, Expansion, Expr, Item, ItemAttr, Method, PathExpr, Receiver, with_text};
 use dm_syntax::{DeriveInput, Path};
 use dm_tokens::{Error, Ident, Seq};
@@ -118,14 +118,14 @@ fn match_part<'a>(
     comparing: Comparing,
     input: &DeriveInput<'a>,
     cases: &[CaseRef<'_, 'a>],
-    parts: &mut Vec<Expr<'a>>,
+    parts: &mut Seq<Expr<'a>>,
 ) -> Result<(), AllocError>
     requires { IsCasesOf input.now cases.now }
-    ensures { OnOk result (map expr_view parts.new.items ≡ map expr_view parts.old.items ++ spec.match_part comparing (declaration_view input.now) (heads.some_compared (values.cases (declaration_view input.now)))) }
+    ensures { OnOk result (map expr_view parts.new ≡ map expr_view parts.old ++ spec.match_part comparing (declaration_view input.now) (heads.some_compared (values.cases (declaration_view input.now)))) }
 {
     if some_compared(cases) {
         let next = matching(alloc, comparing, input, cases)?;
-        append(parts, next)?;
+        parts.add(next)?;
     }
     Ok(())
 }
@@ -134,13 +134,13 @@ fn discriminants_part<'a>(
     alloc: Global,
     comparing: Comparing,
     wanted: bool,
-) -> Result<Vec<Expr<'a>>, AllocError>
-    ensures { IfOk result (λ es. map expr_view es.items ≡ spec.with_discriminants comparing wanted []) }
+) -> Result<Seq<Expr<'a>>, AllocError>
+    ensures { IfOk result (λ es. map expr_view es ≡ spec.with_discriminants comparing wanted []) }
 {
-    let mut parts = Vec::new(alloc);
+    let mut parts = Seq::new(alloc);
     if wanted {
         let next = discriminants(alloc, comparing)?;
-        append(&mut parts, next)?;
+        parts.add(next)?;
     }
     Ok(parts)
 }
@@ -150,9 +150,9 @@ fn parts<'a>(
     comparing: Comparing,
     input: &DeriveInput<'a>,
     cases: &[CaseRef<'_, 'a>],
-) -> Result<Vec<Expr<'a>>, AllocError>
+) -> Result<Seq<Expr<'a>>, AllocError>
     requires { IsCasesOf input.now cases.now }
-    ensures { IfOk result (λ es. map expr_view es.items ≡ spec.parts comparing (declaration_view input.now)) }
+    ensures { IfOk result (λ es. map expr_view es ≡ spec.parts comparing (declaration_view input.now)) }
 {
     let wanted = needs_discriminants(input, cases);
     let mut made = discriminants_part(alloc, comparing, wanted)?;
@@ -202,7 +202,7 @@ fn body_expr<'a>(
         return no_match(alloc);
     }
     let all = parts(alloc, comparing, input, cases)?;
-    chain(alloc, comparing, all)
+    Ok(chain(comparing, all))
 }
 
 fn body<'a>(

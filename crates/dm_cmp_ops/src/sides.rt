@@ -1,7 +1,7 @@
 //! The patterns by which a variant's fields are bound, for each operand.
 #![tactic(auto, using(crate::proofs::Builders::builder_steps))]
 
-ghost use Rattle.std.specs.Prelude.{◌≡◌, ◌∷◌, [], map, IfOk, codes};
+ghost use Rattle.std.specs.Prelude.{◌≡◌, ◌∷◌, [], map, IfOk, IfSome, codes, string_bytes};
 ghost use Rattle.dm_syntax.specs.Tree.{path_view};
 ghost use Rattle.dm_syntax.specs.Declarations.{declaration_view, field_view};
 ghost use Rattle.dm_emit.specs.Output.{pattern_view, named_view, bind};
@@ -25,6 +25,58 @@ pub(crate) enum Operand {
     Theirs,
 }
 
+/// The names of the first fields of the left operand, which need no memory.
+fn first_mine(n: usize) -> Option<&'static str>
+    ensures { IfSome result (λ name. name.now ≡ spec.self_name n) }
+{
+    match n {
+        0 => Some("__self_0"),
+        1 => Some("__self_1"),
+        2 => Some("__self_2"),
+        3 => Some("__self_3"),
+        4 => Some("__self_4"),
+        5 => Some("__self_5"),
+        6 => Some("__self_6"),
+        7 => Some("__self_7"),
+        _ => None,
+    }
+}
+
+/// The names of the first fields of the right operand.
+fn first_theirs(n: usize) -> Option<&'static str>
+    ensures { IfSome result (λ name. name.now ≡ spec.other_name n) }
+{
+    match n {
+        0 => Some("__other_0"),
+        1 => Some("__other_1"),
+        2 => Some("__other_2"),
+        3 => Some("__other_3"),
+        4 => Some("__other_4"),
+        5 => Some("__other_5"),
+        6 => Some("__other_6"),
+        7 => Some("__other_7"),
+        _ => None,
+    }
+}
+
+fn first_name(operand: Operand, n: usize) -> Option<&'static str>
+    ensures { IfSome result (λ name. name.now ≡ naming operand n) }
+{
+    match operand {
+        Operand::Mine => first_mine(n),
+        Operand::Theirs => first_theirs(n),
+    }
+}
+
+fn formatted(alloc: Global, operand: Operand, n: usize) -> Result<String, AllocError>
+    ensures { IfOk result (λ name. string_bytes name ≡ naming operand n) }
+{
+    match operand {
+        Operand::Mine => format!(in alloc; "__self_{n}"),
+        Operand::Theirs => format!(in alloc; "__other_{n}"),
+    }
+}
+
 /// The name of a field of an operand, by its number.
 pub(crate) fn numbered<'a>(
     alloc: Global,
@@ -33,11 +85,10 @@ pub(crate) fn numbered<'a>(
 ) -> Result<Ident<'a>, AllocError>
     ensures { IfOk result (λ i. i ≡ heads.word (naming operand n)) }
 {
-    let text = match operand {
-        Operand::Mine => format!(in alloc; "__self_{n}")?,
-        Operand::Theirs => format!(in alloc; "__other_{n}")?,
-    };
-    Ok(emitted(Text::owned(text)))
+    match first_name(operand, n) {
+        Some(name) => Ok(word(name)),
+        None => Ok(emitted(Text::owned(formatted(alloc, operand, n)?))),
+    }
 }
 
 fn bound<'a>(alloc: Global, operand: Operand, n: usize) -> Result<Pattern<'a>, AllocError>
@@ -67,7 +118,7 @@ fn bindings<'a>(
 ) -> Result<Seq<Pattern<'a>>, AllocError>
     ensures { IfOk result (λ ps. map pattern_view ps ≡ spec.bindings (naming operand) 0 (map field_view fields.now)) }
 {
-    let mut out = Seq::new(alloc);
+    let mut out = Seq::with_capacity(alloc, fields.len())?;
     for (i, field) in fields.iter().enumerate() {
         let skip = is_skipped(field.attrs.as_slice());
         let pattern = binding(alloc, operand, i, skip)?;
@@ -106,7 +157,7 @@ fn named_bindings<'a>(
 ) -> Result<Seq<NamedPattern<'a>>, AllocError>
     ensures { IfOk result (λ ps. map named_view ps ≡ spec.named_bindings (naming operand) 0 (map field_view fields.now)) }
 {
-    let mut out = Seq::new(alloc);
+    let mut out = Seq::with_capacity(alloc, fields.len())?;
     for (i, field) in fields.iter().enumerate() {
         if !is_skipped(field.attrs.as_slice()) {
             let pattern = named_binding(alloc, operand, i, field)?;

@@ -244,7 +244,7 @@ unfolding whole_bound
 licensed_whole_bound w =
     licensed_bound (read_type 129) (inner_path (read_type 129)) w (λ v _. licensed_inner_path (read_type 129) v (licensed_type 129 PathOnly v (omega arith)))
 
-refused_there : {A : Type 0} {w : Where} {p : Parser A} → Licenses 0 w p → (ts : Trees) (r : Refusal) → p ts ≡ Err r → IsRefusedAt w.level w.limit r ts
+pub refused_there : {A : Type 0} {w : Where} {p : Parser A} → Licenses 0 w p → (ts : Trees) (r : Refusal) → p ts ≡ Err r → IsRefusedAt w.level w.limit r ts
 refused_there {A} {w} {p} h ts r e = subst (λ o. Licensed 0 w ts o) e (h.at ts)
 
 pub type_refused_at : (w : Where) (ts : Trees) (r : Refusal) → whole_type w ts ≡ Err r → IsRefusedAt w.level w.limit r ts
@@ -267,3 +267,6 @@ whole_parts =
 
 pub declaration_refused_at : (limit : ℕ) (ts : Trees) (r : Refusal) → read_declaration parts limit ts ≡ Err r → IsRefusedAt 0 limit r ts
 declaration_refused_at = declaration_refused_by parts whole_parts
+
+pub licensed_predicates : (w : Where) → Licenses 0 w (read_listed at_end (read_predicate parts) w)
+licensed_predicates w = licensed_listed at_end (read_predicate parts) w (licensed_predicate parts whole_parts w)

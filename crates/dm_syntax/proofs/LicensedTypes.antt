@@ -90,7 +90,7 @@ module _ (inner : Mode → Where → Parser TypeTree) where
 
     -- ---- paths
 
-    licensed_angled : (w : Where) → n ≤ w.level → Licenses 0 w (read_angled inner w)
+    pub licensed_angled : (w : Where) → n ≤ w.level → Licenses 0 w (read_angled inner w)
     licensed_angled w e =
         licensed_gives (licensed_and (licensed_leading w) (licensed_any
         (licensed_angles (read_arguments inner) w (licensed_arguments (deeper w) (omega (arith, e)))))) angle_of

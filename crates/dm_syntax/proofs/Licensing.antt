@@ -22,7 +22,7 @@ pub record Licenses {A : Type 0} (count : ℕ) (w : Where) (p : Parser A) : Type
   pub at : (ts : Trees) → Licensed count w ts (p ts)
 
 -- refusals of the two kinds
-abbrev syntax_by : Span → Refusal
+abbrev pub syntax_by : Span → Refusal
 syntax_by span = record { kind = Syntax; span = span }
 
 abbrev pub deep_by : Span → Refusal
@@ -66,6 +66,10 @@ refused_behind_openers n level deep limit r ts mid e b h =
       deep = λ k. omega (arith, e, b.opened, h.deep k, openers_append b.front h.place.front);
     }
 
+-- a refusal behind such trees of the same list
+pub refused_behind : (level limit : ℕ) (r : Refusal) (ts mid : Trees) → IsBehind 0 ts mid → IsRefusedAt level limit r mid → IsRefusedAt level limit r ts
+refused_behind level limit r ts mid b h = refused_behind_openers 0 level level limit r ts mid (omega arith) b h
+
 -- ---- the front itself
 
 front_place : (limit : ℕ) (ts : Trees) → front_span ts limit ≡ place_of limit (flatten ts)
@@ -78,7 +82,7 @@ refused_in_front : (level limit : ℕ) (k : Kind) (ts : Trees) → (k ≡ TooDee
 refused_in_front level limit k ts h =
     record { place = record { front = []; rest = flatten ts; splits = refl; is = front_place limit ts }; deep = λ e. omega (arith, h e) }
 
-syntax_in_front : (level limit : ℕ) (ts : Trees) → IsRefusedAt level limit (syntax_by (front_span ts limit)) ts
+pub syntax_in_front : (level limit : ℕ) (ts : Trees) → IsRefusedAt level limit (syntax_by (front_span ts limit)) ts
 syntax_in_front level limit ts = refused_in_front level limit Syntax ts (λ e. absurd (cc))
 
 pub deep_in_front : (level limit : ℕ) (ts : Trees) → deepest < level → IsRefusedAt level limit (deep_by (front_span ts limit)) ts

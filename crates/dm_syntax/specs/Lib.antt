@@ -24,3 +24,11 @@ pub mod Repeats
 pub mod Places
 pub mod Parsed
 pub mod SeenNames
+pub mod Fronts
+pub mod BarePaths
+pub mod Metas
+pub mod MetaReaders
+pub mod ArgReaders
+pub mod BareTokens
+pub mod SameTypes
+pub mod Shapes

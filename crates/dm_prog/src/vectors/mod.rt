@@ -1,7 +1,9 @@
 //! Texts and what the libraries answer on them.
 
 mod copies;
+mod fronts;
 mod grammar;
+mod metas;
 mod names;
 mod tokens;
 mod trees;

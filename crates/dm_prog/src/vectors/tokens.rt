@@ -1,16 +1,8 @@
 use crate::vectors::copies::{lifetime, named, path, predicates, segment, type_param};
+use crate::vectors::fronts::printed;
 use dm_syntax::{Bound, Opaque, PathArguments, parse_decl};
-use dm_tokens::{Error, ToTokens, TokenStream, lex, print};
+use dm_tokens::{Error, lex};
 use std::alloc::{AllocError, Global};
-
-/// The text of a value's tokens.
-fn printed<'a, T: ToTokens<'a>>(alloc: Global, value: &T) -> Result<String, AllocError>
-    requires { T.stands value.now }
-{
-    let mut out = TokenStream::new(alloc);
-    value.to_tokens(&mut out)?;
-    print(alloc, &out)
-}
 
 #[test]
 fn types(rt: HostRuntime) -> Result<(), AllocError> {

@@ -17,7 +17,7 @@ use dm_tokens::{Cursor, Error, Punctuated};
 use std::alloc::Global;
 
 /// How deep types nest: as deep as the levels of their tokens may go, and one more.
-const DEPTH: usize = 129;
+pub(crate) const DEPTH: usize = 129;
 
 /// A type.
 #[tactic(auto, unfolding(crate::specs::WholeReaders::whole_type))]

@@ -134,7 +134,7 @@ fn type_predicate<'t, 'a>(
 }
 
 /// A predicate.
-fn predicate<'t, 'a>(
+pub(crate) fn predicate<'t, 'a>(
     alloc: Global,
     level: usize,
     c: Cursor<'t, 'a>,

@@ -1,6 +1,7 @@
 //! Reading a declaration by its grammar.
 
 pub(crate) mod arguments;
+pub(crate) mod bare;
 pub(crate) mod bounds;
 pub(crate) mod brackets;
 pub(crate) mod constants;

@@ -26,7 +26,7 @@ use std::alloc::{AllocError, Global};
 
 /// No arguments.
 #[tactic(auto, using(crate::proofs::View::view_steps))]
-fn no_arguments<'a>() -> PathArguments<'a>
+pub(crate) fn no_arguments<'a>() -> PathArguments<'a>
     ensures { arguments_view result ≡ absent }
 {
     PathArguments::Absent
@@ -77,7 +77,7 @@ fn parens_of<'a>(
 
 /// A segment.
 #[tactic(auto, using(crate::proofs::View::view_steps))]
-fn segment_of<'a>(ident: Ident<'a>, arguments: PathArguments<'a>) -> PathSegment<'a>
+pub(crate) fn segment_of<'a>(ident: Ident<'a>, arguments: PathArguments<'a>) -> PathSegment<'a>
     ensures { segment_view result ≡ segment ident.entry (arguments_view arguments.entry) }
 {
     PathSegment { ident, arguments }
@@ -159,7 +159,7 @@ impl<
     }
 
     /// Arguments between `<` and `>`, perhaps behind `::`.
-    fn angled<'t>(
+    pub(crate) fn angled<'t>(
         &self,
         level: usize,
         c: Cursor<'t, 'a>,

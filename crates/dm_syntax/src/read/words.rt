@@ -186,7 +186,7 @@ pub(crate) fn path_word<'t, 'a>(
 
 /// Whether `::` and `<` come next.
 #[tactic(auto, using(crate::proofs::PathSeeing::turbofish_steps))]
-fn sees_turbofish(c: Cursor<'_, '_>) -> bool
+pub(crate) fn sees_turbofish(c: Cursor<'_, '_>) -> bool
     requires { sound c }
     ensures { result ≡ grammar.sees_turbofish (left c.entry) }
 {

@@ -6,4 +6,4 @@ use Rattle.dm_cmp_ops.proofs.comparing.tests.Given as goal
 
 abbrev pub invariant-loop-i : goal.invariant-loop-i
 invariant-loop-i l =
-    map expr_view l.out.items ++ spec.tests l.comparing l.i (map field_view (drop l.i l.fields)) ≡ spec.tests l.comparing 0 (map field_view l.fields)
+    map expr_view l.out ++ spec.tests l.comparing l.i (map field_view (drop l.i l.fields)) ≡ spec.tests l.comparing 0 (map field_view l.fields)

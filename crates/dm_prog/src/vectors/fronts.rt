@@ -1,0 +1,181 @@
+ghost use Rattle.dm_tokens.specs.Cursors.{sound};
+
+use dm_syntax::{parse_path, parse_predicates, parse_type, type_eq};
+use dm_tokens::{Cursor, Error, Kind, ToTokens, TokenStream, lex, print};
+use std::alloc::{AllocError, Global};
+
+/// The text of what is left.
+pub(crate) fn left(alloc: Global, c: Cursor<'_, '_>) -> Result<String, AllocError>
+    requires { sound c }
+{
+    let stream = TokenStream::from_cursor(alloc, c)?;
+    print(alloc, &stream)
+}
+
+/// The text of a value's tokens.
+pub(crate) fn printed<'a, T: ToTokens<'a>>(alloc: Global, value: &T) -> Result<String, AllocError>
+    requires { T.stands value.now }
+{
+    let mut out = TokenStream::new(alloc);
+    value.to_tokens(&mut out)?;
+    print(alloc, &out)
+}
+
+/// The kind and the range of a refusal.
+pub(crate) fn refusal_of(error: Error) -> Option<(Kind, usize, usize)> {
+    match error {
+        Error::NoMemory => None,
+        Error::Refused(refusal) => Some((refusal.kind, refusal.span.start, refusal.span.end)),
+    }
+}
+
+/// Texts, the longest type that each begins with, and what is left.
+const TYPES: &[(&str, &str, &str)] = &[
+    ("Vec<T>, x", "Vec < T >", ", x"),
+    ("a::b<T>", "a :: b < T >", ""),
+    ("F(u8) -> G, H", "F (u8) -> G", ", H"),
+    ("&'a mut T = x", "& 'a mut T", "= x"),
+    ("dyn A + B; C", "dyn A + B", "; C"),
+    ("& dyn A, B", "& dyn A", ", B"),
+    ("[u8; 3] {}", "[u8 ; 3]", "{ }"),
+    ("! x", "!", "x"),
+];
+
+#[test]
+fn types(rt: HostRuntime) -> Result<(), Error> {
+    let alloc = rt.alloc();
+    for (text, front, others) in TYPES.iter().copied() {
+        let stream = lex(alloc, text)?;
+        let (ty, rest) = parse_type(alloc, stream.cursor())?;
+        assert!(rt; printed(alloc, &ty)?.as_str() == front);
+        assert!(rt; left(alloc, rest)?.as_str() == others);
+    }
+    Ok(())
+}
+
+/// Texts that begin with no type, and the range of the refusal.
+const NO_TYPES: &[(&str, usize, usize)] = &[("", 0, 0), (", x", 0, 1), ("3", 0, 1), ("{}", 0, 1)];
+
+#[test]
+fn no_types(rt: HostRuntime) -> Result<(), Error> {
+    let alloc = rt.alloc();
+    for (text, start, end) in NO_TYPES.iter().copied() {
+        let stream = lex(alloc, text)?;
+        match parse_type(alloc, stream.cursor()) {
+            Ok(_) => assert!(rt; false),
+            Err(error) => assert!(rt; refusal_of(error) == Some((Kind::Syntax, start, end))),
+        }
+    }
+    Ok(())
+}
+
+/// So many `&`, and `u8`.
+fn references(alloc: Global, times: usize) -> Result<String, AllocError> {
+    let mut text = String::new(alloc);
+    for _turn in 0..times {
+        text.push_str("&")?;
+    }
+    text.push_str("u8")?;
+    Ok(text)
+}
+
+#[test]
+fn levels(rt: HostRuntime) -> Result<(), Error> {
+    let alloc = rt.alloc();
+    let text = references(alloc, 128)?;
+    let stream = lex(alloc, text.as_str())?;
+    assert!(rt; parse_type(alloc, stream.cursor()).is_ok());
+    let deep = references(alloc, 129)?;
+    let stream = lex(alloc, deep.as_str())?;
+    match parse_type(alloc, stream.cursor()) {
+        Ok(_) => assert!(rt; false),
+        Err(error) => assert!(rt; refusal_of(error) == Some((Kind::TooDeep, 129, 131))),
+    }
+    Ok(())
+}
+
+#[test]
+fn no_path(rt: HostRuntime) -> Result<(), Error> {
+    let alloc = rt.alloc();
+    let stream = lex(alloc, "fn a")?;
+    match parse_path(alloc, stream.cursor()) {
+        Ok(_) => assert!(rt; false),
+        Err(error) => assert!(rt; refusal_of(error) == Some((Kind::Syntax, 0, 2))),
+    }
+    Ok(())
+}
+
+/// Texts, and how many predicates each is.
+const PREDICATES: &[(&str, Option<usize>)] = &[
+    ("T: X, 'a: 'b", Some(2)),
+    ("", Some(0)),
+    ("T: X,", Some(1)),
+    ("for<'a> T: X<'a> + 'a", Some(1)),
+    (",", None),
+    ("T: X = 1", None),
+    ("T X", None),
+];
+
+#[test]
+fn predicates(rt: HostRuntime) -> Result<(), Error> {
+    let alloc = rt.alloc();
+    for (text, want) in PREDICATES.iter().copied() {
+        let stream = lex(alloc, text)?;
+        match parse_predicates(alloc, stream.cursor()) {
+            Ok(found) => assert!(rt; want == Some(found.items.len())),
+            Err(error) => {
+                assert!(rt; want.is_none());
+                match refusal_of(error) {
+                    Some((kind, _, _)) => assert!(rt; kind == Kind::Syntax),
+                    None => assert!(rt; false),
+                }
+            }
+        }
+    }
+    Ok(())
+}
+
+/// Two types, and whether they are spelled alike.
+const PAIRS: &[(&str, &str, bool)] = &[
+    ("a::b<T>", "a :: b < T >", true),
+    ("Vec<Vec<T>>", "Vec<Vec<T> >", true),
+    ("Vec<T>", "Vec<U>", false),
+    ("Vec<T>", "Vec<T,>", false),
+    ("a::<b>", "a<b>", false),
+    ("r#a", "a", false),
+    ("(a)", "(a,)", false),
+    ("(a, b)", "(a, b,)", false),
+    ("(a, b,)", "( a , b , )", true),
+    ("[u8; 1 + 2]", "[u8; 1+2]", true),
+    ("[u8; a << b]", "[u8; a < < b]", false),
+    ("[u8; 3]", "[u8; 4]", false),
+    ("[u8]", "[u8; 3]", false),
+    ("&T", "&'a T", false),
+    ("&'a mut T", "&'a mut T", true),
+    ("*const T", "*mut T", false),
+    ("fn(x: A)", "fn(A)", false),
+    ("fn(A) -> B", "fn(A)", false),
+    ("F(A) -> B", "F(A) -> B", true),
+    ("dyn A + B", "dyn A + B", true),
+    ("dyn A", "impl A", false),
+    ("m!(a)", "m![a]", false),
+    ("<A as B>::C", "<A>::B::C", false),
+    ("a<B = C>", "a<B: C>", false),
+    ("a<{ 1 }>", "a<{ 1 }>", true),
+    ("_", "!", false),
+];
+
+#[test]
+fn pairs(rt: HostRuntime) -> Result<(), Error> {
+    let alloc = rt.alloc();
+    for (one, other, want) in PAIRS.iter().copied() {
+        let first = lex(alloc, one)?;
+        let second = lex(alloc, other)?;
+        let (a, _) = parse_type(alloc, first.cursor())?;
+        let (b, _) = parse_type(alloc, second.cursor())?;
+        assert!(rt; type_eq(&a, &b) == want);
+        assert!(rt; type_eq(&b, &a) == want);
+        assert!(rt; type_eq(&a, &a));
+    }
+    Ok(())
+}

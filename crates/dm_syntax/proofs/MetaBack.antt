@@ -1,0 +1,63 @@
+-- Bare paths and metas have the tokens that were read, ranges and spacing aside.
+use Rattle.std.proofs.Common.{◌≡◌, true, false, ◌++◌}
+use Rattle.dm_tokens.specs.declared.tokens.Delim.TheVariants.{Paren}
+use Rattle.dm_tokens.specs.declared.tokens.Token.TheVariants as t
+use Rattle.dm_tokens.specs.declared.tokens.Span.{Span}
+use Rattle.dm_tokens.specs.Layout.{nowhere}
+use Rattle.dm_tokens.specs.Trees.{Trees, join}
+use Rattle.dm_syntax.specs.Tree.{PathTree, path_tree, SegmentTree, segment, SegmentTrees, no_segments, segment_then, ArgumentsTree, absent, angle, parens}
+use Rattle.dm_syntax.specs.Spelling.{Where, deeper, Marks, Spelling, sees_colons, colons}
+use Rattle.dm_syntax.specs.TypeTokens as spell
+use Rattle.dm_syntax.specs.BareTokens.{spelled_of}
+use Rattle.dm_syntax.specs.BarePaths.{bare_arguments, bare_segment, bare_segments, bare_segments_left, bare_path}
+use Rattle.dm_syntax.specs.Metas.{PathOrKeywordTree, a_path, keyword, MetaListTree, MetaTree, path_meta, list_meta, NestedMetaTree, nested, lit, path_or_keyword, meta_list, meta_spelled, nested_meta, path_or_keyword_trees, meta_list_trees, meta_trees, nested_meta_trees}
+use Rattle.dm_syntax.proofs.SpelledBack.{Gives, gives_join, gives_none, gives_token, gives_pair, gives_flag, gives_kept, gives_angle, gives_arguments}
+
+gives_bare_arguments : (gs : ArgumentsTree) (r : Span) (w : Where) (ts o : Trees) (m : Marks) → bare_arguments gs w ts o m → Gives (spell.arguments_trees r gs) ts o
+gives_bare_arguments absent r w ts o m s = gives_none ts o s.part.spelled
+gives_bare_arguments (angle b gs u) r w ts o m s = gives_angle gs r b u w ts o m s (λ i j k h. gives_arguments gs r u (deeper w) i j k h)
+gives_bare_arguments (parens xs u out) r w ts o m s = absurd s.fact
+
+gives_bare_segment : (x : SegmentTree) (r : Span) (w : Where) (ts o : Trees) (m : Marks) → bare_segment x w ts o m → Gives (spell.segment_trees r x) ts o
+gives_bare_segment (segment n gs) r w ts o m s =
+    gives_join (spell.name n) (spell.arguments_trees r gs) ts s.middle o (gives_token w (t.Ident n) ts s.middle s.first_marks s.first.part)
+    (gives_bare_arguments gs r w s.middle o s.rest_marks s.rest)
+
+gives_bare_left : (ss : SegmentTrees) (r : Span) (w : Where) (ts o : Trees) (m : Marks) → bare_segments_left ss w ts o m →
+    Gives (spell.spaced (spell.colons r) false (spell.each_segment r ss)) ts o
+gives_bare_left no_segments r w ts o m s = gives_none ts o s.part.spelled
+gives_bare_left (segment_then x ss) r w ts o m s =
+    let rest : Trees = spell.spaced (spell.colons r) false (spell.each_segment r ss) in
+    gives_join (spell.colons r) (join (spell.segment_trees r x) rest) ts s.middle o (gives_pair r w 58 58 ts s.middle s.first_marks s.first)
+    (gives_join (spell.segment_trees r x) rest s.middle s.rest.middle o (gives_bare_segment x r w s.middle s.rest.middle s.rest.first_marks s.rest.first)
+    (gives_bare_left ss r w s.rest.middle o s.rest.rest_marks s.rest.rest))
+
+gives_bare_segments : (ss : SegmentTrees) (r : Span) (w : Where) (ts o : Trees) (m : Marks) → bare_segments ss w ts o m →
+    Gives (spell.spaced (spell.colons r) true (spell.each_segment r ss)) ts o
+gives_bare_segments no_segments r w ts o m s = absurd s.fact
+gives_bare_segments (segment_then x ss) r w ts o m s =
+    gives_join (spell.segment_trees r x) (spell.spaced (spell.colons r) false (spell.each_segment r ss)) ts s.middle o
+    (gives_bare_segment x r w ts s.middle s.first_marks s.first) (gives_bare_left ss r w s.middle o s.rest_marks s.rest)
+
+pub gives_bare_path : (p : PathTree) (r : Span) (w : Where) (ts o : Trees) (m : Marks) → bare_path p w ts o m → Gives (spell.path_trees r p) ts o
+gives_bare_path (path_tree b ss) r w ts o m s =
+    gives_join (spell.given b (spell.colons r)) (spell.spaced (spell.colons r) true (spell.each_segment r ss)) ts s.middle o
+    (gives_flag sees_colons b (colons w) (spell.colons r) ts s.middle s.first_marks s.first (gives_pair r w 58 58 ts s.middle s.first_marks))
+    (gives_bare_segments ss r w s.middle o s.rest_marks s.rest)
+
+pub gives_word : (x : PathOrKeywordTree) (w : Where) (ts o : Trees) (m : Marks) → path_or_keyword x w ts o m → Gives (path_or_keyword_trees x) ts o
+gives_word (a_path p) w ts o m s = gives_bare_path p nowhere w ts o m s
+gives_word (keyword i) w ts o m s = gives_token w (t.Ident i) ts o m s.part
+
+pub gives_list : (x : MetaListTree) (w : Where) (ts o : Trees) (m : Marks) → meta_list x w ts o m → Gives (meta_list_trees x) ts o
+gives_list x w ts o m s =
+    gives_join (path_or_keyword_trees x.path) (spell.grouped Paren x.tokens.trees) ts s.middle o (gives_word x.path w ts s.middle s.first_marks s.first)
+    (gives_kept w Paren x.tokens s.middle o s.rest_marks s.rest)
+
+pub gives_meta : (x : MetaTree) (w : Where) (ts o : Trees) (m : Marks) → meta_spelled x w ts o m → Gives (meta_trees x) ts o
+gives_meta (path_meta p) w ts o m s = gives_word p w ts o m s.part
+gives_meta (list_meta l) w ts o m s = gives_list l w ts o m s
+
+pub gives_nested : (x : NestedMetaTree) (w : Where) (ts o : Trees) (m : Marks) → nested_meta x w ts o m → Gives (nested_meta_trees x) ts o
+gives_nested (nested y) w ts o m s = gives_meta y w ts o m s
+gives_nested (lit l) w ts o m s = gives_token w (t.Literal l) ts o m s
