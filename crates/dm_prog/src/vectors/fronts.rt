@@ -1,6 +1,6 @@
 ghost use Rattle.dm_tokens.specs.Cursors.{sound};
 
-use dm_syntax::{parse_path, parse_predicates, parse_type, type_eq};
+use dm_syntax::{Path, parse_path, parse_predicates, parse_type, type_eq};
 use dm_tokens::{Cursor, Error, Kind, ToTokens, TokenStream, lex, print};
 use std::alloc::{AllocError, Global};
 
@@ -90,6 +90,41 @@ fn levels(rt: HostRuntime) -> Result<(), Error> {
     match parse_type(alloc, stream.cursor()) {
         Ok(_) => assert!(rt; false),
         Err(error) => assert!(rt; refusal_of(error) == Some((Kind::TooDeep, 129, 131))),
+    }
+    Ok(())
+}
+
+/// The longest path that a text begins with.
+fn path<'a>(alloc: Global, text: &'a str) -> Result<Path<'a>, Error> {
+    let stream = lex(alloc, text)?;
+    let (path, _) = parse_path(alloc, stream.cursor())?;
+    Ok(path)
+}
+
+/// The text of what that path leaves.
+fn behind_path(alloc: Global, text: &str) -> Result<String, Error> {
+    let stream = lex(alloc, text)?;
+    let (_, rest) = parse_path(alloc, stream.cursor())?;
+    Ok(left(alloc, rest)?)
+}
+
+/// Texts, the number of segments of the longest path that each begins with, its tokens, and what is left.
+const PATHS: &[(&str, usize, &str, &str)] = &[
+    ("a::b<T>", 2, "a :: b < T >", ""),
+    ("a(u8)", 1, "a", "(u8)"),
+    ("::a::<T> (u8), c", 1, ":: a :: < T >", "(u8) , c"),
+    ("a<F(u8) -> G> = b", 1, "a < F (u8) -> G >", "= b"),
+    ("crate::a!()", 2, "crate :: a", "! ()"),
+];
+
+#[test]
+fn paths(rt: HostRuntime) -> Result<(), Error> {
+    let alloc = rt.alloc();
+    for (text, count, front, others) in PATHS.iter().copied() {
+        let path = path(alloc, text)?;
+        assert!(rt; path.segments.len() == count);
+        assert!(rt; printed(alloc, &path)?.as_str() == front);
+        assert!(rt; behind_path(alloc, text)?.as_str() == others);
     }
     Ok(())
 }
