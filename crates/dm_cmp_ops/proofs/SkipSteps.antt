@@ -1,5 +1,6 @@
 -- One attribute after the other gives what the definitions say of all.
-use Rattle.std.proofs.Common.{◌≡◌, List, [], ◌∷◌, Bool, true, false, cond, filter, codes, None, Some, refl, sym, ap, ◌∙◌}
+use Rattle.std.proofs.Common.{◌≡◌, ◌==◌, suc, length, arith, List, [], ◌∷◌, Bool, true, false, cond, filter, codes, None, Some, refl, sym, ap, ◌∙◌}
+use Rattle.std.proofs.lemmas.Bool.{ne_eqb}
 use Rattle.std.proofs.lemmas.Grind.{common_steps}
 use Rattle.dm_tokens.specs.declared.error.Kind.TheVariants.{AttrSyntax}
 use Rattle.dm_tokens.specs.declared.error.Refusal.{Refusal}
@@ -113,5 +114,11 @@ heard_yes attrs f r = heard attrs Yes (λ e. cc) (λ k. refl) f r
 
 pub heard_bad : (attrs : List Attribute) (b : Refusal) → bad ≡ skip attrs (codes "partial_eq") → Some b ≡ refusal_among (first_name attrs) → Says attrs (Bad b)
 heard_bad attrs b f r = heard attrs (Bad b) (λ e. cc) (λ k. refl) f r
+
+-- nothing is refused of no attributes
+pub nothing_refused : (attrs : List Attribute) → (length attrs == 0) ≡ true → place_refusal attrs ≡ None
+unfolding place_refusal
+nothing_refused [] e = refl
+nothing_refused (a ∷ more) e = let f : (suc (length more) == 0) ≡ false = ne_eqb (suc (length more)) 0 (λ g. omega (arith, g)) in absurd (cc)
 
 pub ruleset skip_steps = (common_steps, all_skip, all_refused)

@@ -69,7 +69,7 @@ fn cases_of_variants<'x, 'a>(
 ) -> Result<Vec<CaseRef<'x, 'a>>, AllocError>
     ensures { IfOk result (λ cs. map case_view cs.items ≡ map values.case_of_variant (map variant_view variants.now)) }
 {
-    let mut out = Vec::new(alloc);
+    let mut out = Vec::with_capacity(alloc, variants.len())?;
     for variant in variants {
         out.push(case_of_variant(variant))?;
     }

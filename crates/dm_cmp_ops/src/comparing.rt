@@ -246,7 +246,7 @@ pub(crate) fn arms<'a>(
 ) -> Result<Seq<Arm<'a>>, AllocError>
     ensures { IfOk result (λ it. map arm_view it ≡ spec.arms comparing (declaration_view input.now) (map case_view cases.now) (spec.rest comparing (map case_view cases.now))) }
 {
-    let mut out = Seq::new(alloc);
+    let mut out = Seq::with_capacity(alloc, cases.len().saturating_add(1))?;
     for case in cases {
         if is_compared(case) {
             let next = arm(alloc, comparing, input, case)?;

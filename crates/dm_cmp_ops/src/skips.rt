@@ -133,6 +133,9 @@ pub(crate) fn said_to_partial_eq(attrs: &[Attribute<'_>]) -> Said
     ensures skip { found result ≡ spec.partial_eq_skip attrs.now }
     ensures refusal { refused result ≡ checks.place_refusal attrs.now }
 {
+    if attrs.is_empty() {
+        return Said::No;
+    }
     match skip(attrs, "partial_eq") {
         Said::No => skip(attrs, "eq"),
         Said::Yes => Said::Yes,

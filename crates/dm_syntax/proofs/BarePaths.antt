@@ -1,10 +1,10 @@
 -- Bare paths: what their reader decides, where the readers of generic arguments and of the types in them decide those.
-use Rattle.std.proofs.Common.{◌≡◌, ℕ, ◌<◌, Bool, true, false, if◌then◌else◌, ◌||◌, List, [], ◌∷◌, Ok, refl, sym, ap, ◌∙◌, arith}
+use Rattle.std.proofs.Common.{◌≡◌, Bool, true, false, List, [], ◌∷◌, Ok, refl, sym, ap, ◌∙◌, arith}
 use Rattle.dm_tokens.specs.Trees.{Trees}
 use Rattle.dm_syntax.specs.declared.read.kind.Mode.{Mode}
 use Rattle.dm_syntax.specs.Spelling.{Where, deeper, Marks, Spelling, Nothing, ◌then◌, Before, sees, sees_colons, punct, colons, flag, repeated, chain}
 use Rattle.dm_syntax.specs.TypeGrammar.{between_angles, arguments, word, is_path_word, sees_turbofish, behind_colons}
-use Rattle.dm_syntax.specs.Tree.{TypeTree, ArgumentTrees, ArgumentsTree, absent, angle, parens, SegmentTree, segment, SegmentTrees, no_segments, segment_then, segments_of, PathTree, path_tree}
+use Rattle.dm_syntax.specs.Tree.{TypeTree, ArgumentsTree, absent, angle, parens, SegmentTree, segment, SegmentTrees, no_segments, segment_then, segments_of, PathTree, path_tree}
 use Rattle.dm_syntax.specs.BarePaths.{sees_angled, bare_arguments, bare_segment, bare_segments, bare_segments_left, bare_path, read_bare_arguments, read_bare_segment, read_bare_segments, read_bare_path}
 use Rattle.dm_syntax.specs.Readers.{Parser, ◌and◌, ◌gives◌, read_ident, read_colons}
 use Rattle.dm_syntax.specs.PlainReaders.{read_leading, read_angles}

@@ -1,12 +1,12 @@
 -- Places in declarations: which scope a name has doesn't count, but for types.
-use Rattle.std.proofs.Common.{◌≡◌, ℕ, ◌+◌, Bool, true, false, ◌&&◌, ◌||◌, nat_eq, if◌then◌else◌, List, [], ◌∷◌, ◌++◌, codes, flat_map, Option, Some, None, refl, sym, ap, ap₂, ◌∙◌}
+use Rattle.std.proofs.Common.{◌≡◌, ℕ, ◌+◌, false, ◌&&◌, ◌||◌, nat_eq, if◌then◌else◌, List, [], ◌∷◌, ◌++◌, codes, flat_map, Option, Some, None, refl, sym, ap, ap₂, ◌∙◌}
 use Rattle.std.specs.Str.{bytes_eq}
 use Rattle.std.specs.List.{starts_with}
 use Rattle.std.specs.Option.{option_or}
 use Rattle.dm_tokens.specs.declared.tokens.Span.{Span}
 use Rattle.dm_tokens.specs.declared.tokens.Ident.{Ident}
 use Rattle.dm_syntax.specs.declared.naming.places.Wanted.{Wanted}
-use Rattle.dm_syntax.specs.declared.naming.places.Wanted.TheVariants.{MacroType, Reserved}
+use Rattle.dm_syntax.specs.declared.naming.places.Wanted.TheVariants.{MacroType, Reserved, Either}
 use Rattle.dm_syntax.specs.Tree.{BoundTree, TypeTree, bounds_of}
 use Rattle.dm_syntax.specs.Declarations.{FieldTree, FieldsTree, named, unnamed, unit, VariantTree}
 use Rattle.dm_syntax.specs.Names.{Scope, types, variants, fields, bound, is_shared, Found, name_at, range_of, in_bound, in_bounds, in_type, in_some, declared, in_field, in_fields, in_variants}
@@ -24,6 +24,7 @@ place_cons w f fs = by_test (is_wanted w f) (range_of f) None (first_place w fs)
 same_test : (w : Wanted) (scope : Scope) (n : List ℕ) (s : Span) → is_shared scope types ≡ false → is_wanted w (name_at scope n s) ≡ is_wanted w (name_at bound n s)
 same_test MacroType scope n s e = refl
 same_test Reserved scope n s e = ap (λ b. starts_with nat_eq n (codes "__") || (b && bytes_eq n (codes "derive_more"))) e
+same_test Either scope n s e = ap (λ b. starts_with nat_eq n (codes "__") || (b && bytes_eq n (codes "derive_more"))) e
 
 pub name_place : (w : Wanted) (scope : Scope) (n : List ℕ) (s : Span) (fs : List Found) → is_shared scope types ≡ false →
     first_place w (name_at scope n s ∷ fs) ≡ option_or (first_place w (name_at bound n s ∷ [])) (first_place w fs)

@@ -7,10 +7,10 @@ use Rattle.dm_tokens.specs.declared.error.Kind.{Kind}
 use Rattle.dm_tokens.specs.declared.error.Kind.TheVariants.{TooDeep, Syntax}
 use Rattle.dm_tokens.specs.declared.error.Refusal.{Refusal}
 use Rattle.dm_tokens.specs.declared.cursor.Cursor.{Cursor}
-use Rattle.dm_tokens.specs.Trees.{Trees, no_trees, token, group}
+use Rattle.dm_tokens.specs.Trees.{Trees, no_trees}
 use Rattle.dm_tokens.specs.Cursors.{left, front_span}
 use Rattle.dm_syntax.specs.Declarations.{PredicateTree, lifetime_predicate, type_predicate}
-use Rattle.dm_syntax.specs.Spelling.{Where, Marks, Spelling, ◌then◌, Before, at_end, sees, sees_word, lifetime, keyword, colon, items}
+use Rattle.dm_syntax.specs.Spelling.{Where, Marks, Spelling, ◌then◌, at_end, sees, sees_word, lifetime, keyword, colon, items}
 use Rattle.dm_syntax.specs.TypeGrammar.{type_spelled, bound, between_angles}
 use Rattle.dm_syntax.specs.DeclarationGrammar.{listed, bound_list, predicate}
 use Rattle.dm_syntax.specs.DeclarationReaders.{read_listed, read_predicate}
@@ -19,6 +19,7 @@ use Rattle.dm_syntax.specs.Readers.{Outcome, Reads}
 use Rattle.dm_syntax.specs.Fronts.{IsFront, IsUnreadFront, NoFront, ToEnd}
 use Rattle.dm_syntax.specs.Places.{IsPlaceIn, IsRefusedAt, Licensed}
 use Rattle.dm_syntax.specs.WholeReaders.{whole_type, whole_bound, parts}
+use Rattle.dm_syntax.proofs.PlainParts.{nothing_left}
 use Rattle.dm_syntax.proofs.Deciding.{Same, IsRead, IsRefused, Decides, Reader}
 use Rattle.dm_syntax.proofs.Licensing.{syntax_by, syntax_in_front, refused_behind}
 use Rattle.dm_syntax.proofs.TypeTheorem.{type_decided, bound_decided}
@@ -52,11 +53,6 @@ module _ {A : Type 0} (S : A → Spelling) (ts : Trees) where
     front_refused (Err error.NoMemory) h = tt
 
 -- ---- parts behind which nothing is left
-
-nothing_left : (ts : Trees) → at_end ts ≡ true → ts ≡ no_trees
-nothing_left no_trees e = refl
-nothing_left (token k rest) e = absurd (cc)
-nothing_left (group d from inside upto rest) e = absurd (cc)
 
 module _ {A X : Type 0} (view : X → A) (S : A → Spelling) (c : Cursor) (w : Where) (outcome : Outcome A) (d : Decides S (left c) outcome)
     (g : Licensed 0 w (left c) outcome) (top : w.level ≡ 0) where

@@ -1,5 +1,5 @@
 -- Function types and their parameters: what their readers decide.
-use Rattle.std.proofs.Common.{◌≡◌, Bool, true, false, if◌then◌else◌, List, [], ◌∷◌, codes, Option, Some, None, IsTrue, refl, sym, ap, ◌∙◌, arith}
+use Rattle.std.proofs.Common.{◌≡◌, Bool, true, false, List, [], ◌∷◌, codes, Option, Some, None, IsTrue, refl, sym, ap, ◌∙◌, arith}
 use Rattle.dm_tokens.specs.declared.tokens.Delim.TheVariants.{Paren}
 use Rattle.dm_tokens.specs.declared.tokens.Ident.{Ident}
 use Rattle.dm_tokens.specs.declared.tokens.Literal.{Literal}

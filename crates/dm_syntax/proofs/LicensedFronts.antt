@@ -1,20 +1,17 @@
 -- Where bare paths and metas are refused.
-use Rattle.std.proofs.Common.{◌≡◌, Bool, true, false, if◌then◌else◌, ◌||◌, Ok, Err, refl, arith}
-use Rattle.dm_tokens.specs.declared.error.Kind.{Kind}
-use Rattle.dm_tokens.specs.declared.error.Kind.TheVariants.{TooDeep, Syntax}
-use Rattle.dm_tokens.specs.declared.error.Refusal.{Refusal}
+use Rattle.std.proofs.Common.{Ok, Err, arith}
 use Rattle.dm_tokens.specs.declared.tokens.Delim.TheVariants.{Paren}
 use Rattle.dm_tokens.specs.Trees.{Trees}
 use Rattle.dm_syntax.specs.Tree.{PathTree, absent, segments_of}
 use Rattle.dm_syntax.specs.Spelling.{Where, sees_group, sees_literal, sees_colons}
-use Rattle.dm_syntax.specs.BarePaths.{sees_angled, read_bare_arguments, read_bare_segment, read_bare_segments, read_bare_path}
+use Rattle.dm_syntax.specs.BarePaths.{sees_angled, read_bare_arguments, read_bare_segments, read_bare_path}
 use Rattle.dm_syntax.specs.Readers.{Outcome, mapped, read_any, read_rest, inside_at}
 use Rattle.dm_syntax.specs.TypeReaders.{segment_of, path_of, read_type}
 use Rattle.dm_syntax.specs.Metas.{PathOrKeywordTree, path_meta}
-use Rattle.dm_syntax.specs.MetaReaders.{is_syntax, keyword_of, if_no_path, read_keyword, read_path_or_keyword, read_enclosed, list_of, read_meta_list, list_behind, behind_path, read_meta, lit_of, nested_of, read_lit, read_nested_meta}
+use Rattle.dm_syntax.specs.MetaReaders.{is_syntax, keyword_of, if_no_path, read_keyword, read_path_or_keyword, read_enclosed, list_of, read_meta_list, list_behind, behind_path, read_meta, lit_of, nested_of, read_nested_meta}
 use Rattle.dm_syntax.specs.Places.{Licensed}
 use Rattle.dm_syntax.specs.TypeGrammar.{is_path_word}
-use Rattle.dm_syntax.proofs.Licensing.{Licenses, licensed_any, licensed_gives, licensed_and, licensed_bind, licensed_mapped, licensed_test, licensed_either, licensed_nothing, licensed_any_ident, licensed_ident, licensed_literal, licensed_group, licensed_rest, licensed_chain}
+use Rattle.dm_syntax.proofs.Licensing.{Licenses, licensed_any, licensed_gives, licensed_and, licensed_bind, licensed_test, licensed_either, licensed_nothing, licensed_any_ident, licensed_ident, licensed_literal, licensed_group, licensed_rest, licensed_chain}
 use Rattle.dm_syntax.proofs.LicensedParts.{licensed_leading, licensed_colons}
 use Rattle.dm_syntax.proofs.LicensedTypes.{licensed_angled, licensed_type}
 

@@ -4,7 +4,7 @@ use Rattle.std.proofs.Math.Seq.{take-append_seam}
 use Rattle.dm_tokens.specs.declared.tokens.Span.{Span}
 use Rattle.dm_tokens.specs.declared.tokens.Entry.{Entry}
 use Rattle.dm_tokens.specs.Trees.{Trees, flatten}
-use Rattle.dm_syntax.specs.Spelling.{Where, Marks, Spelling, Nothing, ◌then◌, Then, Provided, Before, RangedAt, range_of, punct, sees, repeated, chain, items, items_left, last_item}
+use Rattle.dm_syntax.specs.Spelling.{Where, Marks, Spelling, Nothing, ◌then◌, Provided, Before, RangedAt, range_of, punct, sees, repeated, chain, items, items_left, last_item}
 use Rattle.dm_syntax.specs.Spelling as spelling
 use Rattle.dm_syntax.specs.Readers.{Outcome, Parser, and_then, ◌next◌, read_punct, turns, list_from, read_list, repeat_from, read_repeated, read_chain, entry_span, last_end, range_over, range_between, ranged}
 use Rattle.dm_syntax.proofs.Deciding.{Covers, Same, Decides, Reader, refused_by, Bound, decides_bind, decides_iff, decides_test, covers_none, no_nothing, pair, pair_is, reads_next}

@@ -1,14 +1,13 @@
 -- Bare paths and metas have the tokens that were read, ranges and spacing aside.
-use Rattle.std.proofs.Common.{◌≡◌, true, false, ◌++◌}
+use Rattle.std.proofs.Common.{true, false}
 use Rattle.dm_tokens.specs.declared.tokens.Delim.TheVariants.{Paren}
 use Rattle.dm_tokens.specs.declared.tokens.Token.TheVariants as t
 use Rattle.dm_tokens.specs.declared.tokens.Span.{Span}
 use Rattle.dm_tokens.specs.Layout.{nowhere}
 use Rattle.dm_tokens.specs.Trees.{Trees, join}
 use Rattle.dm_syntax.specs.Tree.{PathTree, path_tree, SegmentTree, segment, SegmentTrees, no_segments, segment_then, ArgumentsTree, absent, angle, parens}
-use Rattle.dm_syntax.specs.Spelling.{Where, deeper, Marks, Spelling, sees_colons, colons}
+use Rattle.dm_syntax.specs.Spelling.{Where, deeper, Marks, sees_colons, colons}
 use Rattle.dm_syntax.specs.TypeTokens as spell
-use Rattle.dm_syntax.specs.BareTokens.{spelled_of}
 use Rattle.dm_syntax.specs.BarePaths.{bare_arguments, bare_segment, bare_segments, bare_segments_left, bare_path}
 use Rattle.dm_syntax.specs.Metas.{PathOrKeywordTree, a_path, keyword, MetaListTree, MetaTree, path_meta, list_meta, NestedMetaTree, nested, lit, path_or_keyword, meta_list, meta_spelled, nested_meta, path_or_keyword_trees, meta_list_trees, meta_trees, nested_meta_trees}
 use Rattle.dm_syntax.proofs.SpelledBack.{Gives, gives_join, gives_none, gives_token, gives_pair, gives_flag, gives_kept, gives_angle, gives_arguments}

@@ -1,5 +1,5 @@
 -- What the program's readers of metas give, seen by the program's values.
-use Rattle.std.proofs.Common.{◌≡◌, ℕ, Bool, true, Ok, Err, refl, subst, arith}
+use Rattle.std.proofs.Common.{◌≡◌, ℕ, Bool, Ok, Err, refl, subst, arith}
 use Rattle.dm_tokens.specs.declared.tokens.Span.{Span}
 use Rattle.dm_tokens.specs.declared.error.Error.{Error}
 use Rattle.dm_tokens.specs.declared.error.Error.TheVariants as error

@@ -1,8 +1,6 @@
 -- Metas: what their readers decide.
-use Rattle.std.proofs.Common.{◌≡◌, Bool, true, false, if◌then◌else◌, [], ◌++◌, Some, None, Ok, Err, refl, sym, ap, ◌∙◌, subst, append-nil}
+use Rattle.std.proofs.Common.{◌≡◌, Bool, true, false, if◌then◌else◌, [], ◌++◌, Some, Ok, Err, refl, sym, ap, ◌∙◌, subst, append-nil}
 use Rattle.dm_tokens.specs.declared.tokens.Span.{Span}
-use Rattle.dm_tokens.specs.declared.tokens.Ident.{Ident}
-use Rattle.dm_tokens.specs.declared.tokens.Literal.{Literal}
 use Rattle.dm_tokens.specs.declared.tokens.Delim.TheVariants.{Paren}
 use Rattle.dm_tokens.specs.declared.error.Kind.{Kind}
 use Rattle.dm_tokens.specs.declared.error.Kind.TheVariants.{TooDeep, Syntax}
@@ -11,7 +9,7 @@ use Rattle.dm_syntax.specs.Tree.{PathTree, path_tree, SegmentTrees, no_segments,
 use Rattle.dm_syntax.specs.Spelling.{Where, Marks, Spelling, first_too_deep, Nothing, Provided, Before, sees_group, sees_literal, sees_colons, ident, literal, colons, GroupAt}
 use Rattle.dm_syntax.specs.TypeGrammar.{kept}
 use Rattle.dm_syntax.specs.BarePaths.{bare_path, bare_segments, read_bare_path}
-use Rattle.dm_syntax.specs.Readers.{Outcome, Parser, and_then, mapped, read_any, read_literal, read_rest, read_group, inside_at}
+use Rattle.dm_syntax.specs.Readers.{Outcome, Parser, and_then, mapped, read_any, read_literal, read_rest, inside_at}
 use Rattle.dm_syntax.specs.TypeReaders.{read_type}
 use Rattle.dm_syntax.specs.Metas.{PathOrKeywordTree, a_path, keyword, MetaListTree, MetaTree, path_meta, list_meta, NestedMetaTree, nested, lit, NoPath, path_or_keyword, meta_list, meta_spelled, nested_meta, no_keyword, list_no_keyword, meta_no_keyword, nested_no_keyword}
 use Rattle.dm_syntax.specs.MetaReaders.{is_syntax, keyword_of, if_no_path, read_path_or_keyword, read_enclosed, list_of, read_meta_list, list_behind, behind_path, read_meta, lit_of, nested_of, read_nested_meta}

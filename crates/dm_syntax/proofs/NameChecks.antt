@@ -1,11 +1,10 @@
 -- The refusal of a declaration's names by the places where they may not stand.
-use Rattle.std.proofs.Common.{◌≡◌, List, [], Option, Some, None, option_map, find, refl, sym, ap, ◌∙◌}
+use Rattle.std.proofs.Common.{◌≡◌, [], Option, Some, None, option_map, find, refl, sym, ap, ◌∙◌}
 use Rattle.std.proofs.lemmas.Grind.{common_steps}
 use Rattle.dm_tokens.specs.declared.tokens.Span.{Span}
 use Rattle.dm_tokens.specs.declared.error.Refusal.{Refusal}
 use Rattle.dm_tokens.specs.declared.error.Kind.{Kind}
 use Rattle.dm_tokens.specs.declared.error.Kind.TheVariants.{Unsupported, DuplicateName, ReservedName}
-use Rattle.dm_syntax.specs.declared.naming.places.Wanted.{Wanted}
 use Rattle.dm_syntax.specs.declared.naming.places.Wanted.TheVariants.{MacroType, Reserved}
 use Rattle.dm_syntax.specs.Declarations.{Declaration}
 use Rattle.dm_syntax.specs.Names.{Found, found, is_macro, is_again, is_reserved, first_again, range_of, refused_at, names_refusal, Named}

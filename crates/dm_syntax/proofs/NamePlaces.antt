@@ -1,9 +1,10 @@
 -- Places of what is found in parts, one after another.
-use Rattle.std.proofs.Common.{◌≡◌, Bool, true, false, if◌then◌else◌, List, [], ◌∷◌, ◌++◌, Option, Some, None, option_map, find, refl, sym, ap, ◌∙◌}
+use Rattle.std.proofs.Common.{◌≡◌, Bool, true, false, ◌||◌, if◌then◌else◌, List, [], ◌∷◌, ◌++◌, Option, Some, None, option_map, find, refl, ap, ◌∙◌}
 use Rattle.std.specs.Option.{option_or}
 use Rattle.dm_tokens.specs.declared.tokens.Span.{Span}
 use Rattle.dm_syntax.specs.declared.naming.places.Wanted.{Wanted}
-use Rattle.dm_syntax.specs.Names.{Found, range_of}
+use Rattle.dm_syntax.specs.declared.naming.places.Wanted.TheVariants.{MacroType, Reserved, Either}
+use Rattle.dm_syntax.specs.Names.{Found, range_of, is_macro, is_reserved}
 use Rattle.dm_syntax.specs.NamePlaces.{is_wanted, first_place}
 use Rattle.dm_syntax.proofs.View.{view_steps}
 
@@ -19,6 +20,27 @@ places_append w (f ∷ xs) ys =
 pub or_none : (a : Option Span) → option_or a None ≡ a
 or_none None = refl
 or_none (Some s) = refl
+
+no_place : (b c : Bool) (s : Span) (o : Option Span) → (if b || c then Some s else o) ≡ None → ((if b then Some s else o) ≡ None) × ((if c then Some s else o) ≡ None)
+no_place true c s o e = absurd (cc)
+no_place false true s o e = absurd (cc)
+no_place false false s o e = (e, e)
+
+-- behind what isn't found
+later : (b : Bool) (s : Span) (o p : Option Span) → (if b then Some s else o) ≡ None → (o ≡ None → p ≡ None) → (if b then Some s else p) ≡ None
+later true s o p e f = absurd (cc)
+later false s o p e f = f e
+
+-- where there is no place of either kind, there is none of one kind
+pub neither : (w : Wanted) (fs : List Found) → first_place Either fs ≡ None → first_place w fs ≡ None
+neither w [] e = refl
+neither MacroType (f ∷ fs) e =
+    later (is_macro f) (range_of f) (first_place Either fs) (first_place MacroType fs) (no_place (is_macro f) (is_reserved f) (range_of f) (first_place Either fs) e).0
+    (neither MacroType fs)
+neither Reserved (f ∷ fs) e =
+    later (is_reserved f) (range_of f) (first_place Either fs) (first_place Reserved fs) (no_place (is_macro f) (is_reserved f) (range_of f) (first_place Either fs) e).1
+    (neither Reserved fs)
+neither Either (f ∷ fs) e = e
 
 found_by : (b : Bool) (f : Found) (a : Option Span) (o : Option Found) → a ≡ option_map range_of o →
     (if b then Some (range_of f) else a) ≡ option_map range_of (if b then Some f else o)

@@ -7,7 +7,7 @@ use Rattle.dm_tokens.specs.declared.tokens.Ident.{Ident}
 use Rattle.dm_tokens.specs.declared.tokens.Lifetime.{Lifetime}
 use Rattle.dm_syntax.specs.Tree.{Lifetimes, TypeTree, type_tree, TypeNode, paren, tuple, slice, array, reference, pointer, bare_fn, trait_object, impl_trait, infer, never, path, macro_type, TypeTrees, no_types, type_then, MaybeType, no_type, some_type, MaybeSelf, no_self, some_self, BoundTree, outlives, implements, BoundTrees, no_bounds, bound_then, TraitBoundTree, trait_bound, FnTree, fn_tree, InputTree, input, InputTrees, no_inputs, input_then, PathTree, path_tree, SegmentTree, segment, SegmentTrees, no_segments, segment_then, ArgumentsTree, absent, angle, parens, ArgumentTree, lifetime_arg, type_arg, const_arg, assoc_type, assoc_const, constraint, ArgumentTrees, no_arguments, argument_then, MaybeArguments, arguments_absent, some_arguments}
 use Rattle.dm_syntax.specs.Declarations.{Listed, FieldTree, FieldsTree, named, unnamed, unit, VariantTree, ShapeTree, struct_shape, enum_shape, union_shape, ParamTree, lifetime_param, type_param, const_param, PredicateTree, lifetime_predicate, type_predicate, Declaration}
-use Rattle.dm_syntax.specs.Names.{Scope, types, lifetimes, variants, fields, bound, is_shared, Found, macro_at, name_at, is_again, first_again, in_for, in_type, in_node, in_types, in_output, in_self, in_function, in_inputs, in_input, in_bounds, in_bound, in_trait, in_path, in_segments, in_segment, in_segment_arguments, in_arguments, in_argument, in_maybe_arguments, in_some, in_bound_list, declared, in_param, in_predicate, in_where, in_field, in_fields, in_variants, in_shape, found}
+use Rattle.dm_syntax.specs.Names.{types, lifetimes, variants, fields, bound, Found, macro_at, name_at, is_again, first_again, in_for, in_type, in_node, in_types, in_output, in_self, in_function, in_inputs, in_input, in_bounds, in_bound, in_trait, in_path, in_segments, in_segment, in_segment_arguments, in_arguments, in_argument, in_maybe_arguments, in_some, in_bound_list, declared, in_param, in_predicate, in_where, in_field, in_fields, in_variants, in_shape, found}
 
 abbrev pub is_own : Found → Bool
 is_own (macro_at range) = false

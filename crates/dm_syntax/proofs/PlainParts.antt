@@ -102,15 +102,15 @@ reads_kept w (token k rest) = λ v o m s. let e = s.spelled in absurd (cc)
 some_left : (ts : Trees) → at_end ts ≡ false → ts ≡ no_trees → ⊥
 some_left ts e n = let f : at_end ts ≡ true = ap at_end n in absurd (cc)
 
-no_left : (ts : Trees) → at_end ts ≡ true → ts ≡ no_trees
-no_left no_trees e = refl
-no_left (token k rest) e = absurd (cc)
-no_left (group d from inside upto rest) e = absurd (cc)
+pub nothing_left : (ts : Trees) → at_end ts ≡ true → ts ≡ no_trees
+nothing_left no_trees e = refl
+nothing_left (token k rest) e = absurd (cc)
+nothing_left (group d from inside upto rest) e = absurd (cc)
 
 pub reads_opaque : (w : Where) → Reader (opaque w) (read_opaque w)
 reads_opaque w ts =
     decides_test (opaque w) ts (at_end ts) (refuse w ts) (mapped opaque_of (read_rest w ts))
-    (λ e x o m s. s.fact (sym s.part.part.spelled ∙ no_left ts e))
+    (λ e x o m s. s.fact (sym s.part.part.spelled ∙ nothing_left ts e))
     (λ e.
     decides_by opaque_of (λ s. kept s w) (opaque w) ts
     (λ x o m s. record { fact = λ n. some_left ts e (s.part.spelled ∙ n); part = record { fact = s.fact; part = s.part } })

@@ -1,5 +1,5 @@
 -- `*const T` and `*mut T`: what their reader decides.
-use Rattle.std.proofs.Common.{◌≡◌, Bool, true, false, if◌then◌else◌, codes, refl, sym, ap, ◌∙◌, arith}
+use Rattle.std.proofs.Common.{◌≡◌, Bool, true, false, codes, refl, sym, ap, ◌∙◌, arith}
 use Rattle.dm_tokens.specs.Trees.{Trees}
 use Rattle.dm_syntax.specs.declared.read.kind.NodeKind.TheVariants as kind
 use Rattle.dm_syntax.specs.declared.read.kind.Mode.{Mode}

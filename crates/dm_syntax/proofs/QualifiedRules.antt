@@ -1,5 +1,5 @@
 -- Qualified paths, `<T as Trait>::Name`: what their reader decides, where the readers of generic arguments decide those.
-use Rattle.std.proofs.Common.{◌≡◌, ℕ, zero, suc, ◌<◌, Bool, true, false, if◌then◌else◌, ◌&&◌, nat_eq, List, [], ◌∷◌, ◌++◌, length, codes, Option, Some, None, refl, sym, ap, ap₂, ◌∙◌, subst, arith}
+use Rattle.std.proofs.Common.{◌≡◌, ℕ, zero, suc, ◌<◌, Bool, true, false, ◌&&◌, nat_eq, List, [], ◌∷◌, ◌++◌, length, codes, Option, Some, None, refl, sym, ap, ap₂, ◌∙◌, subst, arith}
 use Rattle.dm_tokens.specs.Trees.{Trees}
 use Rattle.dm_syntax.specs.declared.read.kind.NodeKind.TheVariants as kind
 use Rattle.dm_syntax.specs.declared.read.kind.Mode.{Mode}

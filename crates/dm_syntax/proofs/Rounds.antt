@@ -1,5 +1,5 @@
 -- One type without a comma in parentheses, and a tuple.
-use Rattle.std.proofs.Common.{◌≡◌, ◌≢◌, ℕ, suc, Bool, true, false, List, [], ◌∷◌, ◌++◌, length, map, Some, refl, ap, arith}
+use Rattle.std.proofs.Common.{◌≡◌, ◌≢◌, suc, Bool, true, false, List, [], ◌∷◌, ◌++◌, length, map, Some, refl, ap, arith}
 use Rattle.std.proofs.lemmas.Grind.{common_steps}
 use Rattle.std.specs.Option.{option_to_list}
 use Rattle.dm_syntax.specs.declared.ty.Ty.{Ty}

@@ -1,10 +1,9 @@
 -- Types that are the same part for part have the same tokens.
-use Rattle.std.proofs.Common.{◌≡◌, ℕ, Bool, true, false, cond, not, ◌&&◌, ◌==◌, nat_eq, List, [], ◌∷◌, ◌++◌, map, take, drop, codes, Option, Some, None, refl, sym, ap, ap₂, ◌∙◌, append_assoc}
+use Rattle.std.proofs.Common.{◌≡◌, ℕ, Bool, true, false, cond, ◌&&◌, ◌==◌, nat_eq, List, [], ◌∷◌, ◌++◌, map, take, drop, codes, Option, Some, None, refl, sym, ap, ap₂, ◌∙◌, append_assoc}
 use Rattle.std.proofs.lemmas.Bool.{eqb-true}
 use Rattle.std.proofs.lemmas.List.{map-append, take-map, drop-map}
 use Rattle.std.proofs.lemmas.Slice.Eq.{bytes_eq-Decides}
 use Rattle.std.specs.Str.{bytes_eq}
-use Rattle.dm_tokens.specs.declared.seq.Punctuated.{Punctuated}
 use Rattle.dm_tokens.specs.declared.tokens.Span.{Span}
 use Rattle.dm_tokens.specs.declared.tokens.Delim.{Delim}
 use Rattle.dm_tokens.specs.declared.tokens.Delim.TheVariants.{Paren, Bracket, Brace}
@@ -21,7 +20,6 @@ use Rattle.dm_tokens.specs.declared.tokens.Entry.{Entry}
 use Rattle.dm_tokens.specs.declared.tokens.Entry.TheVariants as entry
 use Rattle.dm_tokens.specs.Trees.{Trees, no_trees, token, group, join, flatten, Stream}
 use Rattle.dm_tokens.specs.Cursors.{same_delim}
-use Rattle.dm_syntax.specs.declared.plain.Opaque.{Opaque}
 use Rattle.dm_syntax.specs.declared.plain.PlainPath.{PlainPath}
 use Rattle.dm_syntax.specs.declared.plain.AttrArgs.{AttrArgs}
 use Rattle.dm_syntax.specs.declared.plain.AttrArgs.TheVariants as args
@@ -31,7 +29,7 @@ use Rattle.dm_syntax.specs.declared.plain.ConstArg.TheVariants as constant
 use Rattle.dm_syntax.specs.Tree.{Lifetimes, TypeTree, type_tree, TypeNode, paren, tuple, slice, array, reference, pointer, bare_fn, trait_object, impl_trait, infer, never, path, macro_type, TypeTrees, no_types, type_then, MaybeType, no_type, some_type, MaybeSelf, no_self, some_self, BoundTree, outlives, implements, BoundTrees, no_bounds, bound_then, TraitBoundTree, trait_bound, FnTree, fn_tree, InputTree, input, InputTrees, no_inputs, input_then, PathTree, path_tree, SegmentTree, segment, SegmentTrees, no_segments, segment_then, ArgumentsTree, absent, angle, parens, ArgumentTree, lifetime_arg, type_arg, const_arg, assoc_type, assoc_const, constraint, ArgumentTrees, no_arguments, argument_then, MaybeArguments, arguments_absent, some_arguments}
 use Rattle.dm_syntax.specs.TypeTokens as spell
 use Rattle.dm_syntax.specs.BareTokens.{Bare, bare_name, bare_lifetime, bare_literal, bare_punct, opening, closing, bare, tokens_of}
-use Rattle.dm_syntax.specs.SameTypes.{same_flag, same_option, all_same, same_list, same_name, same_lifetime, kind_number, same_literal, same_spacing, same_token, same_entry, same_stream, same_lifetimes, same_plain, same_args, same_attribute, same_constant, same_abi, same_type, same_node, same_types, same_maybe_type, same_self, same_bound, same_bounds, same_trait_bound, same_fn, same_input, same_inputs, same_path, same_segments, same_segment, same_arguments_of, same_argument, same_arguments, same_maybe_arguments}
+use Rattle.dm_syntax.specs.SameTypes.{same_flag, same_option, all_same, same_name, same_lifetime, kind_number, same_literal, same_spacing, same_token, same_entry, same_stream, same_lifetimes, same_plain, same_args, same_attribute, same_constant, same_abi, same_type, same_node, same_types, same_maybe_type, same_self, same_bound, same_bounds, same_trait_bound, same_fn, same_input, same_inputs, same_path, same_segments, same_segment, same_arguments_of, same_argument, same_arguments, same_maybe_arguments}
 
 abbrev pub Same : Trees → Trees → Type 0
 Same ts us = tokens_of ts ≡ tokens_of us

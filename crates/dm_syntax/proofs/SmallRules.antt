@@ -1,5 +1,5 @@
 -- The rules of types that hold one part: what their readers decide.
-use Rattle.std.proofs.Common.{◌≡◌, Bool, true, false, if◌then◌else◌, codes, refl, sym, ◌∙◌}
+use Rattle.std.proofs.Common.{◌≡◌, Bool, true, false, codes, refl, sym, ◌∙◌}
 use Rattle.dm_tokens.specs.declared.tokens.Delim.{Delim}
 use Rattle.dm_tokens.specs.Trees.{Trees, Stream}
 use Rattle.dm_syntax.specs.declared.plain.PlainPath.{PlainPath}

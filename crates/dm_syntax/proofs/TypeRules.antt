@@ -1,5 +1,5 @@
 -- The rules of types: what their readers decide, where the readers of the types in them decide those.
-use Rattle.std.proofs.Common.{◌≡◌, ℕ, ◌<◌, Bool, true, false, not, if◌then◌else◌, [], ◌++◌, codes, Option, Some, None, refl, sym, ap, ◌∙◌, subst, append-nil, arith}
+use Rattle.std.proofs.Common.{◌≡◌, ℕ, ◌<◌, Bool, true, false, not, [], ◌++◌, codes, Option, Some, None, refl, sym, ap, ◌∙◌, subst, append-nil, arith}
 use Rattle.dm_tokens.specs.declared.tokens.Delim.TheVariants.{Paren, Bracket}
 use Rattle.dm_tokens.specs.declared.tokens.Lifetime.{Lifetime}
 use Rattle.dm_tokens.specs.Trees.{Trees, no_trees}

@@ -1,10 +1,10 @@
 -- Bare paths: paths none of whose own segments has a list in parentheses. So a group in parentheses may follow one. The types between
 -- its `<` and `>` are as free as elsewhere.
-use Rattle.std.specs.Prelude.{◌≡◌, ℕ, Bool, false, if◌then◌else◌, ◌||◌, List, Ok}
+use Rattle.std.specs.Prelude.{◌≡◌, Bool, false, if◌then◌else◌, ◌||◌, List, Ok}
 use Rattle.dm_tokens.specs.Trees.{Trees}
 use Rattle.dm_syntax.specs.declared.read.kind.Mode.{Mode}
 use Rattle.dm_syntax.specs.Tree.{TypeTree, PathTree, path_tree, SegmentTree, segment, SegmentTrees, no_segments, segment_then, segments_of, ArgumentsTree, absent, angle, parens}
-use Rattle.dm_syntax.specs.Spelling.{Where, deeper, Spelling, Nothing, ◌then◌, Provided, Before, sees, sees_colons, colons, flag}
+use Rattle.dm_syntax.specs.Spelling.{Where, Spelling, Nothing, ◌then◌, Provided, Before, sees, sees_colons, colons, flag}
 use Rattle.dm_syntax.specs.TypeGrammar.{word, is_path_word, sees_turbofish, between_angles, arguments}
 use Rattle.dm_syntax.specs.Readers.{Parser, ◌and◌, ◌gives◌, read_ident, read_colons, read_chain}
 use Rattle.dm_syntax.specs.PlainReaders.{read_leading}

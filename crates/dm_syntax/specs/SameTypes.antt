@@ -14,15 +14,16 @@ use Rattle.dm_tokens.specs.declared.tokens.Token.{Token}
 use Rattle.dm_tokens.specs.declared.tokens.Token.TheVariants as t
 use Rattle.dm_tokens.specs.declared.tokens.Entry.{Entry}
 use Rattle.dm_tokens.specs.declared.tokens.Entry.TheVariants as entry
-use Rattle.dm_tokens.specs.Trees.{flatten, Stream}
+use Rattle.dm_tokens.specs.Trees.{Trees, flatten, Stream}
 use Rattle.dm_tokens.specs.Cursors.{same_delim}
-use Rattle.dm_syntax.specs.declared.plain.Opaque.{Opaque}
 use Rattle.dm_syntax.specs.declared.plain.PlainPath.{PlainPath}
 use Rattle.dm_syntax.specs.declared.plain.AttrArgs.{AttrArgs}
 use Rattle.dm_syntax.specs.declared.plain.AttrArgs.TheVariants as args
 use Rattle.dm_syntax.specs.declared.plain.Attribute.{Attribute}
 use Rattle.dm_syntax.specs.declared.plain.ConstArg.{ConstArg}
 use Rattle.dm_syntax.specs.declared.plain.ConstArg.TheVariants as constant
+use Rattle.dm_syntax.specs.Spelling.{Where, Marks, first_too_deep}
+use Rattle.dm_syntax.specs.TypeGrammar.{type_spelled}
 use Rattle.dm_syntax.specs.Tree.{Lifetimes, TypeTree, type_tree, TypeNode, paren, tuple, slice, array, reference, pointer, bare_fn, trait_object, impl_trait, infer, never, path, macro_type, TypeTrees, no_types, type_then, MaybeType, no_type, some_type, MaybeSelf, no_self, some_self, BoundTree, outlives, implements, BoundTrees, no_bounds, bound_then, TraitBoundTree, trait_bound, FnTree, fn_tree, InputTree, input, InputTrees, no_inputs, input_then, PathTree, path_tree, SegmentTree, segment, SegmentTrees, no_segments, segment_then, ArgumentsTree, absent, angle, parens, ArgumentTree, lifetime_arg, type_arg, const_arg, assoc_type, assoc_const, constraint, ArgumentTrees, no_arguments, argument_then, MaybeArguments, arguments_absent, some_arguments}
 
 -- ---- truth values, options and lists
@@ -213,3 +214,15 @@ abbrev mutual
   same_maybe_arguments arguments_absent arguments_absent = true
   same_maybe_arguments (some_arguments gs a) (some_arguments hs b) = same_arguments gs hs && same_flag a b
   same_maybe_arguments _ _ = false
+
+-- ---- types that are read somewhere
+
+-- some trees spell the type, within the deepest level, at whatever place, and whatever follows it
+pub record IsSpelled (t : TypeTree) : Type 0 where
+  pub single : Bool
+  pub place : Where
+  pub trees : Trees
+  pub others : Trees
+  pub marks : Marks
+  pub spelled : type_spelled t single place trees others marks
+  pub within : first_too_deep marks ≡ None

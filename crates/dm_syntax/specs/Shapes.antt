@@ -1,5 +1,5 @@
 -- What the lent parts of a type and of a generic argument are as plain data.
-use Rattle.std.specs.Prelude.{Bool, true, List, map}
+use Rattle.std.specs.Prelude.{Bool, true, map}
 use Rattle.dm_syntax.specs.declared.same_types.Shape.{Shape}
 use Rattle.dm_syntax.specs.declared.same_types.Shape.TheVariants as s
 use Rattle.dm_syntax.specs.declared.same_types.Given.{Given}

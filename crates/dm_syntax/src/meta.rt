@@ -40,7 +40,7 @@ pub enum NestedMeta<'a> {
     Lit(Literal<'a>),
 }
 
-/// Reads the tokens of a list.
+/// Reads the tokens of a list, as an attribute's own syntax wants them.
 pub trait ArgReader<'a> {
     /// What the tokens are read as.
     type Output;
@@ -166,6 +166,9 @@ fn write_list<'a>(
 
 impl<'a> MetaList<'a> {
     /// The one that the trees begin with, and the place behind it.
+    ///
+    /// The refusal is `Kind::Syntax` at the first tree, or where the list ends, where none begins there, or `Kind::TooDeep` at the
+    /// first token of a path that stands deeper than level 128, both in bytes of the text that the trees were read from.
     pub fn parse<'t>(
         alloc: Global,
         c: Cursor<'t, 'a>,
@@ -181,7 +184,7 @@ impl<'a> MetaList<'a> {
         }
     }
 
-    /// What a reader answers to all of the tokens.
+    /// What a reader answers to all of the tokens. Its errors are handed on.
     pub fn parse_args_with<R: ArgReader<'a>>(
         &self,
         alloc: Global,
@@ -204,6 +207,9 @@ impl<'a> MetaList<'a> {
 
 impl<'a> Meta<'a> {
     /// The one that the trees begin with, and the place behind it.
+    ///
+    /// The refusal is `Kind::Syntax` at the first tree, or where the list ends, where none begins there, or `Kind::TooDeep` at the
+    /// first token of a path that stands deeper than level 128, both in bytes of the text that the trees were read from.
     pub fn parse<'t>(alloc: Global, c: Cursor<'t, 'a>) -> Result<(Meta<'a>, Cursor<'t, 'a>), Error>
         requires { sound c }
         ensures found { IfOk result (λ r. IsFront (λ m. metas.meta_spelled m (place 0 c.entry)) (left c.entry) (metas.meta_view r.0) (left r.1)) }
@@ -235,6 +241,9 @@ impl<'a> Meta<'a> {
 
 impl<'a> NestedMeta<'a> {
     /// The one that the trees begin with, and the place behind it.
+    ///
+    /// The refusal is `Kind::Syntax` at the first tree, or where the list ends, where none begins there, or `Kind::TooDeep` at the
+    /// first token of a path that stands deeper than level 128, both in bytes of the text that the trees were read from.
     pub fn parse<'t>(
         alloc: Global,
         c: Cursor<'t, 'a>,

@@ -25,7 +25,11 @@ use crate::ty::{Path, Ty};
 use dm_tokens::{Cursor, Error, Punctuated};
 use std::alloc::Global;
 
-/// The longest type that the trees begin with, and the place behind it.
+/// The longest type that the trees begin with (Rust Reference, Types), and the place behind it. What could go on has to: `a < 3`
+/// begins with no type.
+///
+/// The refusal is `Kind::Syntax` where the trees begin with no type, or `Kind::TooDeep` at the first token that stands deeper than
+/// level 128. Its range is that of a token, or the empty one where a list ends, in bytes of the text that the trees were read from.
 pub fn parse_type<'t, 'a>(
     alloc: Global,
     c: Cursor<'t, 'a>,
@@ -38,7 +42,10 @@ pub fn parse_type<'t, 'a>(
     ty(alloc, 0, c)
 }
 
-/// The longest path that the trees begin with and that has no list in parentheses of its own, and the place behind it.
+/// The longest path that the trees begin with and that has no list in parentheses of its own, and the place behind it. So a group in
+/// parentheses may follow, as in an attribute.
+///
+/// The refusals are those of `parse_type`, for a path.
 pub fn parse_path<'t, 'a>(
     alloc: Global,
     c: Cursor<'t, 'a>,
@@ -94,7 +101,9 @@ fn predicates<'t, 'a>(
     listed(alloc, &PredicateRule { alloc }, ',', Stop::End, 0, c)
 }
 
-/// The predicates that the trees are, all of them, with commas between and perhaps one behind the last.
+/// The predicates that the trees are, all of them, with commas between and perhaps one behind the last (Rust Reference, Where clauses).
+///
+/// The refusals are those of `parse_type`, for such a list; `Kind::Syntax` also where more is left behind it.
 pub fn parse_predicates<'t, 'a>(
     alloc: Global,
     c: Cursor<'t, 'a>,

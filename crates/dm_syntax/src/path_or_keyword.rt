@@ -126,6 +126,9 @@ fn path_ident<'p, 'a>(path: &'p Path<'a>) -> Option<&'p Ident<'a>>
 
 impl<'a> PathOrKeyword<'a> {
     /// The one that the trees begin with, and the place behind it.
+    ///
+    /// The refusal is `Kind::Syntax` at the first tree, or where the list ends, where none begins there, or `Kind::TooDeep` at the
+    /// first token of a path that stands deeper than level 128, both in bytes of the text that the trees were read from.
     pub fn parse<'t>(
         alloc: Global,
         c: Cursor<'t, 'a>,

@@ -85,10 +85,13 @@ fn shape_of<'x, 'a>(node: &'x TyNode<'a>) -> Shape<'x, 'a>
 }
 
 /// Whether two types have the same tokens, wherever these stand. Spacing counts only between tokens that are not read.
+/// The answer is yes exactly for the same tokens where both types were read, by whichever call.
 #[cycle(same)]
 pub fn type_eq(a: &Ty<'_>, b: &Ty<'_>) -> bool
     ensures is { result ≡ same.same_type (ty_view a.now) (ty_view b.now) }
     ensures tokens { IsTrue result → tokens_of (type_trees (ty_view a.now)) ≡ tokens_of (type_trees (ty_view b.now)) }
+    ensures spelled { same.IsSpelled (ty_view a.now) → same.IsSpelled (ty_view b.now) →
+        tokens_of (type_trees (ty_view a.now)) ≡ tokens_of (type_trees (ty_view b.now)) → IsTrue result }
 {
     node_eq(&a.node, &b.node)
 }

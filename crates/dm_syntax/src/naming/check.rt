@@ -6,7 +6,7 @@ ghost use Rattle.dm_syntax.specs.Declarations.{declaration_view};
 ghost use Rattle.dm_syntax.specs.Names.{Named, names_refusal};
 
 use crate::decl::DeriveInput;
-use crate::naming::declarations::in_declaration;
+use crate::naming::declarations::{in_declaration, place_of};
 use crate::naming::places::Wanted;
 use crate::naming::repeats::repeated_name;
 use dm_tokens::{Kind, Refusal};
@@ -19,7 +19,8 @@ use dm_tokens::{Kind, Refusal};
 pub fn check_names(input: &DeriveInput<'_>) -> Result<(), Refusal>
     ensures { MatchResult result (λ _. Named (declaration_view input.now)) (λ r. names_refusal (declaration_view input.now) ≡ Some r) }
 {
-    if let Some(span) = in_declaration(Wanted::MacroType, input) {
+    let any = in_declaration(Wanted::Either, input);
+    if let Some(span) = place_of(Wanted::MacroType, any, input) {
         let kind = Kind::Unsupported;
         return Err(Refusal { kind, span });
     }
@@ -27,7 +28,7 @@ pub fn check_names(input: &DeriveInput<'_>) -> Result<(), Refusal>
         let kind = Kind::DuplicateName;
         return Err(Refusal { kind, span });
     }
-    if let Some(span) = in_declaration(Wanted::Reserved, input) {
+    if let Some(span) = place_of(Wanted::Reserved, any, input) {
         let kind = Kind::ReservedName;
         return Err(Refusal { kind, span });
     }

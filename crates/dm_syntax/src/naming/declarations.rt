@@ -6,6 +6,7 @@ ghost use Rattle.dm_syntax.specs.Tree.{ty_view, bound_view};
 ghost use Rattle.dm_syntax.specs.Declarations as tree;
 ghost use Rattle.dm_syntax.specs.Names as names;
 ghost use Rattle.dm_syntax.specs.NamePlaces.{first_place};
+ghost use Rattle.dm_syntax.specs.declared.naming.places.Wanted.TheVariants.{Either};
 
 use crate::decl::{Data, DeriveInput, Field, Fields, GenericParam, Variant, WherePredicate};
 use crate::naming::places::{Wanted, in_bounds, in_for, in_type, plain_place};
@@ -18,7 +19,7 @@ fn type_name(wanted: Wanted, ident: &Ident<'_>) -> Option<Span>
 {
     match wanted {
         Wanted::MacroType => None,
-        Wanted::Reserved => {
+        Wanted::Reserved | Wanted::Either => {
             if is_same(&ident.name, "derive_more") {
                 Some(ident.span)
             } else {
@@ -183,4 +184,16 @@ pub(crate) fn in_declaration(wanted: Wanted, input: &DeriveInput<'_>) -> Option<
     let params = in_params(wanted, input.generics.params.items.as_slice());
     let shape = in_shape(wanted, &input.shape, &input.generics.where_clause);
     type_name(wanted, &input.ident).or(params.or(shape))
+}
+
+/// The first such place in a declaration, where it is known whether there is any place of either kind.
+#[tactic(auto, using(crate::proofs::NamePlaces::neither))]
+pub(crate) fn place_of(wanted: Wanted, any: Option<Span>, input: &DeriveInput<'_>) -> Option<Span>
+    requires { any ≡ first_place Either (names.found (tree.declaration_view input.now)) }
+    ensures { result ≡ first_place wanted (names.found (tree.declaration_view input.now)) }
+{
+    match any {
+        None => None,
+        Some(_) => in_declaration(wanted, input),
+    }
 }

@@ -17,7 +17,7 @@ ghost use Rattle.dm_syntax.specs.Repeats as spec;
 ghost use Rattle.dm_syntax.specs.SeenNames.{was_seen, label_seen, param_seen};
 
 use crate::decl::{Data, DeriveInput, Field, Fields, GenericParam, Variant};
-use crate::naming::declarations::in_declaration;
+use crate::naming::declarations::{in_declaration, place_of};
 use crate::naming::places::Wanted;
 use crate::naming::repeats::place_if;
 use dm_tokens::{Error, Ident, Kind, Refusal, Span};
@@ -165,7 +165,8 @@ fn repeated_name(alloc: Global, input: &DeriveInput<'_>) -> Result<Option<Span>,
 pub fn check_many_names(alloc: Global, input: &DeriveInput<'_>) -> Result<(), Error>
     ensures { MatchResult result (λ _. Named (declaration_view input.now)) (IsNamesError (declaration_view input.now)) }
 {
-    if let Some(span) = in_declaration(Wanted::MacroType, input) {
+    let any = in_declaration(Wanted::Either, input);
+    if let Some(span) = place_of(Wanted::MacroType, any, input) {
         let kind = Kind::Unsupported;
         return Err(Error::Refused(Refusal { kind, span }));
     }
@@ -173,7 +174,7 @@ pub fn check_many_names(alloc: Global, input: &DeriveInput<'_>) -> Result<(), Er
         let kind = Kind::DuplicateName;
         return Err(Error::Refused(Refusal { kind, span }));
     }
-    if let Some(span) = in_declaration(Wanted::Reserved, input) {
+    if let Some(span) = place_of(Wanted::Reserved, any, input) {
         let kind = Kind::ReservedName;
         return Err(Error::Refused(Refusal { kind, span }));
     }

@@ -35,13 +35,15 @@ pub(crate) enum Wanted {
     MacroType,
     /// Reserved names.
     Reserved,
+    /// Any of these.
+    Either,
 }
 
 fn macro_place(wanted: Wanted, span: Span) -> Option<Span>
     ensures { result ≡ first_place wanted (names.macro_at span ∷ []) }
 {
     match wanted {
-        Wanted::MacroType => Some(span),
+        Wanted::MacroType | Wanted::Either => Some(span),
         Wanted::Reserved => None,
     }
 }
@@ -52,7 +54,7 @@ pub(crate) fn plain_place(wanted: Wanted, name: &str, span: Span) -> Option<Span
 {
     match wanted {
         Wanted::MacroType => None,
-        Wanted::Reserved => {
+        Wanted::Reserved | Wanted::Either => {
             if name.starts_with("__") {
                 Some(span)
             } else {

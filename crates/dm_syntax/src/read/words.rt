@@ -30,17 +30,26 @@ pub(crate) fn is_name(ident: &Ident<'_>) -> bool
     !is_same(&ident.name, "_") && (ident.raw || !is_keyword(ident.name.as_str()))
 }
 
-#[tactic(auto, unfolding(crate::specs::Keywords::is_keyword))]
+// The shortest keywords have two letters, and the longest eight.
+#[tactic(auto, unfolding(crate::specs::Keywords::is_keyword), using(crate::proofs::KeywordSizes::size_steps))]
 fn is_keyword(name: &str) -> bool
     ensures { result ≡ spells.is_keyword name.now }
 {
+    if name.len() < 2 {
+        return false;
+    }
+    if name.len() > 8 {
+        return false;
+    }
     is_listed(name, &KEYWORDS)
 }
 
 fn is_listed(name: &str, words: &[&str]) -> bool
     ensures { result ≡ list_any (λ w. bytes_eq name.now w.now) words.now }
 {
-    words.iter().any(|word| name == *word)
+    words
+        .iter()
+        .any(|word| name.len() == word.len() && name == *word)
 }
 
 /// Whether an identifier may stand in a path of a type.

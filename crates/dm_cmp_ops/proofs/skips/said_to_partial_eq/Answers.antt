@@ -1,5 +1,9 @@
-use Rattle.dm_cmp_ops.proofs.SkipSteps.{unheard, heard_yes, heard_bad}
+use Rattle.std.proofs.Common.{sym, ◌∙◌}
+use Rattle.dm_cmp_ops.proofs.SkipSteps.{nothing_refused, unheard, heard_yes, heard_bad}
 use Rattle.dm_cmp_ops.proofs.skips.said_to_partial_eq.Goals as goal
+
+pub returns-then-is_empty-clause-refusal : goal.returns-then-is_empty-clause-refusal
+returns-then-is_empty-clause-refusal c = sym (nothing_refused c.args.attrs.now (sym c.is_empty.ensures ∙ c.if-is_empty.true))
 
 pub returns-in-No-clause-refusal : goal.returns-in-No-clause-refusal
 returns-in-No-clause-refusal c =

@@ -1,14 +1,18 @@
 -- The tokens of types that are the same part for part.
-use Rattle.std.proofs.Common.{◌≡◌, Bool, true, false, ◌&&◌, map, refl, sym, ap, ap₂, ◌∙◌}
+use Rattle.std.proofs.Common.{◌≡◌, true, ◌&&◌, map, sym, ap, ap₂, ◌∙◌}
 use Rattle.dm_syntax.specs.Tree.{bound_view, argument_view, maybe_arguments_view, bounds_of, arguments_of}
 use Rattle.dm_syntax.specs.SameTypes.{same_name, same_flag, same_bounds, same_arguments, same_maybe_arguments}
 use Rattle.dm_syntax.specs.Shapes.{given_view, same_binding}
 use Rattle.dm_syntax.proofs.Comparing.{same_tokens, constraint_is}
+use Rattle.dm_syntax.proofs.SameSpelled.{same_read}
 use Rattle.dm_syntax.proofs.same_types.+same.Goals.{binding_eq-then-alike-4, binding_eq-else-alike-4}
 use Rattle.dm_syntax.proofs.same_types.+same.Goals as goal
 
 pub type_eq-returns-clause-tokens : goal.type_eq-returns-clause-tokens
 type_eq-returns-clause-tokens t c = λ h. same_tokens c.args.a.now c.args.b.now c.node_eq.result c.node_eq.ensures h
+
+pub type_eq-returns-clause-spelled : goal.type_eq-returns-clause-spelled
+type_eq-returns-clause-spelled t c = λ h g e. same_read c.args.a.now c.args.b.now c.node_eq.result c.node_eq.ensures h g e
 
 -- constraints without `<` and `>`
 pub binding_eq-returns-then-alike-3 : goal.binding_eq-returns-then-alike-3

@@ -1,6 +1,6 @@
 -- What is found, and where none begins.
 use Rattle.std.proofs.Common.{sym, subst}
-use Rattle.dm_tokens.specs.Cursors.{left, end_of}
+use Rattle.dm_tokens.specs.Cursors.{left}
 use Rattle.dm_syntax.specs.Metas.{nested_meta_view, nested_meta, nested_no_keyword, NoMeta}
 use Rattle.dm_syntax.specs.MetaReaders.{read_nested_meta}
 use Rattle.dm_syntax.specs.Readers.{place}

@@ -4,19 +4,19 @@ use Rattle.dm_syntax.proofs.NameChecks.{macro_refused, again_refused, reserved_r
 use Rattle.dm_syntax.proofs.naming.many.check_many_names.Goals as goal
 
 pub returns-in-Some : goal.returns-in-Some
-returns-in-Some c = macro_refused (declaration_view c.args.input.now) c.in-Some.span (sym c.in_declaration.ensures ∙ c.in-Some.is)
+returns-in-Some c = macro_refused (declaration_view c.args.input.now) c.in-Some.span (sym c.place_of.ensures ∙ c.in-Some.is)
 
 pub returns-in-Some-2 : goal.returns-in-Some-2
 returns-in-Some-2 c =
-    again_refused (declaration_view c.args.input.now) c.in-Some-2.span (sym c.in_declaration.ensures ∙ c.in_default.is)
+    again_refused (declaration_view c.args.input.now) c.in-Some-2.span (sym c.place_of.ensures ∙ c.in_default.is)
     (sym c.in_ok-span.ensures ∙ c.in-Some-2.is)
 
-pub returns-in-Some-in_declaration : goal.returns-in-Some-in_declaration
-returns-in-Some-in_declaration c =
-    reserved_refused (declaration_view c.args.input.now) c.in-Some-in_declaration.span (sym c.in_declaration.ensures ∙ c.in_default.is)
-    (sym c.in_ok-span.ensures ∙ c.in_default-2.is) (sym c.in_declaration-2.ensures ∙ c.in-Some-in_declaration.is)
+pub returns-in-Some-place_of : goal.returns-in-Some-place_of
+returns-in-Some-place_of c =
+    reserved_refused (declaration_view c.args.input.now) c.in-Some-place_of.span (sym c.place_of.ensures ∙ c.in_default.is)
+    (sym c.in_ok-span.ensures ∙ c.in_default-2.is) (sym c.place_of-2.ensures ∙ c.in-Some-place_of.is)
 
 pub returns : goal.returns
 returns c =
-    names_stand (declaration_view c.args.input.now) (sym c.in_declaration.ensures ∙ c.in_default.is) (sym c.in_ok-span.ensures ∙ c.in_default-2.is)
-    (sym c.in_declaration-2.ensures ∙ c.in_default-in_declaration.is)
+    names_stand (declaration_view c.args.input.now) (sym c.place_of.ensures ∙ c.in_default.is) (sym c.in_ok-span.ensures ∙ c.in_default-2.is)
+    (sym c.place_of-2.ensures ∙ c.in_default-place_of.is)

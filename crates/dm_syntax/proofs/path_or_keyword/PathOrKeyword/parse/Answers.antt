@@ -1,6 +1,6 @@
 -- What is found, and where none begins.
 use Rattle.std.proofs.Common.{sym, subst}
-use Rattle.dm_tokens.specs.Cursors.{left, end_of}
+use Rattle.dm_tokens.specs.Cursors.{left}
 use Rattle.dm_syntax.specs.Metas.{path_or_keyword_view, path_or_keyword, no_keyword, NoMeta}
 use Rattle.dm_syntax.specs.MetaReaders.{read_path_or_keyword}
 use Rattle.dm_syntax.specs.Readers.{place}
