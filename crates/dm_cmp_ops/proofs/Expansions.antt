@@ -1,6 +1,7 @@
 -- The emitted implementation is one of `PartialEq`, and the premises of its laws hold of what is read.
-use Rattle.std.proofs.Common.{◌≡◌, ℕ, List, [], ◌∷◌, map, true, false, cond, Result, Ok, Err, refl, sym, subst, codes}
-use Rattle.std.specs.Prelude.{IfOk}
+use Rattle.std.proofs.Common.{◌≡◌, ℕ, List, [], ◌∷◌, map, true, false, cond, Result, Ok, Err, refl, sym, ap, ◌∙◌, subst, codes}
+use Rattle.std.specs.Prelude.{IfOk, String, string_bytes}
+use Rattle.std.specs.declared.alloc.Global.{Global}
 use Rattle.dm_syntax.specs.Declarations.{Declaration}
 use Rattle.dm_emit.specs.declared.print.Expansion.{Expansion}
 use Rattle.dm_emit.specs.Output.{ItemTree, item_view}
@@ -12,7 +13,7 @@ use Rattle.dm_cmp_ops.specs.Direct.{Gives, direct_eq, direct_ne}
 use Rattle.dm_cmp_ops.specs.Heads.{IsComparison, AreMethods, IsPartialEq, some_compared}
 use Rattle.dm_cmp_ops.specs.Emitted.{item, method, method_name, methods}
 use Rattle.dm_cmp_ops.specs.Named.{AreNamed, AreSmall}
-use Rattle.dm_cmp_ops.specs.Expanded.{IsExpanded, IsReadable}
+use Rattle.dm_cmp_ops.specs.Expanded.{IsExpanded, IsReadable, IsText}
 use Rattle.dm_cmp_ops.proofs.PartialEqLaws.{eq-gives, ne-gives}
 use Rattle.dm_cmp_ops.proofs.ReadNames.{readable-named}
 
@@ -47,7 +48,18 @@ expanded d i items text s small is one t =
       assocs = refl;
       methods = are-methods d (readable-named d s) small;
     } in
-    record { item = i; one = one; is_partial_eq = subst P (sym is) whole; text_is = t }
+    record { item = i; one = one; is_emitted = is; is_partial_eq = subst P (sym is) whole; text_is = t }
+
+-- the text alone
+pub prints : {E : Type 0} (d : Declaration) (r : Result (String Global) E) → IsReadable d → AreSmall (cases d) →
+    IfOk r (λ s. string_bytes s ≡ printed (item d ∷ [])) → IfOk r (λ s. IsText d (string_bytes s))
+prints d (Ok s) readable small h = (item d ∷ [], expanded d (item d) (item d ∷ []) (string_bytes s) readable small refl refl h)
+prints d (Err e) readable small h = tt
+
+-- a declaration has one text
+pub text-once : (d : Declaration) (x y : List ℕ) → IsText d x → IsText d y → x ≡ y
+text-once d x y a b =
+    a.1.text_is ∙ ap (λ (i : ItemTree). printed (i ∷ [])) (a.1.is_emitted ∙ sym b.1.is_emitted) ∙ sym b.1.text_is
 
 pub expands : {E : Type 0} (d : Declaration) (i : ItemTree) (r : Result Expansion E) → IsReadable d → AreSmall (cases d) → i ≡ item d →
     IfOk r (λ x. (map item_view x.items ≡ i ∷ []) × (x.text ≡ printed (i ∷ []))) →

@@ -6,8 +6,9 @@ pub mod PartialEqLaws
 pub mod CheckLaws
 mod Builders
 mod Joined
+mod PrintLaws
 mod Parameters
 mod SkipSteps
 mod CheckSteps
 mod ReadNames
-mod Expansions
+pub mod Expansions

@@ -163,8 +163,8 @@ method_name Equal = codes "eq"
 method_name Unequal = codes "ne"
 
 -- #[inline] fn NAME(&self, __other: &Self) -> bool { BODY }
-abbrev pub method : Comparing → Declaration → MethodTree
-method c d =
+abbrev pub method_with : Comparing → BlockTree → MethodTree
+method_with c b =
     record {
       attrs = Inline ∷ [];
       is_const = false;
@@ -172,15 +172,18 @@ method c d =
       receiver = Some Ref;
       param = Some (record { name = word (codes "__other"); ty = ref_self });
       output = Some (name_type (word (codes "bool")));
-      body = body c d;
+      body = b;
     }
+
+abbrev pub method : Comparing → Declaration → MethodTree
+method c d = method_with c (body c d)
 
 -- `ne` too exactly where some variant is compared
 abbrev pub methods : Declaration → List MethodTree
 methods d = cond (some_compared (cases d)) (method Equal d ∷ method Unequal d ∷ []) (method Equal d ∷ [])
 
-abbrev pub item : Declaration → ItemTree
-item d =
+abbrev pub with_methods : Declaration → List MethodTree → ItemTree
+with_methods d ms =
     record {
       attrs = AllowPrivateBounds ∷ AutomaticallyDerived ∷ [];
       params = params_of d;
@@ -188,5 +191,8 @@ item d =
       ty = implementor d;
       predicates = predicates_of d;
       assocs = [];
-      methods = methods d;
+      methods = ms;
     }
+
+abbrev pub item : Declaration → ItemTree
+item d = with_methods d (methods d)

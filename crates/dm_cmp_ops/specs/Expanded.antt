@@ -1,5 +1,6 @@
 -- What `PartialEq` answers: an expansion, which is one implementation and its text, or a refusal.
-use Rattle.std.specs.Prelude.{◌≡◌, ℕ, List, [], ◌∷◌, map, Some, None, Result, Ok, Err}
+use Rattle.std.specs.Prelude.{◌≡◌, ℕ, List, [], ◌∷◌, map, Some, None, Result, Ok, Err, String, string_bytes}
+use Rattle.std.specs.declared.alloc.Global.{Global}
 use Rattle.dm_tokens.specs.declared.error.Error.{Error}
 use Rattle.dm_tokens.specs.declared.error.Error.TheVariants.{NoMemory, Refused}
 use Rattle.dm_tokens.specs.Trees.{Trees}
@@ -11,6 +12,7 @@ use Rattle.dm_emit.specs.declared.print.Expansion.{Expansion}
 use Rattle.dm_emit.specs.Output.{ItemTree, item_view}
 use Rattle.dm_emit.specs.Tokens.{printed}
 use Rattle.dm_cmp_ops.specs.Heads.{IsPartialEq}
+use Rattle.dm_cmp_ops.specs.Emitted as emitted
 use Rattle.dm_cmp_ops.specs.Checks.{refusal}
 
 -- the declaration of some trees, whose names may be declared
@@ -21,10 +23,11 @@ pub record IsReadable (d : Declaration) : Type 0 where
   pub spelled : SpelledBy d limit trees marks
   pub named : Named d
 
--- one implementation, whose head and methods are those of `PartialEq`, and its text
+-- one implementation, which is that of the declaration, whose head and methods are those of `PartialEq`, and its text
 pub record IsExpanded (d : Declaration) (items : List ItemTree) (text : List ℕ) : Type 0 where
   pub item : ItemTree
   pub one : items ≡ item ∷ []
+  pub is_emitted : item ≡ emitted.item d
   pub is_partial_eq : IsPartialEq d item
   pub text_is : text ≡ printed (item ∷ [])
 
@@ -33,3 +36,13 @@ abbrev pub IsAnswer : Declaration → Result Expansion Error → Type 0
 IsAnswer d (Ok x) = (refusal d ≡ None) × IsExpanded d (map item_view x.items) x.text
 IsAnswer d (Err NoMemory) = Unit {0}
 IsAnswer d (Err (Refused r)) = refusal d ≡ Some r
+
+-- the text of such an expansion
+abbrev pub IsText : Declaration → List ℕ → Type 0
+IsText d text = (items : List ItemTree) × IsExpanded d items text
+
+-- what a declaration is answered with where the text alone is wanted
+abbrev pub IsPrinted : Declaration → Result (String Global) Error → Type 0
+IsPrinted d (Ok text) = (refusal d ≡ None) × IsText d (string_bytes text)
+IsPrinted d (Err NoMemory) = Unit {0}
+IsPrinted d (Err (Refused r)) = refusal d ≡ Some r

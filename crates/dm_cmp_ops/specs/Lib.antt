@@ -7,3 +7,4 @@ pub mod Emitted
 pub mod Named
 pub mod CaseViews
 pub mod Expanded
+pub mod Printed

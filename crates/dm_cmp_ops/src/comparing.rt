@@ -220,7 +220,7 @@ fn unreachable_expr<'a>(alloc: Global) -> Result<Expr<'a>, AllocError>
     Ok(Expr::Unsafe(inside))
 }
 
-fn add_rest<'a>(
+pub(crate) fn add_rest<'a>(
     alloc: Global,
     comparing: Comparing,
     cases: &[CaseRef<'_, 'a>],

@@ -10,6 +10,7 @@ mod head_tests;
 mod heads;
 mod names;
 pub mod partial_eq;
+mod printing;
 mod sides;
 mod skips;
 #[cfg(test)]

@@ -1,7 +1,7 @@
 //! `PartialEq`.
 #![tactic(auto, using(crate::proofs::Builders::builder_steps))]
 
-ghost use Rattle.std.specs.Prelude.{◌≡◌, ◌∷◌, [], map, ◌++◌, codes, IfOk, OnOk};
+ghost use Rattle.std.specs.Prelude.{◌≡◌, ◌∷◌, [], map, ◌++◌, codes, IfOk, OnOk, string_bytes};
 ghost use Rattle.dm_syntax.specs.Tree.{path_view, no_self};
 ghost use Rattle.dm_syntax.specs.Declarations.{declaration_view};
 ghost use Rattle.dm_emit.specs.Output.{expr_view, block_view, method_view, item_view, match_expr, deref, no_arms, call, exprs_of, tuple, expr_then, no_exprs};
@@ -11,7 +11,7 @@ ghost use Rattle.dm_cmp_ops.specs.Heads as heads;
 ghost use Rattle.dm_cmp_ops.specs.Emitted as spec;
 ghost use Rattle.dm_cmp_ops.specs.CaseViews.{case_view, IsCasesOf};
 ghost use Rattle.dm_cmp_ops.specs.Named.{AreSmall};
-ghost use Rattle.dm_cmp_ops.specs.Expanded.{IsAnswer, IsExpanded, IsReadable};
+ghost use Rattle.dm_cmp_ops.specs.Expanded.{IsAnswer, IsExpanded, IsPrinted, IsReadable, IsText};
 
 use crate::cases::{CaseRef, cases_of, count_fields, is_enum, some_compared, some_skipped_case};
 use crate::checks::refusal;
@@ -19,6 +19,7 @@ use crate::comparing::{arms, block_of, chain, test_of};
 use crate::generics::{implementor, params, predicates};
 use crate::heads::{other_param, partial_eq_path, word_type};
 use crate::names::{boxed, name, one, path_of, two, word};
+use crate::printing::printed_item;
 use dm_emit::{Block, Expansion, Expr, Item, ItemAttr, Method, PathExpr, Receiver, with_text};
 use dm_syntax::{DeriveInput, Path};
 use dm_tokens::{Error, Ident, Seq};
@@ -44,7 +45,7 @@ fn pair_of<'a>(alloc: Global, mine: Expr<'a>, theirs: Expr<'a>) -> Result<Expr<'
     Ok(Expr::Tuple(parts))
 }
 
-fn both_expr<'a>(alloc: Global) -> Result<Expr<'a>, AllocError>
+pub(crate) fn both_expr<'a>(alloc: Global) -> Result<Expr<'a>, AllocError>
     ensures { IfOk result (λ e. expr_view e ≡ spec.both) }
 {
     let mine = word_name(alloc, "self")?;
@@ -97,7 +98,7 @@ fn discriminant_call<'a>(alloc: Global, text: &'a str) -> Result<Box<Expr<'a>>, 
     boxed(alloc, call)
 }
 
-fn discriminants<'a>(alloc: Global, comparing: Comparing) -> Result<Expr<'a>, AllocError>
+pub(crate) fn discriminants<'a>(alloc: Global, comparing: Comparing) -> Result<Expr<'a>, AllocError>
     ensures { IfOk result (λ e. expr_view e ≡ spec.discriminants comparing) }
 {
     let mine = discriminant_call(alloc, "self")?;
@@ -106,7 +107,7 @@ fn discriminants<'a>(alloc: Global, comparing: Comparing) -> Result<Expr<'a>, Al
 }
 
 /// Whether values of two variants have to be told apart.
-fn needs_discriminants(input: &DeriveInput<'_>, cases: &[CaseRef<'_, '_>]) -> bool
+pub(crate) fn needs_discriminants(input: &DeriveInput<'_>, cases: &[CaseRef<'_, '_>]) -> bool
     requires { IsCasesOf input.now cases.now }
     ensures { result ≡ spec.needs_discriminants (declaration_view input.now) }
 {
@@ -189,7 +190,7 @@ fn no_match<'a>(alloc: Global) -> Result<Expr<'a>, AllocError>
     Ok(Expr::Match(value, Seq::new(alloc)))
 }
 
-fn body_expr<'a>(
+pub(crate) fn body_expr<'a>(
     alloc: Global,
     comparing: Comparing,
     input: &DeriveInput<'a>,
@@ -228,6 +229,24 @@ fn method_name<'a>(comparing: Comparing) -> Ident<'a>
 }
 
 /// `#[inline] fn NAME(&self, __other: &Self) -> bool { .. }`.
+pub(crate) fn method_with<'a>(
+    alloc: Global,
+    comparing: Comparing,
+    body: Block<'a>,
+) -> Result<Method<'a>, AllocError>
+    ensures { IfOk result (λ m. method_view m ≡ spec.method_with comparing (block_view body.entry)) }
+{
+    Ok(Method {
+        attrs: one(alloc, ItemAttr::Inline)?,
+        is_const: false,
+        name: method_name(comparing),
+        receiver: Some(Receiver::Ref),
+        param: Some(other_param(alloc)?),
+        output: Some(word_type(alloc, "bool")?),
+        body,
+    })
+}
+
 fn method<'a>(
     alloc: Global,
     comparing: Comparing,
@@ -238,15 +257,7 @@ fn method<'a>(
     ensures { IfOk result (λ m. method_view m ≡ spec.method comparing (declaration_view input.now)) }
 {
     let body = body(alloc, comparing, input, cases)?;
-    Ok(Method {
-        attrs: one(alloc, ItemAttr::Inline)?,
-        is_const: false,
-        name: method_name(comparing),
-        receiver: Some(Receiver::Ref),
-        param: Some(other_param(alloc)?),
-        output: Some(word_type(alloc, "bool")?),
-        body,
-    })
+    method_with(alloc, comparing, body)
 }
 
 /// `eq`, and `ne` where some variant is compared.
@@ -266,12 +277,14 @@ fn methods<'a>(
     one(alloc, equal)
 }
 
-/// The implementation.
-pub(crate) fn item<'a>(alloc: Global, input: &DeriveInput<'a>) -> Result<Item<'a>, AllocError>
-    ensures { IfOk result (λ i. item_view i ≡ spec.item (declaration_view input.now)) }
+/// The implementation with these methods.
+pub(crate) fn with_methods<'a>(
+    alloc: Global,
+    input: &DeriveInput<'a>,
+    methods: Seq<Method<'a>>,
+) -> Result<Item<'a>, AllocError>
+    ensures { IfOk result (λ i. item_view i ≡ spec.with_methods (declaration_view input.now) (map method_view methods.entry)) }
 {
-    let cases = cases_of(alloc, input)?;
-    let methods = methods(alloc, input, cases.as_slice())?;
     let params = params(alloc, input)?;
     let ty = implementor(alloc, input, params.as_slice())?;
     Ok(Item {
@@ -287,6 +300,15 @@ pub(crate) fn item<'a>(alloc: Global, input: &DeriveInput<'a>) -> Result<Item<'a
         assocs: Seq::new(alloc),
         methods,
     })
+}
+
+/// The implementation.
+pub(crate) fn item<'a>(alloc: Global, input: &DeriveInput<'a>) -> Result<Item<'a>, AllocError>
+    ensures { IfOk result (λ i. item_view i ≡ spec.item (declaration_view input.now)) }
+{
+    let cases = cases_of(alloc, input)?;
+    let methods = methods(alloc, input, cases.as_slice())?;
+    with_methods(alloc, input, methods)
 }
 
 /// The fields of each variant can be counted.
@@ -334,5 +356,24 @@ pub fn expand<'a>(
     match refusal(input) {
         Some(first) => Err(Error::Refused(first)),
         None => Ok(expanded(alloc, input)?),
+    }
+}
+
+fn printed<'a>(alloc: Global, input: &DeriveInput<'a>) -> Result<String, AllocError>
+    requires { IsReadable (declaration_view input.now) }
+    ensures { IfOk result (λ text. IsText (declaration_view input.now) (string_bytes text)) }
+{
+    counted(alloc, input)?;
+    printed_item(alloc, input)
+}
+
+/// The text of what [expand] gives, with the same refusals.
+pub fn print<'a>(alloc: Global, input: &DeriveInput<'a>, _trait_name: &str) -> Result<String, Error>
+    requires { IsReadable (declaration_view input.now) }
+    ensures { IsPrinted (declaration_view input.now) result }
+{
+    match refusal(input) {
+        Some(first) => Err(Error::Refused(first)),
+        None => Ok(printed(alloc, input)?),
     }
 }

@@ -59,7 +59,7 @@ fn first_theirs(n: usize) -> Option<&'static str>
     }
 }
 
-fn first_name(operand: Operand, n: usize) -> Option<&'static str>
+pub(crate) fn first_name(operand: Operand, n: usize) -> Option<&'static str>
     ensures { IfSome result (λ name. name.now ≡ naming operand n) }
 {
     match operand {
@@ -68,7 +68,7 @@ fn first_name(operand: Operand, n: usize) -> Option<&'static str>
     }
 }
 
-fn formatted(alloc: Global, operand: Operand, n: usize) -> Result<String, AllocError>
+pub(crate) fn formatted(alloc: Global, operand: Operand, n: usize) -> Result<String, AllocError>
     ensures { IfOk result (λ name. string_bytes name ≡ naming operand n) }
 {
     match operand {

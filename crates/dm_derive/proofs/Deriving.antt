@@ -1,6 +1,7 @@
 -- What the steps of a derive say of the text.
 use Rattle.std.proofs.Common.{◌≡◌, ℕ, List, length, map, Some, Result, Ok, Err, sym, ap, subst, ◌∙◌, inl, inr}
-use Rattle.std.specs.Prelude.{◌⊎◌, IfOk}
+use Rattle.std.specs.Prelude.{◌⊎◌, IfOk, String}
+use Rattle.std.specs.declared.alloc.Global.{Global}
 use Rattle.std.specs.Str.{chars}
 use Rattle.dm_tokens.specs.declared.error.Kind.{Kind}
 use Rattle.dm_tokens.specs.declared.error.Kind.TheVariants as kind
@@ -20,9 +21,10 @@ use Rattle.dm_syntax.proofs.NameRefusals.{refused_not_named}
 use Rattle.dm_emit.specs.declared.print.Expansion.{Expansion}
 use Rattle.dm_emit.specs.Output.{item_view}
 use Rattle.dm_cmp_ops.specs.Checks.{refusal, IsValid}
-use Rattle.dm_cmp_ops.specs.Expanded.{IsAnswer, IsReadable}
+use Rattle.dm_cmp_ops.specs.Expanded.{IsAnswer, IsPrinted, IsReadable, IsText}
 use Rattle.dm_cmp_ops.proofs.CheckLaws.{unrefused}
-use Rattle.dm_derive.specs.Derived.{Answers, AreTrees, IsKnown, IsRead, Reads, Derives, IsNotLexed, IsNotParsed, IsMisnamed, IsNotDerived, Refuses, IsDerivable}
+use Rattle.dm_cmp_ops.proofs.Expansions.{text-once}
+use Rattle.dm_derive.specs.Derived.{Answers, AreTrees, IsKnown, IsRead, Reads, Derives, Prints, IsNotLexed, IsNotParsed, IsMisnamed, IsNotDerived, Refuses, IsDerivable}
 
 -- ---- reading
 
@@ -97,7 +99,22 @@ answered name text d (Ok x) known h m =
     (map item_view x.items, record { is_known = known; declaration = declaration_view d; is_read = h.0; named = h.1; expanded = m.1 })
 answered name text d (Err e) known h m = tt
 
-pub ruleset derive_steps = (not-lexed, not-parsed, is-read, misnamed, not-derived, not-known, can-expand, derived, answered)
+-- ---- the text alone
+
+pub not-printed : (name text : List ℕ) (e : Error) → IsKnown name → Reads text (Err e) → Prints name text (Err e)
+not-printed name text NoMemory known h = tt
+not-printed name text (Refused r) known h = not-derived name text (Refused r) known h
+
+pub printed : (name text : List ℕ) (d : DeriveInput) (r : Result (String Global) Error) → IsKnown name → Reads text (Ok d) →
+    IsPrinted (declaration_view d) r → Prints name text r
+unfolding Answers Refuses
+printed name text d (Ok x) known h m =
+    (m.1.0, record { is_known = known; declaration = declaration_view d; is_read = h.0; named = h.1; expanded = m.1.1 })
+printed name text d (Err NoMemory) known h m = tt
+printed name text d (Err (Refused r)) known h m =
+    inr (known, inr (inr (inr (record { declaration = declaration_view d; is_read = h.0; named = h.1; refused = m }))))
+
+pub ruleset derive_steps = (not-lexed, not-parsed, is-read, misnamed, not-derived, not-known, can-expand, derived, answered, not-printed, printed)
 
 -- ---- texts of which nothing is refused
 
@@ -139,3 +156,11 @@ none-late name text r d (inr (inr (inr h))) =
 pub derivable : (name text : List ℕ) → IsDerivable name text → (r : Refusal) → ¬ (Refuses name text r)
 unfolding Refuses
 derivable name text d r h = elim h as (λ _. ⊥) [ inl un ↦ un.unknown d.known | inr late ↦ none-late name text r d late.1 ]
+
+-- ---- a text has one answer
+
+pub answers-once : (name text x y : List ℕ) → Answers name text x → Answers name text y → x ≡ y
+unfolding Answers
+answers-once name text x y a b =
+    let same : b.1.declaration ≡ a.1.declaration = read-one text a.1.declaration b.1.declaration a.1.is_read b.1.is_read in
+    text-once a.1.declaration x y (a.0, a.1.expanded) (subst (λ d. IsText d y) same (b.0, b.1.expanded))

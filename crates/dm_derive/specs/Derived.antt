@@ -1,5 +1,6 @@
 -- What a trait's name and the text of a declaration are answered with.
-use Rattle.std.specs.Prelude.{◌≡◌, ℕ, List, map, length, codes, Some, Result, Ok, Err, ◌⊎◌}
+use Rattle.std.specs.Prelude.{◌≡◌, ℕ, List, map, length, codes, Some, Result, Ok, Err, ◌⊎◌, String, string_bytes}
+use Rattle.std.specs.declared.alloc.Global.{Global}
 use Rattle.dm_tokens.specs.declared.error.Kind.TheVariants.{UnknownTrait}
 use Rattle.dm_tokens.specs.declared.error.Refusal.{Refusal}
 use Rattle.dm_tokens.specs.declared.error.Error.{Error}
@@ -104,3 +105,9 @@ abbrev pub Derives : List ℕ → List ℕ → Result Expansion Error → Type 0
 Derives name text (Ok x) = Expands name text (map item_view x.items) x.text
 Derives name text (Err NoMemory) = Unit {0}
 Derives name text (Err (Refused r)) = Refuses name text r
+
+-- what a derive answers where the text alone is wanted
+abbrev pub Prints : List ℕ → List ℕ → Result (String Global) Error → Type 0
+Prints name text (Ok written) = Answers name text (string_bytes written)
+Prints name text (Err NoMemory) = Unit {0}
+Prints name text (Err (Refused r)) = Refuses name text r

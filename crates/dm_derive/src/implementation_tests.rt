@@ -1,4 +1,4 @@
-use super::derive_text;
+use super::{derive_printed, derive_text};
 use dm_tokens::Error;
 use std::alloc::{AllocError, Global};
 
@@ -25,12 +25,18 @@ fn implementation(
 /// A declaration, what stands behind `impl`, and the bodies of `eq` and `ne`.
 type Row = (&'static str, &'static str, &'static str, &'static str);
 
+/// Whether the declaration has this implementation, by both calls.
+fn is_derived(alloc: Global, decl: &str, want: &str) -> Result<bool, Error> {
+    let made = derive_text(alloc, "PartialEq", decl)?;
+    let printed = derive_printed(alloc, "PartialEq", decl)?;
+    Ok(made.text.as_str() == want && printed.as_str() == want)
+}
+
 /// Whether each declaration has its implementation.
 fn are_derived(alloc: Global, rows: &[Row]) -> Result<bool, Error> {
     for (decl, head, equal, unequal) in rows.iter().copied() {
-        let made = derive_text(alloc, "PartialEq", decl)?;
         let want = implementation(alloc, head, equal, unequal)?;
-        if made.text.as_str() != want.as_str() {
+        if !is_derived(alloc, decl, want.as_str())? {
             return Ok(false);
         }
     }

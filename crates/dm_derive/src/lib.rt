@@ -13,7 +13,7 @@ mod outside;
 mod top;
 mod transfer;
 
-pub use derive::derive_text;
+pub use derive::{derive_printed, derive_text};
 pub use input::split;
 pub use line::refusal_line;
 pub use memory::{MemSink, MemSource};

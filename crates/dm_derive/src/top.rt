@@ -2,7 +2,7 @@ ghost use Rattle.std.specs.Prelude.{◌≡◌, ◌≢◌, ◌↔◌, ℕ, [], If
 ghost use Rattle.dm_derive.specs.Causes.{Rose};
 ghost use Rattle.dm_derive.specs.Runs.{exit_code, Responds, Ran, Means, IsAccepted, IsFaultless, IsSilent};
 
-use super::derive::derive_text;
+use super::derive::derive_printed;
 use super::input::split;
 use super::line::refusal_line;
 use super::outside::{Failed, Sink, Source};
@@ -56,8 +56,8 @@ fn respond<K: Sink>(alloc: Global, bytes: &[u8], sink: &mut K) -> Status
         Some(parts) => parts,
         None => return Status::BadInput,
     };
-    match derive_text(alloc, name, declaration) {
-        Ok(expansion) => match write_all(sink, expansion.text.as_str().as_bytes()) {
+    match derive_printed(alloc, name, declaration) {
+        Ok(text) => match write_all(sink, text.as_bytes()) {
             Ok(()) => Status::Done,
             Err(Failed) => Status::WriteFault,
         },

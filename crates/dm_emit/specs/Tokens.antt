@@ -221,16 +221,23 @@ abbrev pub output_trees : Option TypeTree → Trees
 output_trees None = no_trees
 output_trees (Some t) = join (joint 45 62) (type_trees t)
 
-abbrev pub method_trees : MethodTree → Trees
-method_trees m =
+-- all of a method in front of its body
+abbrev pub signature_trees : MethodTree → Trees
+signature_trees m =
     join (in_turn (map attr_trees m.attrs)) (join (given m.is_const (word (codes "const"))) (join (word (codes "fn")) (join (name m.name)
-    (join (enclosed Paren (inputs_trees m.receiver m.param)) (join (output_trees m.output) (block_trees m.body))))))
+    (join (enclosed Paren (inputs_trees m.receiver m.param)) (output_trees m.output)))))
+
+abbrev pub method_trees : MethodTree → Trees
+method_trees m = join (signature_trees m) (block_trees m.body)
+
+-- all of an implementation in front of its brace
+abbrev pub head_trees : ItemTree → Trees
+head_trees i =
+    join (in_turn (map attr_trees i.attrs)) (join (word (codes "impl")) (join (params_trees i.params) (join (trait_trees i.trait_path)
+    (join (type_trees i.ty) (where_trees i.predicates)))))
 
 abbrev pub item_trees : ItemTree → Trees
-item_trees i =
-    join (in_turn (map attr_trees i.attrs)) (join (word (codes "impl")) (join (params_trees i.params) (join (trait_trees i.trait_path)
-    (join (type_trees i.ty) (join (where_trees i.predicates)
-    (enclosed Brace (join (in_turn (map assoc_trees i.assocs)) (in_turn (map method_trees i.methods)))))))))
+item_trees i = join (head_trees i) (enclosed Brace (join (in_turn (map assoc_trees i.assocs)) (in_turn (map method_trees i.methods))))
 
 -- the text of items: each is laid out, and LF ends it
 abbrev pub printed : List ItemTree → List ℕ

@@ -4,7 +4,7 @@
 mod expr;
 mod item;
 mod pattern;
-mod print;
+pub mod print;
 
 pub use expr::{Arm, ArmBody, Block, Expr, PathExpr, Stmt};
 pub use item::{Assoc, Item, ItemAttr, Method, MethodParam, Receiver};

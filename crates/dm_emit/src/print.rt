@@ -6,12 +6,12 @@ ghost use Rattle.dm_tokens.specs.Layout.{layout};
 ghost use Rattle.dm_emit.specs.Output.{item_view};
 ghost use Rattle.dm_emit.specs.Tokens.{printed, item_trees};
 
-mod expr;
-mod item;
+pub mod expr;
+pub mod item;
 mod param;
 mod path;
 mod pattern;
-mod token;
+pub mod token;
 
 use crate::item::Item;
 use dm_tokens::{Layout, Seq, Text};

@@ -1,8 +1,12 @@
+use super::print::expr::{arms, expr};
+use super::print::item::{head, signature};
+use super::print::token;
 use super::{
-    Block, Expansion, Expr, Item, ItemAttr, Method, MethodParam, Receiver, print_items, with_text,
+    Arm, ArmBody, Block, Expansion, Expr, Item, ItemAttr, Method, MethodParam, Pattern, Receiver,
+    print_items, with_text,
 };
 use dm_syntax::{Path, PathArguments, PathSegment, Ty, TyNode};
-use dm_tokens::{Ident, Seq, Span, Text};
+use dm_tokens::{Delim, Ident, Layout, Seq, Span, Text};
 use std::alloc::{AllocError, Global};
 
 fn ident(name: &'static str) -> Ident<'static> {
@@ -132,5 +136,54 @@ fn nothing(rt: HostRuntime) -> Result<(), AllocError> {
     let alloc = rt.alloc();
     let none: Seq<Item<'static>> = Seq::new(alloc);
     assert!(rt; print_items(alloc, none.as_slice())?.as_str() == "");
+    Ok(())
+}
+
+#[test]
+fn heads(rt: HostRuntime) -> Result<(), AllocError> {
+    let alloc = rt.alloc();
+    let item = item(alloc)?;
+    let mut out = Layout::new(alloc);
+    head(alloc, &mut out, &item)?;
+    assert!(rt;
+        out.into_string().as_str()
+            == "# [allow (private_bounds)] # [automatically_derived] impl derive_more :: core :: cmp :: PartialEq for P"
+    );
+    Ok(())
+}
+
+#[test]
+fn signatures(rt: HostRuntime) -> Result<(), AllocError> {
+    let alloc = rt.alloc();
+    let method = method(alloc)?;
+    let mut out = Layout::new(alloc);
+    signature(alloc, &mut out, &method)?;
+    assert!(rt;
+        out.into_string().as_str() == "# [inline] fn eq (& self , __other : & Self) -> bool"
+    );
+    Ok(())
+}
+
+/// `_ => false`.
+fn last_arm(alloc: Global) -> Result<Arm<'static>, AllocError> {
+    Ok(Arm {
+        patterns: one(alloc, Pattern::Wild)?,
+        guard: None,
+        body: ArmBody::Expr(Expr::Bool(false)),
+    })
+}
+
+#[test]
+fn expressions(rt: HostRuntime) -> Result<(), AllocError> {
+    let alloc = rt.alloc();
+    let pair = Expr::Tuple(two(alloc, Expr::Bool(true), Expr::Bool(false))?);
+    let all = one(alloc, last_arm(alloc)?)?;
+    let mut out = Layout::new(alloc);
+    token::word(&mut out, "match")?;
+    expr(alloc, &mut out, &pair)?;
+    token::open(&mut out, Delim::Brace)?;
+    arms(alloc, &mut out, all.as_slice())?;
+    token::close(&mut out, Delim::Brace)?;
+    assert!(rt; out.into_string().as_str() == "match (true , false) { _ => false , }");
     Ok(())
 }

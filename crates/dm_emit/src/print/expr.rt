@@ -14,8 +14,9 @@ use crate::expr::{Arm, ArmBody, Block, Expr, Stmt};
 use dm_tokens::{Delim, Layout};
 use std::alloc::{AllocError, Global};
 
+/// Adds an expression.
 #[cycle(print)]
-fn expr(alloc: Global, out: &mut Layout, tree: &Expr<'_>) -> Result<(), AllocError>
+pub fn expr(alloc: Global, out: &mut Layout, tree: &Expr<'_>) -> Result<(), AllocError>
     ensures { OnOk result (out.new ≡ lay out.old (spec.expr_trees (expr_view tree.now))) }
 {
     match tree {
@@ -93,8 +94,9 @@ fn list(alloc: Global, out: &mut Layout, all: &[Expr<'_>]) -> Result<(), AllocEr
     Ok(())
 }
 
+/// Adds the arms of a match.
 #[cycle(print)]
-fn arms(alloc: Global, out: &mut Layout, all: &[Arm<'_>]) -> Result<(), AllocError>
+pub fn arms(alloc: Global, out: &mut Layout, all: &[Arm<'_>]) -> Result<(), AllocError>
     ensures { OnOk result (out.new ≡ lay out.old (spec.arms_trees (arms_of (map arm_view all.now)))) }
 {
     for one in all {
@@ -127,6 +129,7 @@ fn body(alloc: Global, out: &mut Layout, tree: &ArmBody<'_>) -> Result<(), Alloc
     }
 }
 
+/// Adds a block.
 #[cycle(print)]
 pub fn block(alloc: Global, out: &mut Layout, tree: &Block<'_>) -> Result<(), AllocError>
     ensures { OnOk result (out.new ≡ lay out.old (spec.block_trees (block_view tree.now))) }

@@ -201,8 +201,9 @@ fn output(alloc: Global, out: &mut Layout, of: &Option<Ty<'_>>) -> Result<(), Al
     }
 }
 
-fn method(alloc: Global, out: &mut Layout, tree: &Method<'_>) -> Result<(), AllocError>
-    ensures { OnOk result (out.new ≡ lay out.old (spec.method_trees (method_view tree.now))) }
+/// Adds all of a method in front of its body, which isn't looked at.
+pub fn signature(alloc: Global, out: &mut Layout, tree: &Method<'_>) -> Result<(), AllocError>
+    ensures { OnOk result (out.new ≡ lay out.old (spec.signature_trees (method_view tree.now))) }
 {
     attrs(out, tree.attrs.as_slice())?;
     word_if(out, tree.is_const, "const")?;
@@ -211,7 +212,13 @@ fn method(alloc: Global, out: &mut Layout, tree: &Method<'_>) -> Result<(), Allo
     open(out, Delim::Paren)?;
     inputs(alloc, out, tree)?;
     close(out, Delim::Paren)?;
-    output(alloc, out, &tree.output)?;
+    output(alloc, out, &tree.output)
+}
+
+fn method(alloc: Global, out: &mut Layout, tree: &Method<'_>) -> Result<(), AllocError>
+    ensures { OnOk result (out.new ≡ lay out.old (spec.method_trees (method_view tree.now))) }
+{
+    signature(alloc, out, tree)?;
     block(alloc, out, &tree.body)
 }
 
@@ -224,15 +231,23 @@ fn methods(alloc: Global, out: &mut Layout, all: &[Method<'_>]) -> Result<(), Al
     Ok(())
 }
 
-pub fn item(alloc: Global, out: &mut Layout, tree: &Item<'_>) -> Result<(), AllocError>
-    ensures { OnOk result (out.new ≡ lay out.old (spec.item_trees (item_view tree.now))) }
+/// Adds all of an implementation in front of its brace.
+pub fn head(alloc: Global, out: &mut Layout, tree: &Item<'_>) -> Result<(), AllocError>
+    ensures { OnOk result (out.new ≡ lay out.old (spec.head_trees (item_view tree.now))) }
 {
     attrs(out, tree.attrs.as_slice())?;
     word(out, "impl")?;
     params(alloc, out, tree.params.as_slice())?;
     trait_path(alloc, out, &tree.trait_path)?;
     ty(alloc, out, &tree.ty)?;
-    predicates(alloc, out, tree.predicates.as_slice())?;
+    predicates(alloc, out, tree.predicates.as_slice())
+}
+
+/// Adds an implementation.
+pub fn item(alloc: Global, out: &mut Layout, tree: &Item<'_>) -> Result<(), AllocError>
+    ensures { OnOk result (out.new ≡ lay out.old (spec.item_trees (item_view tree.now))) }
+{
+    head(alloc, out, tree)?;
     open(out, Delim::Brace)?;
     assocs(alloc, out, tree.assocs.as_slice())?;
     methods(alloc, out, tree.methods.as_slice())?;

@@ -1,4 +1,4 @@
-//! Single tokens.
+//! Single tokens, which stand nowhere in a text.
 #![tactic(auto, using(crate::proofs::Laying::token_steps))]
 
 ghost use Rattle.std.specs.Prelude.{◌≡◌, OnOk};
@@ -9,12 +9,14 @@ ghost use Rattle.dm_emit.specs.Laying.{lay, begun, done};
 use dm_tokens::{Delim, Ident, Layout, Lifetime, Spacing, TokenStream};
 use std::alloc::AllocError;
 
+/// Adds an identifier that isn't raw.
 pub fn word(out: &mut Layout, text: &str) -> Result<(), AllocError>
     ensures { OnOk result (out.new ≡ lay out.old (spec.word text.now)) }
 {
     out.word(text)
 }
 
+/// Adds one where it is there.
 pub fn word_if(out: &mut Layout, here: bool, text: &str) -> Result<(), AllocError>
     ensures { OnOk result (out.new ≡ lay out.old (syntax.given here (spec.word text.now))) }
 {
@@ -24,24 +26,28 @@ pub fn word_if(out: &mut Layout, here: bool, text: &str) -> Result<(), AllocErro
     Ok(())
 }
 
+/// Adds an identifier.
 pub fn name(out: &mut Layout, ident: &Ident<'_>) -> Result<(), AllocError>
     ensures { OnOk result (out.new ≡ lay out.old (syntax.name ident.now)) }
 {
     out.ident(ident)
 }
 
+/// Adds a lifetime.
 pub fn lifetime(out: &mut Layout, lifetime: &Lifetime<'_>) -> Result<(), AllocError>
     ensures { OnOk result (out.new ≡ lay out.old (syntax.lifetime lifetime.now)) }
 {
     out.lifetime(lifetime)
 }
 
+/// Adds a punct that touches nothing behind it.
 pub fn punct(out: &mut Layout, ch: char) -> Result<(), AllocError>
     ensures { OnOk result (out.new ≡ lay out.old (spec.punct ch)) }
 {
     out.punct(ch, Spacing::Alone)
 }
 
+/// Adds one where it is there.
 pub fn punct_if(out: &mut Layout, here: bool, ch: char) -> Result<(), AllocError>
     ensures { OnOk result (out.new ≡ lay out.old (syntax.given here (spec.punct ch))) }
 {
@@ -51,6 +57,7 @@ pub fn punct_if(out: &mut Layout, here: bool, ch: char) -> Result<(), AllocError
     Ok(())
 }
 
+/// Adds two puncts that are read as one, as `==`.
 pub fn joint(out: &mut Layout, ch: char, next: char) -> Result<(), AllocError>
     ensures { OnOk result (out.new ≡ lay out.old (spec.joint ch next)) }
 {
@@ -58,6 +65,7 @@ pub fn joint(out: &mut Layout, ch: char, next: char) -> Result<(), AllocError>
     out.punct(next, Spacing::Alone)
 }
 
+/// Adds two where they are there.
 pub fn joint_if(out: &mut Layout, here: bool, ch: char, next: char) -> Result<(), AllocError>
     ensures { OnOk result (out.new ≡ lay out.old (syntax.given here (spec.joint ch next))) }
 {
@@ -67,12 +75,14 @@ pub fn joint_if(out: &mut Layout, here: bool, ch: char, next: char) -> Result<()
     Ok(())
 }
 
+/// Adds the opening delimiter of a group.
 pub fn open(out: &mut Layout, delim: Delim) -> Result<(), AllocError>
     ensures { OnOk result (out.new ≡ begun out.old delim) }
 {
     out.open(delim)
 }
 
+/// Adds the closing delimiter of a group.
 pub fn close(out: &mut Layout, delim: Delim) -> Result<(), AllocError>
     ensures { OnOk result (out.new ≡ done out.old delim) }
 {

@@ -1,0 +1,6 @@
+use Rattle.dm_syntax.specs.Declarations.{declaration_view}
+use Rattle.dm_cmp_ops.proofs.Expansions.{prints}
+use Rattle.dm_cmp_ops.proofs.partial_eq.printed.Goals as goal
+
+pub returns : goal.returns
+returns c = prints (declaration_view c.args.input.now) c.printed_item.result c.requires c.in_ok-counted.ensures c.printed_item.ensures

@@ -1,0 +1,14 @@
+use Rattle.std.proofs.Common.{ℕ, List, [], ◌∷◌, ◌++◌, ap, ◌∙◌}
+use Rattle.dm_tokens.specs.Layout.{Laid, line_ended}
+use Rattle.dm_syntax.specs.Declarations.{declaration_view}
+use Rattle.dm_emit.specs.Laying.{lay}
+use Rattle.dm_emit.specs.Tokens.{item_trees}
+use Rattle.dm_cmp_ops.specs.Emitted.{item}
+use Rattle.dm_cmp_ops.proofs.PrintLaws.{laid-start}
+use Rattle.dm_cmp_ops.proofs.printing.printed_item.Goals as goal
+
+pub returns : goal.returns
+returns c =
+    let trees = item_trees (item (declaration_view c.args.input.now)) in
+    let whole = c.in_ok-line_end.ensures ∙ ap line_ended (c.in_ok-item.ensures ∙ ap (λ (l : Laid). lay l trees) c.new-out.ensures) in
+    c.into_string.ensures ∙ ap (λ (l : Laid). l.text) whole ∙ ap (λ (t : List ℕ). t ++ 10 ∷ []) (laid-start trees)

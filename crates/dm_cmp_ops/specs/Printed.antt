@@ -1,0 +1,32 @@
+-- The tokens of the parts that are printed without their trees.
+use Rattle.std.specs.Prelude.{Bool, true, List, cond}
+use Rattle.dm_tokens.specs.Trees.{Trees, no_trees, join}
+use Rattle.dm_syntax.specs.Declarations.{Declaration}
+use Rattle.dm_syntax.specs.TypeTokens.{spaced}
+use Rattle.dm_emit.specs.Output.{ExprTree, exprs_of}
+use Rattle.dm_emit.specs.Tokens.{joint, each_expr, expr_trees}
+use Rattle.dm_cmp_ops.specs.declared.partial_eq.Comparing.{Comparing}
+use Rattle.dm_cmp_ops.specs.declared.partial_eq.Comparing.TheVariants.{Equal, Unequal}
+use Rattle.dm_cmp_ops.specs.Emitted.{discriminants, matching, needs_discriminants}
+
+-- `==`, or `!=`
+abbrev pub sign_trees : Comparing → Trees
+sign_trees Equal = joint 61 61
+sign_trees Unequal = joint 33 61
+
+-- `&&`, or `||`
+abbrev pub join_trees : Comparing → Trees
+join_trees Equal = joint 38 38
+join_trees Unequal = joint 124 124
+
+-- expressions with `&&` or `||` between them, and in front of them where they aren't the first
+abbrev pub joined : Comparing → Bool → List ExprTree → Trees
+joined c first es = spaced (join_trees c) first (each_expr (exprs_of es))
+
+-- the test of the discriminants, where it is wanted, and what joins it to the rest
+abbrev pub discriminants_trees : Comparing → Bool → Trees
+discriminants_trees c wanted = cond wanted (join (expr_trees (discriminants c)) (join_trees c)) no_trees
+
+-- the body where some variant is compared
+abbrev pub compared_trees : Comparing → Declaration → Trees
+compared_trees c d = join (discriminants_trees c (needs_discriminants d)) (expr_trees (matching c d))

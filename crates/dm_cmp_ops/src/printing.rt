@@ -1,0 +1,161 @@
+//! The text of the implementation, for which the trees of its arms aren't made.
+//!
+//! An arm of a tree is some twenty allocations, an arm of a text none: for a long enum that is most of the time.
+#![tactic(auto, using(crate::proofs::PrintLaws::printing_steps))]
+
+ghost use Rattle.std.specs.Prelude.{◌≡◌, ◌∷◌, [], map, IfOk, OnOk, string_bytes};
+ghost use Rattle.dm_syntax.specs.Declarations.{declaration_view};
+ghost use Rattle.dm_emit.specs.Tokens as tokens;
+ghost use Rattle.dm_emit.specs.Laying.{lay};
+ghost use Rattle.dm_cmp_ops.specs.Emitted as spec;
+ghost use Rattle.dm_cmp_ops.specs.Printed as printed;
+ghost use Rattle.dm_cmp_ops.specs.CaseViews.{IsCasesOf};
+
+mod arms;
+mod sides;
+
+use crate::cases::{CaseRef, cases_of, some_compared};
+use crate::partial_eq::{
+    Comparing, body_expr, both_expr, discriminants, method_with, needs_discriminants, with_methods,
+};
+use arms::{arms, join};
+use dm_emit::Block;
+use dm_emit::print::expr::expr;
+use dm_emit::print::item::{head, signature};
+use dm_emit::print::token::{close, open, word};
+use dm_syntax::DeriveInput;
+use dm_tokens::{Delim, Layout, Seq};
+use std::alloc::{AllocError, Global};
+
+fn matching<'a>(
+    alloc: Global,
+    out: &mut Layout,
+    comparing: Comparing,
+    input: &DeriveInput<'a>,
+    cases: &[CaseRef<'_, 'a>],
+) -> Result<(), AllocError>
+    requires { IsCasesOf input.now cases.now }
+    ensures { OnOk result (out.new ≡ lay out.old (tokens.expr_trees (spec.matching comparing (declaration_view input.now)))) }
+{
+    let operands = both_expr(alloc)?;
+    word(out, "match")?;
+    expr(alloc, out, &operands)?;
+    open(out, Delim::Brace)?;
+    arms(alloc, out, comparing, input, cases)?;
+    close(out, Delim::Brace)
+}
+
+/// The tests of the discriminants, where they are wanted, and what joins them to the match.
+fn discriminants_part(
+    alloc: Global,
+    out: &mut Layout,
+    comparing: Comparing,
+    wanted: bool,
+) -> Result<(), AllocError>
+    ensures { OnOk result (out.new ≡ lay out.old (printed.discriminants_trees comparing wanted)) }
+{
+    if wanted {
+        let tests = discriminants(alloc, comparing)?;
+        expr(alloc, out, &tests)?;
+        join(out, comparing)?;
+    }
+    Ok(())
+}
+
+fn compared<'a>(
+    alloc: Global,
+    out: &mut Layout,
+    comparing: Comparing,
+    input: &DeriveInput<'a>,
+    cases: &[CaseRef<'_, 'a>],
+) -> Result<(), AllocError>
+    requires { IsCasesOf input.now cases.now }
+    ensures { OnOk result (out.new ≡ lay out.old (printed.compared_trees comparing (declaration_view input.now))) }
+{
+    discriminants_part(alloc, out, comparing, needs_discriminants(input, cases))?;
+    matching(alloc, out, comparing, input, cases)
+}
+
+fn body<'a>(
+    alloc: Global,
+    out: &mut Layout,
+    comparing: Comparing,
+    input: &DeriveInput<'a>,
+    cases: &[CaseRef<'_, 'a>],
+) -> Result<(), AllocError>
+    requires { IsCasesOf input.now cases.now }
+    ensures { OnOk result (out.new ≡ lay out.old (tokens.expr_trees (spec.body_expr comparing (declaration_view input.now)))) }
+{
+    if some_compared(cases) {
+        return compared(alloc, out, comparing, input, cases);
+    }
+    let small = body_expr(alloc, comparing, input, cases)?;
+    expr(alloc, out, &small)
+}
+
+fn method<'a>(
+    alloc: Global,
+    out: &mut Layout,
+    comparing: Comparing,
+    input: &DeriveInput<'a>,
+    cases: &[CaseRef<'_, 'a>],
+) -> Result<(), AllocError>
+    requires { IsCasesOf input.now cases.now }
+    ensures { OnOk result (out.new ≡ lay out.old (tokens.method_trees (spec.method comparing (declaration_view input.now)))) }
+{
+    let bodiless = method_with(
+        alloc,
+        comparing,
+        Block {
+            stmts: Seq::new(alloc),
+            last: None,
+        },
+    )?;
+    signature(alloc, out, &bodiless)?;
+    open(out, Delim::Brace)?;
+    body(alloc, out, comparing, input, cases)?;
+    close(out, Delim::Brace)
+}
+
+fn methods<'a>(
+    alloc: Global,
+    out: &mut Layout,
+    input: &DeriveInput<'a>,
+    cases: &[CaseRef<'_, 'a>],
+) -> Result<(), AllocError>
+    requires { IsCasesOf input.now cases.now }
+    ensures { OnOk result (out.new ≡ lay out.old (tokens.in_turn (map tokens.method_trees (spec.methods (declaration_view input.now))))) }
+{
+    method(alloc, out, Comparing::Equal, input, cases)?;
+    if some_compared(cases) {
+        method(alloc, out, Comparing::Unequal, input, cases)?;
+    }
+    Ok(())
+}
+
+fn item<'a>(
+    alloc: Global,
+    out: &mut Layout,
+    input: &DeriveInput<'a>,
+    cases: &[CaseRef<'_, 'a>],
+) -> Result<(), AllocError>
+    requires { IsCasesOf input.now cases.now }
+    ensures { OnOk result (out.new ≡ lay out.old (tokens.item_trees (spec.item (declaration_view input.now)))) }
+{
+    let empty = with_methods(alloc, input, Seq::new(alloc))?;
+    head(alloc, out, &empty)?;
+    open(out, Delim::Brace)?;
+    methods(alloc, out, input, cases)?;
+    close(out, Delim::Brace)
+}
+
+/// The text of the implementation.
+pub(crate) fn printed_item<'a>(alloc: Global, input: &DeriveInput<'a>) -> Result<String, AllocError>
+    ensures { IfOk result (λ s. string_bytes s ≡ tokens.printed (spec.item (declaration_view input.now) ∷ [])) }
+{
+    let cases = cases_of(alloc, input)?;
+    let mut out = Layout::new(alloc);
+    item(alloc, &mut out, input, cases.as_slice())?;
+    out.line_end()?;
+    Ok(out.into_string())
+}

@@ -1,0 +1,170 @@
+//! Arms as text.
+#![tactic(auto, using(crate::proofs::PrintLaws::printing_steps))]
+
+ghost use Rattle.std.specs.Prelude.{◌≡◌, cond, true, map, OnOk, IsTrue};
+ghost use Rattle.dm_tokens.specs.Trees as trees;
+ghost use Rattle.dm_tokens.specs.Trees.{no_trees};
+ghost use Rattle.dm_syntax.specs.Declarations.{declaration_view, field_view};
+ghost use Rattle.dm_emit.specs.Output.{arms_of};
+ghost use Rattle.dm_emit.specs.Tokens as tokens;
+ghost use Rattle.dm_emit.specs.Values as values;
+ghost use Rattle.dm_emit.specs.Laying.{lay};
+ghost use Rattle.dm_cmp_ops.specs.Heads as heads;
+ghost use Rattle.dm_cmp_ops.specs.Emitted as spec;
+ghost use Rattle.dm_cmp_ops.specs.Printed as printed;
+ghost use Rattle.dm_cmp_ops.specs.CaseViews.{case_view, fields_ref_view};
+
+use super::sides::{numbered, side};
+use crate::cases::{CaseRef, FieldsRef, is_compared};
+use crate::comparing::add_rest;
+use crate::partial_eq::Comparing;
+use crate::sides::Operand;
+use crate::skips::is_skipped;
+use dm_emit::print::expr::arms as tree_arms;
+use dm_emit::print::token::{close, joint, open, punct};
+use dm_syntax::{DeriveInput, Field};
+use dm_tokens::{Delim, Layout, Seq};
+use std::alloc::{AllocError, Global};
+
+fn sign(out: &mut Layout, comparing: Comparing) -> Result<(), AllocError>
+    ensures { OnOk result (out.new ≡ lay out.old (printed.sign_trees comparing)) }
+{
+    match comparing {
+        Comparing::Equal => joint(out, '=', '='),
+        Comparing::Unequal => joint(out, '!', '='),
+    }
+}
+
+/// Adds what joins two tests.
+pub fn join(out: &mut Layout, comparing: Comparing) -> Result<(), AllocError>
+    ensures { OnOk result (out.new ≡ lay out.old (printed.join_trees comparing)) }
+{
+    match comparing {
+        Comparing::Equal => joint(out, '&', '&'),
+        Comparing::Unequal => joint(out, '|', '|'),
+    }
+}
+
+fn test(alloc: Global, out: &mut Layout, comparing: Comparing, n: usize) -> Result<(), AllocError>
+    ensures { OnOk result (out.new ≡ lay out.old (tokens.expr_trees (spec.test comparing n))) }
+{
+    numbered(alloc, out, Operand::Mine, n)?;
+    sign(out, comparing)?;
+    numbered(alloc, out, Operand::Theirs, n)
+}
+
+/// Adds a test, and in front of it what joins it to the one before.
+fn next_test(
+    alloc: Global,
+    out: &mut Layout,
+    comparing: Comparing,
+    n: usize,
+    first: bool,
+) -> Result<(), AllocError>
+    ensures { OnOk result (out.new ≡ lay out.old (trees.join (cond first no_trees (printed.join_trees comparing)) (tokens.expr_trees (spec.test comparing n)))) }
+{
+    if !first {
+        join(out, comparing)?;
+    }
+    test(alloc, out, comparing, n)
+}
+
+fn tests(
+    alloc: Global,
+    out: &mut Layout,
+    comparing: Comparing,
+    fields: &[Field<'_>],
+) -> Result<(), AllocError>
+    ensures { OnOk result (out.new ≡ lay out.old (printed.joined comparing true (spec.tests comparing 0 (map field_view fields.now)))) }
+{
+    let mut first = true;
+    for (i, field) in fields.iter().enumerate() {
+        if !is_skipped(field.attrs.as_slice()) {
+            next_test(alloc, out, comparing, i, first)?;
+            first = false;
+        }
+    }
+    Ok(())
+}
+
+fn tests_of(
+    alloc: Global,
+    out: &mut Layout,
+    comparing: Comparing,
+    fields: FieldsRef<'_, '_>,
+) -> Result<(), AllocError>
+    ensures { OnOk result (out.new ≡ lay out.old (printed.joined comparing true (spec.tests comparing 0 (values.field_list (fields_ref_view fields.entry))))) }
+{
+    match fields {
+        FieldsRef::Named(all) => tests(alloc, out, comparing, all.items.as_slice()),
+        FieldsRef::Unnamed(all) => tests(alloc, out, comparing, all.items.as_slice()),
+        FieldsRef::Unit => Ok(()),
+    }
+}
+
+/// Adds the tests of the fields of a variant that is compared.
+fn tested(
+    alloc: Global,
+    out: &mut Layout,
+    comparing: Comparing,
+    case: &CaseRef<'_, '_>,
+) -> Result<(), AllocError>
+    requires { IsTrue (heads.is_compared (case_view case.now)) }
+    ensures { OnOk result (out.new ≡ lay out.old (tokens.expr_trees (spec.chain comparing (spec.tests comparing 0 (values.field_list (case_view case.now).fields))))) }
+{
+    tests_of(alloc, out, comparing, case.fields)
+}
+
+fn arm(
+    alloc: Global,
+    out: &mut Layout,
+    comparing: Comparing,
+    input: &DeriveInput<'_>,
+    case: &CaseRef<'_, '_>,
+) -> Result<(), AllocError>
+    requires { IsTrue (heads.is_compared (case_view case.now)) }
+    ensures { OnOk result (out.new ≡ lay out.old (tokens.arm_trees (spec.arm comparing (declaration_view input.now) (case_view case.now)))) }
+{
+    open(out, Delim::Paren)?;
+    side(alloc, out, Operand::Mine, input, case)?;
+    punct(out, ',')?;
+    side(alloc, out, Operand::Theirs, input, case)?;
+    close(out, Delim::Paren)?;
+    joint(out, '=', '>')?;
+    open(out, Delim::Brace)?;
+    tested(alloc, out, comparing, case)?;
+    close(out, Delim::Brace)?;
+    punct(out, ',')
+}
+
+/// Adds the arm of every other pair, where there is one.
+fn rest<'a>(
+    alloc: Global,
+    out: &mut Layout,
+    comparing: Comparing,
+    cases: &[CaseRef<'_, 'a>],
+) -> Result<(), AllocError>
+    ensures { OnOk result (out.new ≡ lay out.old (tokens.arms_trees (arms_of (spec.rest comparing (map case_view cases.now))))) }
+{
+    let mut made = Seq::new(alloc);
+    add_rest(alloc, comparing, cases, &mut made)?;
+    tree_arms(alloc, out, made.as_slice())
+}
+
+/// Adds an arm for each variant that is compared, and perhaps one for every other pair.
+pub fn arms<'a>(
+    alloc: Global,
+    out: &mut Layout,
+    comparing: Comparing,
+    input: &DeriveInput<'a>,
+    cases: &[CaseRef<'_, 'a>],
+) -> Result<(), AllocError>
+    ensures { OnOk result (out.new ≡ lay out.old (tokens.arms_trees (arms_of (spec.arms comparing (declaration_view input.now) (map case_view cases.now) (spec.rest comparing (map case_view cases.now)))))) }
+{
+    for case in cases {
+        if is_compared(case) {
+            arm(alloc, out, comparing, input, case)?;
+        }
+    }
+    rest(alloc, out, comparing, cases)
+}
