@@ -175,6 +175,7 @@ method_with c b =
       body = b;
     }
 
+-- `eq` or `ne` with its body
 abbrev pub method : Comparing → Declaration → MethodTree
 method c d = method_with c (body c d)
 
@@ -194,5 +195,6 @@ with_methods d ms =
       methods = ms;
     }
 
+-- the implementation of `PartialEq` for a declaration
 abbrev pub item : Declaration → ItemTree
 item d = with_methods d (methods d)

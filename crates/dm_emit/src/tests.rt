@@ -164,6 +164,20 @@ fn signatures(rt: HostRuntime) -> Result<(), AllocError> {
     Ok(())
 }
 
+#[test]
+fn tokens(rt: HostRuntime) -> Result<(), AllocError> {
+    let alloc = rt.alloc();
+    let mut out = Layout::new(alloc);
+    token::name(&mut out, &ident("x"))?;
+    token::punct(&mut out, ':')?;
+    token::word(&mut out, "T")?;
+    token::joint(&mut out, '=', '=')?;
+    token::joint_if(&mut out, false, ':', ':')?;
+    token::joint_if(&mut out, true, '&', '&')?;
+    assert!(rt; out.into_string().as_str() == "x : T == &&");
+    Ok(())
+}
+
 /// `_ => false`.
 fn last_arm(alloc: Global) -> Result<Arm<'static>, AllocError> {
     Ok(Arm {

@@ -131,7 +131,7 @@ fn body(alloc: Global, out: &mut Layout, tree: &ArmBody<'_>) -> Result<(), Alloc
 
 /// Adds a block.
 #[cycle(print)]
-pub fn block(alloc: Global, out: &mut Layout, tree: &Block<'_>) -> Result<(), AllocError>
+pub(crate) fn block(alloc: Global, out: &mut Layout, tree: &Block<'_>) -> Result<(), AllocError>
     ensures { OnOk result (out.new ≡ lay out.old (spec.block_trees (block_view tree.now))) }
 {
     open(out, Delim::Brace)?;

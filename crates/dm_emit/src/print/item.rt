@@ -244,7 +244,7 @@ pub fn head(alloc: Global, out: &mut Layout, tree: &Item<'_>) -> Result<(), Allo
 }
 
 /// Adds an implementation.
-pub fn item(alloc: Global, out: &mut Layout, tree: &Item<'_>) -> Result<(), AllocError>
+pub(crate) fn item(alloc: Global, out: &mut Layout, tree: &Item<'_>) -> Result<(), AllocError>
     ensures { OnOk result (out.new ≡ lay out.old (spec.item_trees (item_view tree.now))) }
 {
     head(alloc, out, tree)?;

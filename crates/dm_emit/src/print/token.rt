@@ -17,7 +17,7 @@ pub fn word(out: &mut Layout, text: &str) -> Result<(), AllocError>
 }
 
 /// Adds one where it is there.
-pub fn word_if(out: &mut Layout, here: bool, text: &str) -> Result<(), AllocError>
+pub(crate) fn word_if(out: &mut Layout, here: bool, text: &str) -> Result<(), AllocError>
     ensures { OnOk result (out.new ≡ lay out.old (syntax.given here (spec.word text.now))) }
 {
     if here {
@@ -34,7 +34,7 @@ pub fn name(out: &mut Layout, ident: &Ident<'_>) -> Result<(), AllocError>
 }
 
 /// Adds a lifetime.
-pub fn lifetime(out: &mut Layout, lifetime: &Lifetime<'_>) -> Result<(), AllocError>
+pub(crate) fn lifetime(out: &mut Layout, lifetime: &Lifetime<'_>) -> Result<(), AllocError>
     ensures { OnOk result (out.new ≡ lay out.old (syntax.lifetime lifetime.now)) }
 {
     out.lifetime(lifetime)
@@ -48,7 +48,7 @@ pub fn punct(out: &mut Layout, ch: char) -> Result<(), AllocError>
 }
 
 /// Adds one where it is there.
-pub fn punct_if(out: &mut Layout, here: bool, ch: char) -> Result<(), AllocError>
+pub(crate) fn punct_if(out: &mut Layout, here: bool, ch: char) -> Result<(), AllocError>
     ensures { OnOk result (out.new ≡ lay out.old (syntax.given here (spec.punct ch))) }
 {
     if here {
@@ -90,7 +90,7 @@ pub fn close(out: &mut Layout, delim: Delim) -> Result<(), AllocError>
 }
 
 /// Adds a stream's tokens.
-pub fn stream(out: &mut Layout, tokens: &TokenStream<'_>) -> Result<(), AllocError>
+pub(crate) fn stream(out: &mut Layout, tokens: &TokenStream<'_>) -> Result<(), AllocError>
     ensures { OnOk result (out.new ≡ lay out.old tokens.now.trees) }
 {
     out.stream(tokens)
