@@ -1,5 +1,5 @@
 -- What the steps of a derive say of the text.
-use Rattle.std.proofs.Common.{◌≡◌, ℕ, List, length, map, Some, Result, Ok, Err, sym, ap, subst, ◌∙◌, inl, inr}
+use Rattle.std.proofs.Common.{◌≡◌, ℕ, List, length, map, None, Some, Result, Ok, Err, ap, subst, ◌∙◌, inl, inr}
 use Rattle.std.specs.Prelude.{◌⊎◌, IfOk, String}
 use Rattle.std.specs.declared.alloc.Global.{Global}
 use Rattle.std.specs.Str.{chars}
@@ -15,6 +15,7 @@ use Rattle.dm_tokens.specs.Nesting.{IsTreesOf, AreTheOnly, IsRefusalOf, IsRefuse
 use Rattle.dm_tokens.proofs.Nestings.{trees-only}
 use Rattle.dm_syntax.specs.declared.decl.DeriveInput.{DeriveInput}
 use Rattle.dm_syntax.specs.Declarations.{Declaration, declaration_view}
+use Rattle.dm_syntax.specs.Spelling.{Marks, first_too_deep}
 use Rattle.dm_syntax.specs.Parsed.{SpelledBy, IsTheDeclaration, IsUnread, IsRefusal}
 use Rattle.dm_syntax.specs.Names.{names_refusal, IsNamesError}
 use Rattle.dm_syntax.proofs.NameRefusals.{refused_not_named}
@@ -24,7 +25,7 @@ use Rattle.dm_cmp_ops.specs.Checks.{refusal, IsValid}
 use Rattle.dm_cmp_ops.specs.Expanded.{IsAnswer, IsPrinted, IsReadable, IsText}
 use Rattle.dm_cmp_ops.proofs.CheckLaws.{unrefused}
 use Rattle.dm_cmp_ops.proofs.Expansions.{text-once}
-use Rattle.dm_derive.specs.Derived.{Answers, AreTrees, IsKnown, IsRead, Reads, Derives, Prints, IsNotLexed, IsNotParsed, IsMisnamed, IsNotDerived, Refuses, IsDerivable}
+use Rattle.dm_derive.specs.Derived.{Answers, AreTrees, Grammar, IsKnown, IsRead, Reads, Derives, Prints, IsNotLexed, IsNotParsed, IsMisnamed, IsNotDerived, Refuses, IsDerivable, IsUnrefused}
 
 -- ---- reading
 
@@ -114,8 +115,6 @@ printed name text d (Err NoMemory) known h m = tt
 printed name text d (Err (Refused r)) known h m =
     inr (known, inr (inr (inr (record { declaration = declaration_view d; is_read = h.0; named = h.1; refused = m }))))
 
-pub ruleset derive_steps = (not-lexed, not-parsed, is-read, misnamed, not-derived, not-known, can-expand, derived, answered, not-printed, printed)
-
 -- ---- texts of which nothing is refused
 
 whole-lexed : (text : List ℕ) (k : Kind) (s : Span) → IsWhole text → IsRefused text k s → ⊥
@@ -123,15 +122,21 @@ whole-lexed text kind.Lex s whole h = let e = whole.no_fault in let f = h.0 in c
 whole-lexed text kind.TooDeep s whole h = let e = whole.shallow in let f = h.1 in cc
 whole-lexed text _ s whole h = h
 
--- a declaration is read from these trees
-not-unread : (k : Kind) (s : Span) (limit : ℕ) (ts : Trees) (d : Declaration) → IsTheDeclaration d limit ts → IsUnread k s limit ts → ⊥
-not-unread kind.TooDeep s limit ts d one h = let deep = h.first d one.marks one.there in let within = one.within in cc
-not-unread kind.Syntax s limit ts d one h = h.none d one.marks one.there
-not-unread _ s limit ts d one h = h
+-- a declaration is spelled by these trees
+not-unread : (k : Kind) (s : Span) (limit : ℕ) (ts : Trees) (d : Declaration) (m : Marks) → SpelledBy d limit ts m → first_too_deep m ≡ None →
+    IsUnread k s limit ts → ⊥
+not-unread kind.TooDeep s limit ts d m there within h = let deep = h.first d m there in cc
+not-unread kind.Syntax s limit ts d m there within h = h.none d m there
+not-unread _ s limit ts d m there within h = h
 
 -- the trait refuses none that is valid
 not-refused : (d : Declaration) (r : Refusal) → IsValid d → refusal d ≡ Some r → ⊥
 not-refused d r valid some = let none = (unrefused d).1 valid in cc
+
+-- what is read is the declaration that the text spells
+read-it : (text : List ℕ) (d e : Declaration) → Grammar text d → IsRead text e → d ≡ e
+read-it text d e g k =
+    k.only d (record { trees = g.trees; are_trees = g.are_trees.are_trees; marks = g.marks; spelled = g.spelled })
 
 -- a text has one declaration
 read-one : (text : List ℕ) (d e : Declaration) → IsRead text d → IsRead text e → e ≡ d
@@ -139,23 +144,35 @@ read-one text d e h k =
     let one = k.is_the_one in
     h.only e (record { trees = k.trees; are_trees = k.are_trees.are_trees; marks = one.marks; spelled = one.there })
 
-not-parsed-not : (text : List ℕ) (d : Declaration) (r : Refusal) → IsRead text d → IsNotParsed text r → ⊥
-not-parsed-not text d r h bad =
-    let same : bad.trees ≡ h.trees = trees-only (reading 0 0 (chars text)) h.trees bad.trees h.are_trees.are_trees bad.are_trees.are_trees in
-    not-unread r.kind r.span (length text) h.trees d h.is_the_one (subst (λ ts. IsUnread r.kind r.span (length text) ts) same bad.unread)
+not-parsed-not : (text : List ℕ) (d : Declaration) (r : Refusal) → Grammar text d → IsNotParsed text r → ⊥
+not-parsed-not text d r g bad =
+    let same : bad.trees ≡ g.trees = trees-only (reading 0 0 (chars text)) g.trees bad.trees g.are_trees.are_trees bad.are_trees.are_trees in
+    not-unread r.kind r.span (length text) g.trees d g.marks g.spelled g.within (subst (λ ts. IsUnread r.kind r.span (length text) ts) same bad.unread)
 
 none-late : (name text : List ℕ) (r : Refusal) → IsDerivable name text →
     IsNotLexed text r ⊎ IsNotParsed text r ⊎ IsMisnamed text r ⊎ IsNotDerived text r → ⊥
-none-late name text r d (inl h) = whole-lexed text r.kind r.span d.is_read.are_trees.whole h.refused
-none-late name text r d (inr (inl h)) = not-parsed-not text d.declaration r d.is_read h
+none-late name text r d (inl h) = whole-lexed text r.kind r.span d.grammar.are_trees.whole h.refused
+none-late name text r d (inr (inl h)) = not-parsed-not text d.declaration r d.grammar h
 none-late name text r d (inr (inr (inl h))) =
-    refused_not_named d.declaration r (sym (ap names_refusal (read-one text d.declaration h.declaration d.is_read h.is_read)) ∙ h.misnamed) d.named
+    refused_not_named d.declaration r (ap names_refusal (read-it text d.declaration h.declaration d.grammar h.is_read) ∙ h.misnamed) d.named
 none-late name text r d (inr (inr (inr h))) =
-    not-refused d.declaration r d.valid (sym (ap refusal (read-one text d.declaration h.declaration d.is_read h.is_read)) ∙ h.refused)
+    not-refused d.declaration r d.valid (ap refusal (read-it text d.declaration h.declaration d.grammar h.is_read) ∙ h.refused)
 
 pub derivable : (name text : List ℕ) → IsDerivable name text → (r : Refusal) → ¬ (Refuses name text r)
 unfolding Refuses
 derivable name text d r h = elim h as (λ _. ⊥) [ inl un ↦ un.unknown d.known | inr late ↦ none-late name text r d late.1 ]
+
+pub expands-it : (name text : List ℕ) (r : Result Expansion Error) → Derives name text r → IsDerivable name text → IsUnrefused r
+expands-it name text (Ok x) h d = tt
+expands-it name text (Err NoMemory) h d = tt
+expands-it name text (Err (Refused r)) h d = derivable name text d r h
+
+pub prints-it : (name text : List ℕ) (r : Result (String Global) Error) → Prints name text r → IsDerivable name text → IsUnrefused r
+prints-it name text (Ok x) h d = tt
+prints-it name text (Err NoMemory) h d = tt
+prints-it name text (Err (Refused r)) h d = derivable name text d r h
+
+pub ruleset derive_steps = (not-lexed, not-parsed, is-read, misnamed, not-derived, not-known, can-expand, derived, answered, not-printed, printed, expands-it, prints-it)
 
 -- ---- a text has one answer
 

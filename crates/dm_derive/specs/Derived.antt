@@ -1,5 +1,5 @@
 -- What a trait's name and the text of a declaration are answered with.
-use Rattle.std.specs.Prelude.{◌≡◌, ℕ, List, map, length, codes, Some, Result, Ok, Err, ◌⊎◌, String, string_bytes}
+use Rattle.std.specs.Prelude.{◌≡◌, ℕ, List, map, length, codes, None, Some, Result, Ok, Err, ◌⊎◌, String, string_bytes}
 use Rattle.std.specs.declared.alloc.Global.{Global}
 use Rattle.dm_tokens.specs.declared.error.Kind.TheVariants.{UnknownTrait}
 use Rattle.dm_tokens.specs.declared.error.Refusal.{Refusal}
@@ -9,7 +9,7 @@ use Rattle.dm_tokens.specs.Trees.{Trees}
 use Rattle.dm_tokens.specs.Nesting.{IsTreesOf, IsWhole, IsRefused}
 use Rattle.dm_syntax.specs.declared.decl.DeriveInput.{DeriveInput}
 use Rattle.dm_syntax.specs.Declarations.{Declaration, declaration_view}
-use Rattle.dm_syntax.specs.Spelling.{Marks}
+use Rattle.dm_syntax.specs.Spelling.{Marks, first_too_deep}
 use Rattle.dm_syntax.specs.Parsed.{SpelledBy, IsTheDeclaration, IsUnread}
 use Rattle.dm_syntax.specs.Names.{Named, names_refusal}
 use Rattle.dm_emit.specs.declared.print.Expansion.{Expansion}
@@ -27,18 +27,26 @@ pub record AreTrees (text : List ℕ) (ts : Trees) : Type 0 where
   pub are_trees : IsTreesOf text ts
 
 -- the text is that of the declaration, however deep its tokens stand
-pub record Grammar (text : List ℕ) (d : Declaration) : Type 0 where
+pub record Spells (text : List ℕ) (d : Declaration) : Type 0 where
   pub trees : Trees
   pub are_trees : IsTreesOf text trees
   pub marks : Marks
   pub spelled : SpelledBy d (length text) trees marks
+
+-- the text is that of the declaration, and none of its tokens is too deep
+pub record Grammar (text : List ℕ) (d : Declaration) : Type 0 where
+  pub trees : Trees
+  pub are_trees : AreTrees text trees
+  pub marks : Marks
+  pub spelled : SpelledBy d (length text) trees marks
+  pub within : first_too_deep marks ≡ None
 
 -- d is the declaration of the text, whose tokens aren't too deep
 pub record IsRead (text : List ℕ) (d : Declaration) : Type 0 where
   pub trees : Trees
   pub are_trees : AreTrees text trees
   pub is_the_one : IsTheDeclaration d (length text) trees
-  pub only : (e : Declaration) → Grammar text e → e ≡ d
+  pub only : (e : Declaration) → Spells text e → e ≡ d
 
 -- the implementations that the trait of this name derives for the text, and their text
 pub record Expands (name text : List ℕ) (items : List ItemTree) (written : List ℕ) : Type 0 where
@@ -92,13 +100,19 @@ Reads text (Err (Refused r)) = IsNotLexed text r ⊎ IsNotParsed text r ⊎ IsMi
 unfoldable pub Refuses : List ℕ → List ℕ → Refusal → Type 0
 Refuses name text r = IsUnknown name r ⊎ (IsKnown name × (IsNotLexed text r ⊎ IsNotParsed text r ⊎ IsMisnamed text r ⊎ IsNotDerived text r))
 
--- the trait is derived, and the declaration of the text is valid
+-- the trait is derived, and the text is that of a declaration that is valid
 pub record IsDerivable (name text : List ℕ) : Type 0 where
   pub known : IsKnown name
   pub declaration : Declaration
-  pub is_read : IsRead text declaration
+  pub grammar : Grammar text declaration
   pub named : Named declaration
   pub valid : IsValid declaration
+
+-- nothing but want of memory stops a call
+abbrev pub IsUnrefused : {A : Type 0} → Result A Error → Type 0
+IsUnrefused (Ok x) = Unit {0}
+IsUnrefused (Err NoMemory) = Unit {0}
+IsUnrefused (Err (Refused r)) = ⊥
 
 -- what a derive answers, want of memory aside
 abbrev pub Derives : List ℕ → List ℕ → Result Expansion Error → Type 0

@@ -4,7 +4,7 @@
 ghost use Rattle.std.specs.Prelude.{◌≡◌, ◌↔◌, IsTrue, IfOk};
 ghost use Rattle.dm_tokens.specs.declared.error.Error.TheVariants as error;
 ghost use Rattle.dm_tokens.specs.declared.error.Kind.TheVariants as kind;
-ghost use Rattle.dm_derive.specs.Derived.{Answers, Derives, IsKnown, Prints, Reads};
+ghost use Rattle.dm_derive.specs.Derived.{Answers, Derives, IsDerivable, IsKnown, IsUnrefused, Prints, Reads};
 
 use dm_cmp_ops::partial_eq;
 use dm_emit::Expansion;
@@ -34,6 +34,7 @@ pub fn derive_text<'a>(
 ) -> Result<Expansion<'a>, Error>
     ensures derives { Derives trait_name.now decl.now result }
     ensures answers { IfOk result (λ x. Answers trait_name.now decl.now x.text) }
+    ensures complete { IsDerivable trait_name.now decl.now → IsUnrefused result }
 {
     if is_known(trait_name) {
         derive_known(alloc, trait_name, decl)
@@ -79,11 +80,12 @@ fn read<'a>(alloc: Global, decl: &'a str) -> Result<DeriveInput<'a>, Error>
     Ok(input)
 }
 
-/// The text of what [derive_text] gives, by the same rules and with the same refusals.
+/// The text of what [derive_text] gives, by the same rules. It refuses where that does.
 ///
 /// It takes less time and memory, since it doesn't make the trees of a long implementation.
 pub fn derive_printed(alloc: Global, trait_name: &str, decl: &str) -> Result<String, Error>
-    ensures { Prints trait_name.now decl.now result }
+    ensures prints { Prints trait_name.now decl.now result }
+    ensures complete { IsDerivable trait_name.now decl.now → IsUnrefused result }
 {
     if is_known(trait_name) {
         print_known(alloc, trait_name, decl)

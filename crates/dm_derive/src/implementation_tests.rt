@@ -1,4 +1,4 @@
-use super::{derive_printed, derive_text};
+use super::{MemSink, MemSource, Status, derive_main, derive_printed, derive_text};
 use dm_tokens::Error;
 use std::alloc::{AllocError, Global};
 
@@ -25,11 +25,22 @@ fn implementation(
 /// A declaration, what stands behind `impl`, and the bodies of `eq` and `ne`.
 type Row = (&'static str, &'static str, &'static str, &'static str);
 
-/// Whether the declaration has this implementation, by both calls.
+/// Whether a run writes this implementation of the declaration.
+fn is_written(alloc: Global, decl: &str, want: &str) -> Result<bool, AllocError> {
+    let mut input = Vec::from_slice(alloc, b"PartialEq\n")?;
+    input.extend_from_slice(decl.as_bytes())?;
+    let mut source = MemSource::new(input, 64, Vec::new(alloc));
+    let mut sink = MemSink::new(alloc, 10_000, 10_000, Vec::new(alloc))?;
+    let status = derive_main(alloc, &[], &mut source, &mut sink);
+    Ok(status == Status::Done && sink.written() == want.as_bytes())
+}
+
+/// Whether the declaration has this implementation, by the calls and by a run.
 fn is_derived(alloc: Global, decl: &str, want: &str) -> Result<bool, Error> {
     let made = derive_text(alloc, "PartialEq", decl)?;
     let printed = derive_printed(alloc, "PartialEq", decl)?;
-    Ok(made.text.as_str() == want && printed.as_str() == want)
+    let same = made.text.as_str() == want && printed.as_str() == want;
+    Ok(same && is_written(alloc, decl, want)?)
 }
 
 /// Whether each declaration has its implementation.
@@ -391,6 +402,24 @@ const SKIPPED_IN_VARIANTS: &[Row] = &[
         "derive_more :: core :: mem :: discriminant (self) == derive_more :: core :: mem :: discriminant (__other) && match (self , __other) { (Self :: A (_ , __self_1 ,) , Self :: A (_ , __other_1 ,)) => { __self_1 == __other_1 } , (Self :: B { b : __self_1 , .. } , Self :: B { b : __other_1 , .. }) => { __self_1 == __other_1 } , _ => unsafe { derive_more :: core :: hint :: unreachable_unchecked () } , }",
         "derive_more :: core :: mem :: discriminant (self) != derive_more :: core :: mem :: discriminant (__other) || match (self , __other) { (Self :: A (_ , __self_1 ,) , Self :: A (_ , __other_1 ,)) => { __self_1 != __other_1 } , (Self :: B { b : __self_1 , .. } , Self :: B { b : __other_1 , .. }) => { __self_1 != __other_1 } , _ => unsafe { derive_more :: core :: hint :: unreachable_unchecked () } , }",
     ),
+    (
+        "enum E { A(u8, #[eq(skip)] u16, u32), B { #[eq(skip)] a: u8 } }",
+        "derive_more :: core :: cmp :: PartialEq for E",
+        "derive_more :: core :: mem :: discriminant (self) == derive_more :: core :: mem :: discriminant (__other) && match (self , __other) { (Self :: A (__self_0 , _ , __self_2 ,) , Self :: A (__other_0 , _ , __other_2 ,)) => { __self_0 == __other_0 && __self_2 == __other_2 } , _ => true , }",
+        "derive_more :: core :: mem :: discriminant (self) != derive_more :: core :: mem :: discriminant (__other) || match (self , __other) { (Self :: A (__self_0 , _ , __self_2 ,) , Self :: A (__other_0 , _ , __other_2 ,)) => { __self_0 != __other_0 || __self_2 != __other_2 } , _ => false , }",
+    ),
+    (
+        "pub(crate) enum E { A(u8), #[eq(skip)] B(u8), C { c: u8 } }",
+        "derive_more :: core :: cmp :: PartialEq for E",
+        "derive_more :: core :: mem :: discriminant (self) == derive_more :: core :: mem :: discriminant (__other) && match (self , __other) { (Self :: A (__self_0 ,) , Self :: A (__other_0 ,)) => { __self_0 == __other_0 } , (Self :: C { c : __self_0 , } , Self :: C { c : __other_0 , }) => { __self_0 == __other_0 } , _ => true , }",
+        "derive_more :: core :: mem :: discriminant (self) != derive_more :: core :: mem :: discriminant (__other) || match (self , __other) { (Self :: A (__self_0 ,) , Self :: A (__other_0 ,)) => { __self_0 != __other_0 } , (Self :: C { c : __self_0 , } , Self :: C { c : __other_0 , }) => { __self_0 != __other_0 } , _ => false , }",
+    ),
+    (
+        "enum E { A { a: u8, #[eq(skip)] b: u8 }, B(#[partial_eq(ignore)] u8, u8) }",
+        "derive_more :: core :: cmp :: PartialEq for E",
+        "derive_more :: core :: mem :: discriminant (self) == derive_more :: core :: mem :: discriminant (__other) && match (self , __other) { (Self :: A { a : __self_0 , .. } , Self :: A { a : __other_0 , .. }) => { __self_0 == __other_0 } , (Self :: B (_ , __self_1 ,) , Self :: B (_ , __other_1 ,)) => { __self_1 == __other_1 } , _ => unsafe { derive_more :: core :: hint :: unreachable_unchecked () } , }",
+        "derive_more :: core :: mem :: discriminant (self) != derive_more :: core :: mem :: discriminant (__other) || match (self , __other) { (Self :: A { a : __self_0 , .. } , Self :: A { a : __other_0 , .. }) => { __self_0 != __other_0 } , (Self :: B (_ , __self_1 ,) , Self :: B (_ , __other_1 ,)) => { __self_1 != __other_1 } , _ => unsafe { derive_more :: core :: hint :: unreachable_unchecked () } , }",
+    ),
 ];
 
 #[test]
@@ -483,6 +512,24 @@ const GENERIC_STRUCTS: &[Row] = &[
         "match (self , __other) { (Self { a : __self_0 , } , Self { a : __other_0 , }) => { __self_0 == __other_0 } , }",
         "match (self , __other) { (Self { a : __self_0 , } , Self { a : __other_0 , }) => { __self_0 != __other_0 } , }",
     ),
+    (
+        "struct S<T>(#[eq(skip)] T, u8);",
+        "< T > derive_more :: core :: cmp :: PartialEq for S < T >",
+        "match (self , __other) { (Self (_ , __self_1 ,) , Self (_ , __other_1 ,)) => { __self_1 == __other_1 } , }",
+        "match (self , __other) { (Self (_ , __self_1 ,) , Self (_ , __other_1 ,)) => { __self_1 != __other_1 } , }",
+    ),
+    (
+        "struct S<const N: usize> { a: [u8; N], r#type: [u8; 2] }",
+        "< const N : usize > derive_more :: core :: cmp :: PartialEq for S < N >",
+        "match (self , __other) { (Self { a : __self_0 , r#type : __self_1 , } , Self { a : __other_0 , r#type : __other_1 , }) => { __self_0 == __other_0 && __self_1 == __other_1 } , }",
+        "match (self , __other) { (Self { a : __self_0 , r#type : __self_1 , } , Self { a : __other_0 , r#type : __other_1 , }) => { __self_0 != __other_0 || __self_1 != __other_1 } , }",
+    ),
+    (
+        "#[eq(skip)] struct S<T> { a: T }",
+        "< T > derive_more :: core :: cmp :: PartialEq for S < T >",
+        "true",
+        "",
+    ),
 ];
 
 #[test]
@@ -517,6 +564,12 @@ const GENERIC_ENUMS: &[Row] = &[
         "match * self { }",
         "",
     ),
+    (
+        "enum E<T: 'a, 'a> { A(&'a T), B { t: T } }",
+        "< 'a , T : 'a > derive_more :: core :: cmp :: PartialEq for E < 'a , T >",
+        "derive_more :: core :: mem :: discriminant (self) == derive_more :: core :: mem :: discriminant (__other) && match (self , __other) { (Self :: A (__self_0 ,) , Self :: A (__other_0 ,)) => { __self_0 == __other_0 } , (Self :: B { t : __self_0 , } , Self :: B { t : __other_0 , }) => { __self_0 == __other_0 } , _ => unsafe { derive_more :: core :: hint :: unreachable_unchecked () } , }",
+        "derive_more :: core :: mem :: discriminant (self) != derive_more :: core :: mem :: discriminant (__other) || match (self , __other) { (Self :: A (__self_0 ,) , Self :: A (__other_0 ,)) => { __self_0 != __other_0 } , (Self :: B { t : __self_0 , } , Self :: B { t : __other_0 , }) => { __self_0 != __other_0 } , _ => unsafe { derive_more :: core :: hint :: unreachable_unchecked () } , }",
+    ),
 ];
 
 #[test]
@@ -544,5 +597,33 @@ const TYPES: &[Row] = &[
 #[test]
 fn types(rt: HostRuntime) -> Result<(), Error> {
     assert!(rt; are_derived(rt.alloc(), TYPES)?);
+    Ok(())
+}
+
+/// More fields than have a name that is written out in the program.
+const MANY_FIELDS: &[Row] = &[
+    (
+        "struct S(u8, u8, u8, u8, u8, u8, u8, u8, u8, u8);",
+        "derive_more :: core :: cmp :: PartialEq for S",
+        "match (self , __other) { (Self (__self_0 , __self_1 , __self_2 , __self_3 , __self_4 , __self_5 , __self_6 , __self_7 , __self_8 , __self_9 ,) , Self (__other_0 , __other_1 , __other_2 , __other_3 , __other_4 , __other_5 , __other_6 , __other_7 , __other_8 , __other_9 ,)) => { __self_0 == __other_0 && __self_1 == __other_1 && __self_2 == __other_2 && __self_3 == __other_3 && __self_4 == __other_4 && __self_5 == __other_5 && __self_6 == __other_6 && __self_7 == __other_7 && __self_8 == __other_8 && __self_9 == __other_9 } , }",
+        "match (self , __other) { (Self (__self_0 , __self_1 , __self_2 , __self_3 , __self_4 , __self_5 , __self_6 , __self_7 , __self_8 , __self_9 ,) , Self (__other_0 , __other_1 , __other_2 , __other_3 , __other_4 , __other_5 , __other_6 , __other_7 , __other_8 , __other_9 ,)) => { __self_0 != __other_0 || __self_1 != __other_1 || __self_2 != __other_2 || __self_3 != __other_3 || __self_4 != __other_4 || __self_5 != __other_5 || __self_6 != __other_6 || __self_7 != __other_7 || __self_8 != __other_8 || __self_9 != __other_9 } , }",
+    ),
+    (
+        "struct S { a: u8, b: u8, c: u8, d: u8, e: u8, f: u8, g: u8, h: u8, #[eq(skip)] i: u8, j: u8 }",
+        "derive_more :: core :: cmp :: PartialEq for S",
+        "match (self , __other) { (Self { a : __self_0 , b : __self_1 , c : __self_2 , d : __self_3 , e : __self_4 , f : __self_5 , g : __self_6 , h : __self_7 , j : __self_9 , .. } , Self { a : __other_0 , b : __other_1 , c : __other_2 , d : __other_3 , e : __other_4 , f : __other_5 , g : __other_6 , h : __other_7 , j : __other_9 , .. }) => { __self_0 == __other_0 && __self_1 == __other_1 && __self_2 == __other_2 && __self_3 == __other_3 && __self_4 == __other_4 && __self_5 == __other_5 && __self_6 == __other_6 && __self_7 == __other_7 && __self_9 == __other_9 } , }",
+        "match (self , __other) { (Self { a : __self_0 , b : __self_1 , c : __self_2 , d : __self_3 , e : __self_4 , f : __self_5 , g : __self_6 , h : __self_7 , j : __self_9 , .. } , Self { a : __other_0 , b : __other_1 , c : __other_2 , d : __other_3 , e : __other_4 , f : __other_5 , g : __other_6 , h : __other_7 , j : __other_9 , .. }) => { __self_0 != __other_0 || __self_1 != __other_1 || __self_2 != __other_2 || __self_3 != __other_3 || __self_4 != __other_4 || __self_5 != __other_5 || __self_6 != __other_6 || __self_7 != __other_7 || __self_9 != __other_9 } , }",
+    ),
+    (
+        "enum E { A(#[eq(skip)] u8, u8, u8, u8, u8, u8, u8, u8, #[eq(skip)] u8, u8, u8) }",
+        "derive_more :: core :: cmp :: PartialEq for E",
+        "match (self , __other) { (Self :: A (_ , __self_1 , __self_2 , __self_3 , __self_4 , __self_5 , __self_6 , __self_7 , _ , __self_9 , __self_10 ,) , Self :: A (_ , __other_1 , __other_2 , __other_3 , __other_4 , __other_5 , __other_6 , __other_7 , _ , __other_9 , __other_10 ,)) => { __self_1 == __other_1 && __self_2 == __other_2 && __self_3 == __other_3 && __self_4 == __other_4 && __self_5 == __other_5 && __self_6 == __other_6 && __self_7 == __other_7 && __self_9 == __other_9 && __self_10 == __other_10 } , }",
+        "match (self , __other) { (Self :: A (_ , __self_1 , __self_2 , __self_3 , __self_4 , __self_5 , __self_6 , __self_7 , _ , __self_9 , __self_10 ,) , Self :: A (_ , __other_1 , __other_2 , __other_3 , __other_4 , __other_5 , __other_6 , __other_7 , _ , __other_9 , __other_10 ,)) => { __self_1 != __other_1 || __self_2 != __other_2 || __self_3 != __other_3 || __self_4 != __other_4 || __self_5 != __other_5 || __self_6 != __other_6 || __self_7 != __other_7 || __self_9 != __other_9 || __self_10 != __other_10 } , }",
+    ),
+];
+
+#[test]
+fn many_fields(rt: HostRuntime) -> Result<(), Error> {
+    assert!(rt; are_derived(rt.alloc(), MANY_FIELDS)?);
     Ok(())
 }

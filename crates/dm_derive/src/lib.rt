@@ -15,11 +15,9 @@ mod transfer;
 
 pub use derive::{derive_printed, derive_text};
 pub use input::split;
-pub use line::refusal_line;
 pub use memory::{MemSink, MemSource};
 pub use outside::{Failed, Sink, Source};
 pub use top::{Status, derive_main};
-pub use transfer::{LIMIT, ReadError, read_all, write_all};
 
 #[cfg(test)]
 mod tests;

@@ -52,6 +52,7 @@ fn copy_front(bytes: &[u8], most: usize, buf: &mut [u8]) -> usize
 }
 
 impl MemSource {
+    /// A source of these bytes. A read gives `most` bytes at the most; it fails where its number, counted from 1, is in `failing`.
     pub fn new(bytes: Vec<u8>, most: usize, failing: Vec<u32>) -> MemSource
         requires { 1 ≤ most }
         ensures { result ≡ record { left = bytes.items; most = most; failing = failing.items; calls = 0; faults = 0 } }
@@ -116,6 +117,8 @@ impl Model for MemSink {
 }
 
 impl MemSink {
+    /// A sink with room for so many bytes, all of which it takes now. A write takes `most` bytes at the most; it fails where its
+    /// number, counted from 1, is in `failing`, and where the room is full.
     pub fn new(
         alloc: Global,
         room: usize,
@@ -142,6 +145,7 @@ impl MemSink {
         self.taken.len() == self.room && !piece.is_empty()
     }
 
+    /// The bytes taken so far.
     pub fn written(&self) -> &[u8]
         ensures { result.now ≡ self.now.written }
     {

@@ -1,4 +1,5 @@
-use super::{LIMIT, MemSink, MemSource, Status, derive_main, split};
+use super::transfer::LIMIT;
+use super::{MemSink, MemSource, Status, derive_main, split};
 use std::alloc::{AllocError, Global};
 use std::process::Abort;
 
@@ -81,71 +82,103 @@ fn implementations(rt: HostRuntime) -> Result<(), AllocError> {
     Ok(())
 }
 
+/// Inputs, and the line of the refusal.
+const REFUSALS: &[(&[u8], &[u8])] = &[
+    (
+        b"PartialEq\n",
+        b"Syntax 0..0: not one struct, enum or union declaration\n",
+    ),
+    (
+        b"PartialEq\nstruct P(A)",
+        b"Syntax 11..11: not one struct, enum or union declaration\n",
+    ),
+    (
+        b"PartialEq\nstruct P(fn);",
+        b"Syntax 11..11: not one struct, enum or union declaration\n",
+    ),
+    (
+        b"PartialEq\nstruct P(m!());",
+        b"Unsupported 9..13: left out of this port\n",
+    ),
+    (
+        b"PartialEq\nstruct P<T, T>(T);",
+        b"DuplicateName 12..13: name is declared twice\n",
+    ),
+    (
+        b"PartialEq\nstruct __P(A);",
+        b"ReservedName 7..10: name is reserved\n",
+    ),
+    (
+        b"PartialEq\nstruct derive_more(A);",
+        b"ReservedName 7..18: name is reserved\n",
+    ),
+    (
+        b"PartialEq\nstruct r#__P(A);",
+        b"ReservedName 7..12: name is reserved\n",
+    ),
+    (
+        b"PartialEq\n#[eq] struct P(A);",
+        b"AttrSyntax 0..5: attribute does not read here\n",
+    ),
+    (
+        b"PartialEq\nstruct S([u8; 1e5]);",
+        b"Lex 14..17: text is not made of tokens\n",
+    ),
+    (
+        b"PartialEq\nstruct S(u8",
+        b"Lex 8..9: text is not made of tokens\n",
+    ),
+    (b"Hash\n\"", b"UnknownTrait 0..0: no derive of this name\n"),
+    (
+        b"Hash\nstruct S;",
+        b"UnknownTrait 0..0: no derive of this name\n",
+    ),
+    (
+        b"partialeq\nstruct P(A);",
+        b"UnknownTrait 0..0: no derive of this name\n",
+    ),
+    (
+        b"PartialEq\nunion U { a: u8 }",
+        b"WrongShape 0..5: trait cannot be derived for this shape\n",
+    ),
+    (
+        b"PartialEq\nstruct S(m!(u8));",
+        b"Unsupported 9..15: left out of this port\n",
+    ),
+    (
+        b"PartialEq\nstruct S { a u8 }",
+        b"Syntax 13..15: not one struct, enum or union declaration\n",
+    ),
+    (
+        b"PartialEq\nenum E { A B }",
+        b"Syntax 11..12: not one struct, enum or union declaration\n",
+    ),
+    (
+        b"PartialEq\nstruct 1;",
+        b"Syntax 7..8: not one struct, enum or union declaration\n",
+    ),
+    (
+        b"PartialEq\nstruct S",
+        b"Syntax 8..8: not one struct, enum or union declaration\n",
+    ),
+    (
+        b"PartialEq\nstruct S { a: u8, r#a: u8 }",
+        b"DuplicateName 18..21: name is declared twice\n",
+    ),
+    (
+        b"PartialEq\nstruct S { __a: u8 }",
+        b"ReservedName 11..14: name is reserved\n",
+    ),
+    (
+        b"PartialEq\nstruct S(#[eq(skip)] #[eq(skip)] u8);",
+        b"AttrRepeated 21..32: attribute may be given once\n",
+    ),
+];
+
 #[test]
 fn refusals(rt: HostRuntime) -> Result<(), AllocError> {
     let alloc = rt.alloc();
-    for (input, line) in [
-        (
-            b"PartialEq\n".as_slice(),
-            b"Syntax 0..0: not one struct, enum or union declaration\n".as_slice(),
-        ),
-        (
-            b"PartialEq\nstruct P(A)".as_slice(),
-            b"Syntax 11..11: not one struct, enum or union declaration\n".as_slice(),
-        ),
-        (
-            b"PartialEq\nstruct P(fn);".as_slice(),
-            b"Syntax 11..11: not one struct, enum or union declaration\n".as_slice(),
-        ),
-        (
-            b"PartialEq\nstruct P(m!());".as_slice(),
-            b"Unsupported 9..13: left out of this port\n".as_slice(),
-        ),
-        (
-            b"PartialEq\nstruct P<T, T>(T);".as_slice(),
-            b"DuplicateName 12..13: name is declared twice\n".as_slice(),
-        ),
-        (
-            b"PartialEq\nstruct __P(A);".as_slice(),
-            b"ReservedName 7..10: name is reserved\n".as_slice(),
-        ),
-        (
-            b"PartialEq\nstruct derive_more(A);".as_slice(),
-            b"ReservedName 7..18: name is reserved\n".as_slice(),
-        ),
-        (
-            b"PartialEq\nstruct r#__P(A);".as_slice(),
-            b"ReservedName 7..12: name is reserved\n".as_slice(),
-        ),
-        (
-            b"PartialEq\nunion U { a: A }".as_slice(),
-            b"WrongShape 0..5: trait cannot be derived for this shape\n".as_slice(),
-        ),
-        (
-            b"PartialEq\n#[eq] struct P(A);".as_slice(),
-            b"AttrSyntax 0..5: attribute does not read here\n".as_slice(),
-        ),
-        (
-            b"PartialEq\nstruct S([u8; 1e5]);".as_slice(),
-            b"Lex 14..17: text is not made of tokens\n".as_slice(),
-        ),
-        (
-            b"PartialEq\nstruct S(u8".as_slice(),
-            b"Lex 8..9: text is not made of tokens\n".as_slice(),
-        ),
-        (
-            b"Hash\n\"".as_slice(),
-            b"UnknownTrait 0..0: no derive of this name\n".as_slice(),
-        ),
-        (
-            b"Hash\nstruct S;".as_slice(),
-            b"UnknownTrait 0..0: no derive of this name\n".as_slice(),
-        ),
-        (
-            b"partialeq\nstruct P(A);".as_slice(),
-            b"UnknownTrait 0..0: no derive of this name\n".as_slice(),
-        ),
-    ] {
+    for (input, line) in REFUSALS.iter().copied() {
         let (status, sink) = run(alloc, &[], sound(input))?;
         assert!(rt; status == Status::Refused && sink.written() == line);
     }
@@ -254,5 +287,28 @@ fn depths(rt: HostRuntime) -> Result<(), AllocError> {
         let (status, sink) = run(alloc, &[], sound(input.as_slice()))?;
         assert!(rt; status == Status::Refused && sink.written() == line);
     }
+    Ok(())
+}
+
+/// The trait's name and `struct S { a: &..&u8 }`.
+fn referred(alloc: Global, times: usize) -> Result<Vec<u8>, AllocError> {
+    let mut input = Vec::from_slice(alloc, b"PartialEq\nstruct S { a: ")?;
+    for _ in 0..times {
+        input.push(b'&')?;
+    }
+    input.extend_from_slice(b"u8 }")?;
+    Ok(input)
+}
+
+#[test]
+fn levels(rt: HostRuntime) -> Result<(), AllocError> {
+    let alloc = rt.alloc();
+    let deepest = referred(alloc, 127)?;
+    let (status, _) = run(alloc, &[], sound(deepest.as_slice()))?;
+    assert!(rt; status == Status::Done);
+    let deeper = referred(alloc, 128)?;
+    let (status, sink) = run(alloc, &[], sound(deeper.as_slice()))?;
+    assert!(rt; status == Status::Refused);
+    assert!(rt; sink.written() == b"TooDeep 142..144: nested deeper than 128\n".as_slice());
     Ok(())
 }

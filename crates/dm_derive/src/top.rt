@@ -17,7 +17,7 @@ pub enum Status {
     Done,
     /// The derive refused the declaration, and the refusal's line was written.
     Refused,
-    /// There were too many bytes, or no trait's name and declaration.
+    /// There were more than 1,048,576 bytes, or no trait's name and declaration.
     BadInput,
     /// The source failed.
     ReadFault,

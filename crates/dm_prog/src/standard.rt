@@ -15,6 +15,7 @@ pub struct StdSource<R> {
 }
 
 impl<R: Read> StdSource<R> {
+    /// A source over this reader, which has not failed yet.
     pub fn new(reader: R) -> StdSource<R>
         ensures { result ≡ record { reader = reader; faults = 0 } }
     {
@@ -53,6 +54,7 @@ pub struct StdSink<W> {
 }
 
 impl<W: Write> StdSink<W> {
+    /// A sink over this writer, which has not failed yet.
     pub fn new(writer: W) -> StdSink<W>
         ensures { result ≡ record { writer = writer; faults = 0 } }
     {
