@@ -1,16 +1,20 @@
 -- Bare paths and metas have the tokens that were read, ranges and spacing aside.
-use Rattle.std.proofs.Common.{true, false}
+use Rattle.std.proofs.Common.{true, false, [], ◌∷◌, ◌++◌, sym, ap, ◌∙◌, append_assoc}
+use Rattle.dm_tokens.specs.declared.tokens.Delim.{Delim}
 use Rattle.dm_tokens.specs.declared.tokens.Delim.TheVariants.{Paren}
 use Rattle.dm_tokens.specs.declared.tokens.Token.TheVariants as t
 use Rattle.dm_tokens.specs.declared.tokens.Span.{Span}
 use Rattle.dm_tokens.specs.Layout.{nowhere}
-use Rattle.dm_tokens.specs.Trees.{Trees, join}
+use Rattle.dm_tokens.specs.Trees.{Trees, join, Stream}
 use Rattle.dm_syntax.specs.Tree.{PathTree, path_tree, SegmentTree, segment, SegmentTrees, no_segments, segment_then, ArgumentsTree, absent, angle, parens}
-use Rattle.dm_syntax.specs.Spelling.{Where, deeper, Marks, sees_colons, colons}
+use Rattle.dm_syntax.specs.Spelling.{Where, deeper, Marks, sees_colons, colons, GroupAt}
+use Rattle.dm_syntax.specs.TypeGrammar.{kept}
+use Rattle.dm_syntax.specs.BareTokens.{opening, closing, tokens_of}
 use Rattle.dm_syntax.specs.TypeTokens as spell
 use Rattle.dm_syntax.specs.BarePaths.{bare_arguments, bare_segment, bare_segments, bare_segments_left, bare_path}
 use Rattle.dm_syntax.specs.Metas.{PathOrKeywordTree, a_path, keyword, MetaListTree, MetaTree, path_meta, list_meta, NestedMetaTree, nested, lit, path_or_keyword, meta_list, meta_spelled, nested_meta, path_or_keyword_trees, meta_list_trees, meta_trees, nested_meta_trees}
-use Rattle.dm_syntax.proofs.SpelledBack.{Gives, gives_join, gives_none, gives_token, gives_pair, gives_flag, gives_kept, gives_angle, gives_arguments}
+use Rattle.dm_syntax.specs.WrittenBack.{Keeps, Gives, IsListBack}
+use Rattle.dm_syntax.proofs.SpelledBack.{gives_join, gives_none, gives_token, gives_pair, gives_flag, gives_kept, gives_angle, gives_arguments}
 
 gives_bare_arguments : (gs : ArgumentsTree) (r : Span) (w : Where) (ts o : Trees) (m : Marks) → bare_arguments gs w ts o m → Gives (spell.arguments_trees r gs) ts o
 gives_bare_arguments absent r w ts o m s = gives_none ts o s.part.spelled
@@ -48,10 +52,25 @@ pub gives_word : (x : PathOrKeywordTree) (w : Where) (ts o : Trees) (m : Marks) 
 gives_word (a_path p) w ts o m s = gives_bare_path p nowhere w ts o m s
 gives_word (keyword i) w ts o m s = gives_token w (t.Ident i) ts o m s.part
 
-pub gives_list : (x : MetaListTree) (w : Where) (ts o : Trees) (m : Marks) → meta_list x w ts o m → Gives (meta_list_trees x) ts o
+-- the group of a list, with the spacing inside
+keeps_group : (w : Where) (d : Delim) (x : Stream) (ts o : Trees) (m : Marks) → GroupAt w d (kept x) ts o m → Keeps (spell.grouped d x.trees) ts o
+keeps_group w d x ts o m s =
+    ap tokens_of s.spelled ∙ ap (λ i. opening d ∷ (tokens_of i ++ closing d ∷ tokens_of o)) s.whole.part.spelled ∙
+    ap (λ l. opening d ∷ l) (sym (append_assoc (tokens_of x.trees) (closing d ∷ []) (tokens_of o)))
+
+gives_list : (x : MetaListTree) (w : Where) (ts o : Trees) (m : Marks) → meta_list x w ts o m → Gives (meta_list_trees x) ts o
 gives_list x w ts o m s =
     gives_join (path_or_keyword_trees x.path) (spell.grouped Paren x.tokens.trees) ts s.middle o (gives_word x.path w ts s.middle s.first_marks s.first)
     (gives_kept w Paren x.tokens s.middle o s.rest_marks s.rest)
+
+pub list_back : (x : MetaListTree) (w : Where) (ts o : Trees) (m : Marks) → meta_list x w ts o m → IsListBack x ts o
+list_back x w ts o m s =
+    record {
+      behind = s.middle;
+      path = gives_word x.path w ts s.middle s.first_marks s.first;
+      group = keeps_group w Paren x.tokens s.middle o s.rest_marks s.rest;
+      whole = gives_list x w ts o m s;
+    }
 
 pub gives_meta : (x : MetaTree) (w : Where) (ts o : Trees) (m : Marks) → meta_spelled x w ts o m → Gives (meta_trees x) ts o
 gives_meta (path_meta p) w ts o m s = gives_word p w ts o m s.part

@@ -18,21 +18,21 @@ use Rattle.dm_syntax.specs.MetaReaders.{refusal_at, error_at}
 use Rattle.dm_syntax.proofs.FrontParts.{is_front}
 use Rattle.dm_syntax.proofs.MetaRules.{IsRefusedBut, DecidesBut}
 
-module _ {A X : Type 0} (view : X → A) (S : A → Spelling) (free : A → Bool) (limit : ℕ) (ts : Trees) (outcome : Outcome A) (d : DecidesBut S free ts outcome)
+module _ {A X : Type 0} (view : X → A) (S : A → Spelling) (begins : A → Trees → Bool) (limit : ℕ) (ts : Trees) (outcome : Outcome A) (d : DecidesBut S begins ts outcome)
     (p : (r : Refusal) → outcome ≡ Err r → IsRefusedAt 0 limit r ts) where
   pub meta_found : (x : X × Cursor) → Reads view outcome (Ok x) → IsFront S ts (view x.0) (left x.1)
-  meta_found x h = is_front S ts (view x.0) (left x.1) (subst (DecidesBut S free ts) h d)
+  meta_found x h = is_front S ts (view x.0) (left x.1) (subst (DecidesBut S begins ts) h d)
 
   abbrev At : Kind → Span → Type 0
   At k span =
       let r = refusal_at (first_span ts limit) (record { kind = k; span = span }) in
-      IsUnreadMeta S free r.kind r.span limit ts
+      IsUnreadMeta S begins r.kind r.span limit ts
 
-  refused_there : (k : Kind) (r : Refusal) → r.kind ≡ k → IsRefusedAt 0 limit r ts → IsRefusedBut S free ts k r.span → At k r.span
+  refused_there : (k : Kind) (r : Refusal) → r.kind ≡ k → IsRefusedAt 0 limit r ts → IsRefusedBut S begins ts k r.span → At k r.span
   refused_there TooDeep r q h n = record { first = n; place = h.place; deep = omega (arith, h.deep q) }
   refused_there Syntax r q h n = record { none = n; place = refl }
   refused_there _ r q h n = absurd n
 
-  pub meta_refused : (e : Error) → Reads view outcome (Err e) → NoMeta S free (error_at (first_span ts limit) e) limit ts
-  meta_refused (error.Refused r) h = refused_there r.kind r refl (p r h) (subst (DecidesBut S free ts) h d)
+  pub meta_refused : (e : Error) → Reads view outcome (Err e) → NoMeta S begins (error_at (first_span ts limit) e) limit ts
+  meta_refused (error.Refused r) h = refused_there r.kind r refl (p r h) (subst (DecidesBut S begins ts) h d)
   meta_refused error.NoMemory h = tt

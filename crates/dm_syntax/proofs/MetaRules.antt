@@ -1,80 +1,92 @@
 -- Metas: what their readers decide.
-use Rattle.std.proofs.Common.{◌≡◌, Bool, true, false, if◌then◌else◌, [], ◌++◌, Some, Ok, Err, refl, sym, ap, ◌∙◌, subst, append-nil}
+use Rattle.std.proofs.Common.{◌≡◌, Bool, true, false, ◌||◌, if◌then◌else◌, [], ◌∷◌, ◌++◌, Option, Some, None, Ok, Err, IsTrue, refl, sym, ap, ap₂, ◌∙◌, subst, append-nil}
+use Rattle.std.proofs.lemmas.Bool.{or_parts}
+use Rattle.dm_tokens.specs.declared.tokens.Ident.{Ident}
+use Rattle.dm_tokens.specs.declared.tokens.Token.TheVariants as t
 use Rattle.dm_tokens.specs.declared.tokens.Span.{Span}
 use Rattle.dm_tokens.specs.declared.tokens.Delim.TheVariants.{Paren}
 use Rattle.dm_tokens.specs.declared.error.Kind.{Kind}
 use Rattle.dm_tokens.specs.declared.error.Kind.TheVariants.{TooDeep, Syntax}
-use Rattle.dm_tokens.specs.Trees.{Trees, Stream}
-use Rattle.dm_syntax.specs.Tree.{PathTree, path_tree, SegmentTrees, no_segments, segment_then, segment}
-use Rattle.dm_syntax.specs.Spelling.{Where, Marks, Spelling, first_too_deep, Nothing, Provided, Before, sees_group, sees_literal, sees_colons, ident, literal, colons, GroupAt}
-use Rattle.dm_syntax.specs.TypeGrammar.{kept}
-use Rattle.dm_syntax.specs.BarePaths.{bare_path, bare_segments, read_bare_path}
-use Rattle.dm_syntax.specs.Readers.{Outcome, Parser, and_then, mapped, read_any, read_literal, read_rest, inside_at}
-use Rattle.dm_syntax.specs.TypeReaders.{read_type}
-use Rattle.dm_syntax.specs.Metas.{PathOrKeywordTree, a_path, keyword, MetaListTree, MetaTree, path_meta, list_meta, NestedMetaTree, nested, lit, NoPath, path_or_keyword, meta_list, meta_spelled, nested_meta, no_keyword, list_no_keyword, meta_no_keyword, nested_no_keyword}
+use Rattle.dm_tokens.specs.declared.error.Refusal.{Refusal}
+use Rattle.dm_tokens.specs.Trees.{Trees, token, Stream}
+use Rattle.dm_syntax.specs.Tree.{PathTree, path_tree, SegmentTree, SegmentTrees, no_segments, segment_then, segment, absent, segments_of}
+use Rattle.dm_syntax.specs.Spelling.{Where, Marks, Spelling, first_too_deep, Nothing, Provided, Before, sees, sees_group, sees_literal, sees_colons, ident, literal, colons, GroupAt}
+use Rattle.dm_syntax.specs.TypeGrammar.{is_path_word, kept}
+use Rattle.dm_syntax.specs.BarePaths.{bare_path, bare_segments, read_bare_arguments, read_bare_segment, read_bare_path}
+use Rattle.dm_syntax.specs.Readers.{Outcome, Parser, and_then, mapped, ◌next◌, read_ident, read_colons, read_repeated, if_found, read_any, read_literal, read_rest, inside_at}
+use Rattle.dm_syntax.specs.TypeReaders.{segment_of, path_of, read_type}
+use Rattle.dm_syntax.specs.Metas.{PathOrKeywordTree, a_path, keyword, MetaListTree, MetaTree, path_meta, list_meta, NestedMetaTree, nested, lit, NoPath, path_or_keyword, meta_list, meta_spelled, nested_meta, begins_path, list_begins_path, meta_begins_path, nested_begins_path}
 use Rattle.dm_syntax.specs.MetaReaders.{is_syntax, keyword_of, if_no_path, read_path_or_keyword, read_enclosed, list_of, read_meta_list, list_behind, behind_path, read_meta, lit_of, nested_of, read_nested_meta}
 use Rattle.dm_syntax.proofs.Deciding.{Same, IsRead, IsRefused, Decides, Reader, Bound, Image, pair, deep_front, covers_none, decides_bind, decides_by, decides_image, decides_test}
 use Rattle.dm_syntax.proofs.Tokens.{reads_any, reads_literal, literal_seen}
 use Rattle.dm_syntax.proofs.Groups.{reads_group, reads_rest, group_seen}
+use Rattle.dm_syntax.proofs.PathSeeing.{no_turbofish}
 use Rattle.dm_syntax.proofs.BarePaths.{bare_decided}
 use Rattle.dm_syntax.proofs.TypeFronts.{Begins, behind_flag}
 
--- ---- what is decided where a keyword isn't looked for behind a path that is too deep
+-- ---- what is decided where a keyword isn't looked for, since a path that began there is too deep
 
-abbrev pub IsRefusedBut : {A : Type 0} → (A → Spelling) → (A → Bool) → Trees → Kind → Span → Type 0
-IsRefusedBut {A} S free ts TooDeep span = (y : A) (o : Trees) (m : Marks) → S y ts o m → free y ≡ true → first_too_deep m ≡ Some span
-IsRefusedBut {A} S free ts Syntax span = (y : A) (o : Trees) (m : Marks) → S y ts o m → ⊥
-IsRefusedBut S free ts _ span = ⊥
+abbrev pub IsRefusedBut : {A : Type 0} → (A → Spelling) → (A → Trees → Bool) → Trees → Kind → Span → Type 0
+IsRefusedBut {A} S begun ts TooDeep span = (y : A) (o : Trees) (m : Marks) → S y ts o m → begun y o ≡ false → first_too_deep m ≡ Some span
+IsRefusedBut {A} S begun ts Syntax span = (y : A) (o : Trees) (m : Marks) → S y ts o m → ⊥
+IsRefusedBut S begun ts _ span = ⊥
 
-abbrev pub DecidesBut : {A : Type 0} → (A → Spelling) → (A → Bool) → Trees → Outcome A → Type 0
-DecidesBut S free ts (Ok p) = IsRead S ts p.0 p.1
-DecidesBut S free ts (Err r) = IsRefusedBut S free ts r.kind r.span
+abbrev pub DecidesBut : {A : Type 0} → (A → Spelling) → (A → Trees → Bool) → Trees → Outcome A → Type 0
+DecidesBut S begun ts (Ok p) = IsRead S ts p.0 p.1
+DecidesBut S begun ts (Err r) = IsRefusedBut S begun ts r.kind r.span
 
-module _ {A : Type 0} (S : A → Spelling) (free : A → Bool) (ts : Trees) where
-  refused_more : (k : Kind) (span : Span) → IsRefused S ts k span → IsRefusedBut S free ts k span
+module _ {A : Type 0} (S : A → Spelling) (begun : A → Trees → Bool) (ts : Trees) where
+  refused_more : (k : Kind) (span : Span) → IsRefused S ts k span → IsRefusedBut S begun ts k span
   refused_more TooDeep span h = λ y o m s _. h y o m s
   refused_more Syntax span h = h
   refused_more _ span h = h
 
-  weaker : (r : Outcome A) → Decides S ts r → DecidesBut S free ts r
+  weaker : (r : Outcome A) → Decides S ts r → DecidesBut S begun ts r
   weaker (Ok p) h = h
   weaker (Err r) h = refused_more r.kind r.span h
 
-  but_test : (b : Bool) (x y : Outcome A) → (b ≡ true → DecidesBut S free ts x) → (b ≡ false → DecidesBut S free ts y) → DecidesBut S free ts (if b then x else y)
+  but_test : (b : Bool) (x y : Outcome A) → (b ≡ true → DecidesBut S begun ts x) → (b ≡ false → DecidesBut S begun ts y) → DecidesBut S begun ts (if b then x else y)
   but_test true x y p q = p refl
   but_test false x y p q = q refl
 
 -- the same relation in another form
-module _ {A B : Type 0} (f : A → B) (P : A → Spelling) (S : B → Spelling) (free : A → Bool) (freed : B → Bool) (ts : Trees)
+module _ {A B : Type 0} (f : A → B) (P : A → Spelling) (S : B → Spelling) (begun : A → Trees → Bool) (begun_there : B → Trees → Bool) (ts : Trees)
     (to : (x : A) (o : Trees) (m : Marks) → P x ts o m → S (f x) ts o m) (back : (y : B) (o : Trees) (m : Marks) → S y ts o m → Image f P y ts o m)
-    (same : (x : A) → freed (f x) ≡ free x) where
-  refused_by_but : (k : Kind) (span : Span) → IsRefusedBut P free ts k span → IsRefusedBut S freed ts k span
+    (same : (x : A) (o : Trees) → begun_there (f x) o ≡ begun x o) where
+  refused_by_but : (k : Kind) (span : Span) → IsRefusedBut P begun ts k span → IsRefusedBut S begun_there ts k span
   refused_by_but TooDeep span h = λ y o m s e.
       let i : Image f P y ts o m = back y o m s in
-      h i.value o m i.spelled (sym (same i.value) ∙ sym (ap freed i.is_it) ∙ e)
+      h i.value o m i.spelled (sym (same i.value o) ∙ sym (ap (λ x. begun_there x o) i.is_it) ∙ e)
   refused_by_but Syntax span h = λ y o m s. let i : Image f P y ts o m = back y o m s in h i.value o m i.spelled
   refused_by_but _ span h = h
 
-  but_by : (r : Outcome A) → DecidesBut P free ts r → DecidesBut S freed ts (mapped f r)
+  but_by : (r : Outcome A) → DecidesBut P begun ts r → DecidesBut S begun_there ts (mapped f r)
   but_by (Ok p) h = decides_by f P S ts to back (Ok p) h
   but_by (Err r) h = refused_by_but r.kind r.span h
 
 -- one part and another that depends on it, of which the first may be refused so
-module _ {A B : Type 0} (P : A → Spelling) (T : A → B → Spelling) (free : A → Bool) (freed : B → Bool) (ts : Trees)
-    (same : (x : A) (y : B) (mid o : Trees) (m : Marks) → T x y mid o m → freed y ≡ free x) where
-  refused_bind : (k : Kind) (span : Span) → IsRefusedBut P free ts k span → IsRefusedBut (Bound P T) freed ts k span
+module _ {A B : Type 0} (P : A → Spelling) (T : A → B → Spelling) (begun : A → Trees → Bool) (begun_there : B → Trees → Bool) (ts : Trees)
+    (same : (x : A) (y : B) (mid o : Trees) (m : Marks) → T x y mid o m → begun_there y o ≡ false → begun x mid ≡ false) where
+  refused_bind : (k : Kind) (span : Span) → IsRefusedBut P begun ts k span → IsRefusedBut (Bound P T) begun_there ts k span
   refused_bind TooDeep span h = λ y o m b e.
       ap first_too_deep b.parts.marks ∙
       deep_front b.parts.first_marks b.parts.rest_marks span
-      (h b.value b.parts.middle b.parts.first_marks b.parts.first (sym (same b.value y b.parts.middle o b.parts.rest_marks b.parts.rest) ∙ e))
+      (h b.value b.parts.middle b.parts.first_marks b.parts.first (same b.value y b.parts.middle o b.parts.rest_marks b.parts.rest e))
   refused_bind Syntax span h = λ y o m b. h b.value b.parts.middle b.parts.first_marks b.parts.first
   refused_bind _ span h = h
 
-  but_bind : (o : Outcome A) (q : A → Parser B) → DecidesBut P free ts o → ((x : A) (mid : Trees) → Decides (T x) mid (q x mid)) → DecidesBut (Bound P T) freed ts (and_then o q)
-  but_bind (Ok p) q h k = weaker (Bound P T) freed ts (q p.0 p.1) (decides_bind P T ts (Ok p) q h (λ x mid _. k x mid))
+  but_bind : (o : Outcome A) (q : A → Parser B) → DecidesBut P begun ts o → ((x : A) (mid : Trees) → Decides (T x) mid (q x mid)) → DecidesBut (Bound P T) begun_there ts (and_then o q)
+  but_bind (Ok p) q h k = weaker (Bound P T) begun_there ts (q p.0 p.1) (decides_bind P T ts (Ok p) q h (λ x mid _. k x mid))
   but_bind (Err r) q h k = refused_bind r.kind r.span h
 
 -- ---- a path or a keyword
+
+abbrev kind_of : Outcome PathTree → Kind
+kind_of (Ok p) = Syntax
+kind_of (Err r) = r.kind
+
+apart : TooDeep ≡ Syntax → ⊥
+apart e = cc
 
 module _ (w : Where) (ts : Trees) where
   abbrev Word : PathOrKeywordTree → Spelling
@@ -99,19 +111,67 @@ module _ (w : Where) (ts : Trees) where
   keyword_decided none =
       decides_by keyword_of (ident w) Word ts (λ i o m s. record { fact = none; part = s }) (keyword_back none) (read_any w ts) (reads_any w ts)
 
-  no_path_deep : (span : Span) → ((p : PathTree) (o : Trees) (m : Marks) → Path p ts o m → first_too_deep m ≡ Some span) →
-      (y : PathOrKeywordTree) (o : Trees) (m : Marks) → Word y ts o m → no_keyword y ≡ true → first_too_deep m ≡ Some span
-  no_path_deep span h (a_path p) o m s e = h p o m s
-  no_path_deep span h (keyword i) o m s e = absurd (cc)
+  -- a word before these others is a path
+  lone_path : (i : Ident) (o : Trees) (m : Marks) → IsTrue (is_path_word i) → ident w i ts o m → sees 60 o ≡ false → sees_colons o ≡ false →
+      bare_path (path_tree false (segment_then (segment i absent) no_segments)) w ts o m
+  lone_path i o m p s e f =
+      record {
+        middle = ts;
+        first_marks = [];
+        rest_marks = m;
+        first = record { part = record { spelled = refl; marks = refl }; fact = ap sees_colons s.spelled };
+        rest = record {
+          middle = o;
+          first_marks = m;
+          rest_marks = [];
+          first = record {
+            middle = o;
+            first_marks = m;
+            rest_marks = [];
+            first = record { fact = p; part = s };
+            rest = record { part = record { spelled = refl; marks = refl }; fact = ap₂ (λ a b. a || b) e (no_turbofish o f) };
+            marks = sym (append-nil m);
+          };
+          rest = record { part = record { spelled = refl; marks = refl }; fact = f };
+          marks = sym (append-nil m);
+        };
+        marks = refl;
+      }
 
-  refused_path : (k : Kind) (span : Span) → IsRefused Path ts k span →
-      DecidesBut Word no_keyword ts (if is_syntax k then mapped keyword_of (read_any w ts) else Err (record { kind = k; span = span }))
-  refused_path TooDeep span h = no_path_deep span h
-  refused_path Syntax span h = weaker Word no_keyword ts (mapped keyword_of (read_any w ts)) (keyword_decided h)
-  refused_path _ span h = absurd h
+  -- what is read where no word stands
+  no_word : (i : Ident) (o : Trees) → is_path_word i ≡ false →
+      read_bare_path (read_type 129) w (token (t.Ident i) o) ≡ Err (record { kind = Syntax; span = i.span })
+  no_word i o e =
+      let inner = read_type 129 in
+      let f : read_ident is_path_word w (token (t.Ident i) o) ≡ Err (record { kind = Syntax; span = i.span }) =
+      ap (λ b. if_found w (token (t.Ident i) o) (if b then Some (pair i o) else None)) e in
+      let g : read_bare_segment inner w (token (t.Ident i) o) ≡ Err (record { kind = Syntax; span = i.span }) =
+      ap (λ (r : Outcome Ident). mapped segment_of (and_then r (λ a mid. mapped (pair a) (read_bare_arguments inner w mid)))) f in
+      ap (λ (r : Outcome SegmentTree). mapped path_of (mapped (pair false) (mapped segments_of (and_then r (λ x mid.
+      read_repeated w sees_colons (read_colons w next read_bare_segment inner w) (x ∷ []) mid))))) g
 
-  if_path : (r : Outcome PathTree) → Decides Path ts r → DecidesBut Word no_keyword ts (if_no_path w ts r)
-  if_path (Ok p) h =
+  -- no path that is too deep begins at a keyword behind which none goes on
+  keyword_shallow : (r : Refusal) → read_bare_path (read_type 129) w ts ≡ Err r → r.kind ≡ TooDeep → (i : Ident) (o : Trees) (m : Marks) → Word (keyword i) ts o m →
+      begins_path (keyword i) o ≡ false → (b : Bool) → is_path_word i ≡ b → ⊥
+  keyword_shallow r e k i o m s n true p =
+      let q : (sees 60 o ≡ false) × (sees_colons o ≡ false) = or_parts (sees 60 o) (sees_colons o) n in
+      s.fact (path_tree false (segment_then (segment i absent) no_segments)) o m (lone_path i o m p s.part q.0 q.1)
+  keyword_shallow r e k i o m s n false p = apart (sym k ∙ ap kind_of (sym e ∙ ap (read_bare_path (read_type 129) w) s.part.spelled ∙ no_word i o p))
+
+  no_path_deep : (r : Refusal) → read_bare_path (read_type 129) w ts ≡ Err r → r.kind ≡ TooDeep →
+      ((p : PathTree) (o : Trees) (m : Marks) → Path p ts o m → first_too_deep m ≡ Some r.span) →
+      (y : PathOrKeywordTree) (o : Trees) (m : Marks) → Word y ts o m → begins_path y o ≡ false → first_too_deep m ≡ Some r.span
+  no_path_deep r e k h (a_path p) o m s n = h p o m s
+  no_path_deep r e k h (keyword i) o m s n = absurd (keyword_shallow r e k i o m s n (is_path_word i) refl)
+
+  refused_path : (k : Kind) (r : Refusal) → r.kind ≡ k → read_bare_path (read_type 129) w ts ≡ Err r → IsRefused Path ts k r.span →
+      DecidesBut Word begins_path ts (if is_syntax k then mapped keyword_of (read_any w ts) else Err (record { kind = k; span = r.span }))
+  refused_path TooDeep r k e h = no_path_deep r e k h
+  refused_path Syntax r k e h = weaker Word begins_path ts (mapped keyword_of (read_any w ts)) (keyword_decided h)
+  refused_path _ r k e h = absurd h
+
+  if_path : (r : Outcome PathTree) → read_bare_path (read_type 129) w ts ≡ r → Decides Path ts r → DecidesBut Word begins_path ts (if_no_path w ts r)
+  if_path (Ok p) e h =
       record {
         marks = h.marks;
         spelled = h.spelled;
@@ -119,10 +179,15 @@ module _ (w : Where) (ts : Trees) where
         covers = h.covers;
         only = path_only p.0 p.1 h;
       }
-  if_path (Err r) h = refused_path r.kind r.span h
+  if_path (Err r) e h = refused_path r.kind r refl e h
 
-  pub word_decided : DecidesBut Word no_keyword ts (read_path_or_keyword w ts)
-  word_decided = if_path (read_bare_path (read_type 129) w ts) (bare_decided w ts)
+  pub word_decided : DecidesBut Word begins_path ts (read_path_or_keyword w ts)
+  word_decided = if_path (read_bare_path (read_type 129) w ts) refl (bare_decided w ts)
+
+-- no path goes on at a group
+group_behind : (p : PathOrKeywordTree) (w : Where) (Inside : Where → Spelling) (ts o : Trees) (m : Marks) → GroupAt w Paren Inside ts o m → begins_path p ts ≡ false
+group_behind (a_path p) w Inside ts o m s = refl
+group_behind (keyword i) w Inside ts o m s = ap (λ us. sees 60 us || sees_colons us) s.spelled
 
 -- ---- metas
 
@@ -136,8 +201,8 @@ module _ (w : Where) (ts : Trees) where
   abbrev ListParts : PathOrKeywordTree × Stream → Spelling
   ListParts = Bound (λ p. path_or_keyword p w) (λ p. Image (pair p) Enclosed)
 
-  abbrev list_free : PathOrKeywordTree × Stream → Bool
-  list_free v = no_keyword v.0
+  abbrev list_begun : PathOrKeywordTree × Stream → Trees → Bool
+  list_begun v o = false
 
   list_to : (v : PathOrKeywordTree × Stream) (o : Trees) (m : Marks) → ListParts v ts o m → meta_list (list_of v) w ts o m
   list_to v o m b =
@@ -163,12 +228,12 @@ module _ (w : Where) (ts : Trees) where
         };
       }
 
-  pub list_decided : DecidesBut (λ l. meta_list l w) list_no_keyword ts (read_meta_list w ts)
+  pub list_decided : DecidesBut (λ l. meta_list l w) list_begins_path ts (read_meta_list w ts)
   list_decided =
-      but_by list_of ListParts (λ l. meta_list l w) list_free list_no_keyword ts list_to list_back (λ v. refl)
+      but_by list_of ListParts (λ l. meta_list l w) list_begun list_begins_path ts list_to list_back (λ v o. refl)
       (and_then (read_path_or_keyword w ts) (λ p mid. mapped (pair p) (read_enclosed w mid)))
-      (but_bind (λ p. path_or_keyword p w) (λ p. Image (pair p) Enclosed) no_keyword list_free ts
-      (λ p v mid o m i. ap (λ (u : PathOrKeywordTree × Stream). no_keyword u.0) i.is_it)
+      (but_bind (λ p. path_or_keyword p w) (λ p. Image (pair p) Enclosed) begins_path list_begun ts
+      (λ p v mid o m i e. group_behind p w (kept i.value) mid o m i.spelled)
       (read_path_or_keyword w ts) (λ p mid. mapped (pair p) (read_enclosed w mid)) (word_decided w ts)
       (λ p mid. decides_image (pair p) Enclosed mid (read_enclosed w mid) (enclosed_decided w mid)))
 
@@ -258,19 +323,19 @@ module _ (w : Where) (ts : Trees) where
         };
       }
 
-  behind_free : (x : PathOrKeywordTree) (y : MetaTree) (mid o : Trees) (m : Marks) → Behind w x y mid o m → meta_no_keyword y ≡ no_keyword x
-  behind_free x (path_meta q) mid o m s = ap no_keyword s.fact
-  behind_free x (list_meta l) mid o m s = ap no_keyword s.fact
+  behind_begun : (x : PathOrKeywordTree) (y : MetaTree) (mid o : Trees) (m : Marks) → Behind w x y mid o m → meta_begins_path y o ≡ false → begins_path x mid ≡ false
+  behind_begun x (path_meta q) mid o m s e = ap₂ begins_path (sym s.fact) s.part.part.spelled ∙ e
+  behind_begun x (list_meta l) mid o m s e = group_behind x w (kept l.tokens) mid o m s.part
 
-  plainly : (r : Outcome MetaTree) → DecidesBut (λ m. meta_spelled m w) meta_no_keyword ts (mapped (λ x. x) r) → DecidesBut (λ m. meta_spelled m w) meta_no_keyword ts r
+  plainly : (r : Outcome MetaTree) → DecidesBut (λ m. meta_spelled m w) meta_begins_path ts (mapped (λ x. x) r) → DecidesBut (λ m. meta_spelled m w) meta_begins_path ts r
   plainly (Ok p) h = h
   plainly (Err r) h = h
 
-  pub meta_decided : DecidesBut (λ m. meta_spelled m w) meta_no_keyword ts (read_meta w ts)
+  pub meta_decided : DecidesBut (λ m. meta_spelled m w) meta_begins_path ts (read_meta w ts)
   meta_decided =
       plainly (read_meta w ts)
-      (but_by (λ x. x) Parts (λ m. meta_spelled m w) meta_no_keyword meta_no_keyword ts meta_to meta_back (λ x. refl) (read_meta w ts)
-      (but_bind (λ p. path_or_keyword p w) (Behind w) no_keyword meta_no_keyword ts behind_free (read_path_or_keyword w ts) (behind_path w) (word_decided w ts)
+      (but_by (λ x. x) Parts (λ m. meta_spelled m w) meta_begins_path meta_begins_path ts meta_to meta_back (λ x o. refl) (read_meta w ts)
+      (but_bind (λ p. path_or_keyword p w) (Behind w) begins_path meta_begins_path ts behind_begun (read_path_or_keyword w ts) (behind_path w) (word_decided w ts)
       (λ p mid. behind_decided w p mid)))
 
 -- ---- metas and literals
@@ -300,10 +365,10 @@ module _ (w : Where) (ts : Trees) where
   nested_back e (nested x) o m s = record { value = x; is_it = refl; spelled = s }
   nested_back e (lit l) o m s = let f = literal_seen w l ts o m s in absurd (cc)
 
-  pub nested_decided : DecidesBut (λ x. nested_meta x w) nested_no_keyword ts (read_nested_meta w ts)
+  pub nested_decided : DecidesBut (λ x. nested_meta x w) nested_begins_path ts (read_nested_meta w ts)
   nested_decided =
-      but_test (λ x. nested_meta x w) nested_no_keyword ts (sees_literal ts) (mapped lit_of (read_literal w ts)) (mapped nested_of (read_meta w ts))
-      (λ e. weaker (λ x. nested_meta x w) nested_no_keyword ts (mapped lit_of (read_literal w ts))
+      but_test (λ x. nested_meta x w) nested_begins_path ts (sees_literal ts) (mapped lit_of (read_literal w ts)) (mapped nested_of (read_meta w ts))
+      (λ e. weaker (λ x. nested_meta x w) nested_begins_path ts (mapped lit_of (read_literal w ts))
       (decides_by lit_of (literal w) (λ x. nested_meta x w) ts (λ l o m s. s) (lit_back e) (read_literal w ts) (reads_literal w ts)))
-      (λ e. but_by nested_of (λ x. meta_spelled x w) (λ x. nested_meta x w) meta_no_keyword nested_no_keyword ts (λ x o m s. s) (nested_back e) (λ x. refl) (read_meta w ts)
+      (λ e. but_by nested_of (λ x. meta_spelled x w) (λ x. nested_meta x w) meta_begins_path nested_begins_path ts (λ x o m s. s) (nested_back e) (λ x o. refl) (read_meta w ts)
       (meta_decided w ts))

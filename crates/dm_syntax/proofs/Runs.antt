@@ -8,7 +8,7 @@ use Rattle.dm_expr.proofs.Joining.{split_joins}
 use Rattle.dm_syntax.specs.declared.plain.Opaque.{Opaque}
 use Rattle.dm_syntax.specs.Spelling.{Where, Marks, first_too_deep, marks_of}
 use Rattle.dm_syntax.specs.Readers.{if_shallow}
-use Rattle.dm_syntax.specs.Runs.{cut_run, RunAt, run, behind_run, if_cut, read_run}
+use Rattle.dm_syntax.specs.Runs.{cut_run, last_alone, RunAt, run, behind_run, if_cut, read_run}
 use Rattle.dm_syntax.proofs.Deciding.{Covers, Decides, Reader, pair}
 use Rattle.dm_syntax.proofs.Groups.{covers_all}
 
@@ -33,7 +33,7 @@ module _ (w : Where) (ts : Trees) where
         }
 
     marks_same : (y : Opaque) (o : Trees) (m : Marks) → RunAt w y ts o m → m ≡ marks_of w.level front
-    marks_same y o m s = s.marks ∙ ap (marks_of w.level) (one_cut ts front others e y.tokens.trees o s.cut).0
+    marks_same y o m s = s.marks ∙ ap (marks_of w.level) (one_cut ts front others e s.front o s.cut).0
 
     shallow_by : (found : Option Span) → first_too_deep (marks_of w.level front) ≡ found →
         Decides (λ o. run o w) ts (behind_run others (if_shallow found (record { trees = front; limit = w.limit })))
@@ -41,12 +41,12 @@ module _ (w : Where) (ts : Trees) where
     shallow_by None f =
         record {
           marks = marks_of w.level front;
-          spelled = record { cut = e; limit = refl; marks = refl };
+          spelled = record { front = front; cut = e; trees = refl; limit = refl; marks = refl };
           within = f;
           covers = run_covers;
           only = λ y o m s.
-              let c = one_cut ts front others e y.tokens.trees o s.cut in
-              record { value = kept_is y front w.limit c.0 s.limit; left = c.1; marks = marks_same y o m s };
+              let c = one_cut ts front others e s.front o s.cut in
+              record { value = kept_is y (last_alone front) w.limit (s.trees ∙ ap last_alone c.0) s.limit; left = c.1; marks = marks_same y o m s };
         }
 
   cut_by : (found : Option (Trees × Trees)) → cut_run ts ≡ found → Decides (λ o. run o w) ts (if_cut w ts found)

@@ -23,14 +23,11 @@ use Rattle.dm_syntax.specs.Spelling.{Where, deeper, Marks, Spelling, ◌then◌,
 use Rattle.dm_syntax.specs.TypeGrammar.{plain_path, opaque, kept, attribute_args, attribute, attributes, between_angles, for_lifetimes, constant_spelled, type_spelled, node, types, types_left, output, function, input_spelled, inputs, inputs_left, bound, trait_bound_spelled, some_bounds, more_bounds, bounds, bounds_left, path_spelled, segments, segments_left, qualified, trait_segments, some_segments_left, segment_spelled, arguments_of_segment, arguments, arguments_left, argument, maybe_angled, ends_bounds}
 use Rattle.dm_syntax.specs.TypeTokens as spell
 use Rattle.dm_syntax.specs.BareTokens.{bare_punct, opening, closing, tokens_of, unspaced, spelled_of}
+use Rattle.dm_syntax.specs.WrittenBack.{Gives}
 use Rattle.dm_syntax.proofs.SameTokens.{tokens_join}
 
 suc_apart : (n : ℕ) → (suc n == 0) ≡ false
 suc_apart n = ne_eqb (suc n) 0 (λ e. omega (arith, e))
-
--- the trees have these in front, before the others
-abbrev pub Gives : Trees → Trees → Trees → Type 0
-Gives front ts others = spelled_of ts ≡ spelled_of front ++ spelled_of others
 
 -- ---- parts one after another
 

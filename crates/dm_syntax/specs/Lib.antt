@@ -32,3 +32,4 @@ pub mod ArgReaders
 pub mod BareTokens
 pub mod SameTypes
 pub mod Shapes
+pub mod WrittenBack

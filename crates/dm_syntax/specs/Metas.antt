@@ -1,5 +1,5 @@
 -- Metas: a path or a keyword, perhaps with trees in parentheses behind it; or a literal. As plain data, with what spells them and their tokens.
-use Rattle.std.specs.Prelude.{◌≡◌, ◌<◌, ℕ, Bool, true, false, Option, Some, None}
+use Rattle.std.specs.Prelude.{◌≡◌, ◌<◌, ℕ, Bool, true, false, ◌||◌, Option, Some, None}
 use Rattle.std.specs.Str.{bytes_eq}
 use Rattle.std.specs.Prelude.{List}
 use Rattle.dm_tokens.specs.declared.tokens.Span.{Span}
@@ -21,7 +21,7 @@ use Rattle.dm_syntax.specs.declared.meta.Meta.TheVariants as metas
 use Rattle.dm_syntax.specs.declared.meta.NestedMeta.{NestedMeta}
 use Rattle.dm_syntax.specs.declared.meta.NestedMeta.TheVariants as nests
 use Rattle.dm_syntax.specs.Tree.{PathTree, path_tree, SegmentTree, segment, SegmentTrees, no_segments, segment_then, ArgumentsTree, absent, angle, parens, path_view}
-use Rattle.dm_syntax.specs.Spelling.{Where, Marks, Spelling, deepest, first_too_deep, ◌then◌, Facing, Before, sees_group, ident, literal, GroupAt}
+use Rattle.dm_syntax.specs.Spelling.{Where, Marks, Spelling, deepest, first_too_deep, ◌then◌, Facing, Before, sees, sees_colons, sees_group, ident, literal, GroupAt}
 use Rattle.dm_syntax.specs.TypeGrammar.{kept}
 use Rattle.dm_syntax.specs.TypeTokens.{name, path_trees, grouped, literal as literal_trees}
 use Rattle.dm_syntax.specs.BarePaths.{bare_path}
@@ -84,26 +84,27 @@ nested_meta (lit l) w = literal w l
 
 -- ---- where none is given
 
--- whether none of its parts is a keyword
-abbrev pub no_keyword : PathOrKeywordTree → Bool
-no_keyword (a_path p) = true
-no_keyword (keyword i) = false
+-- whether it is a keyword at which a path may have begun, since `<` or `::` stands behind it
+abbrev pub begins_path : PathOrKeywordTree → Trees → Bool
+begins_path (a_path p) others = false
+begins_path (keyword i) others = sees 60 others || sees_colons others
 
-abbrev pub list_no_keyword : MetaListTree → Bool
-list_no_keyword l = no_keyword l.path
+-- behind the word of a list stands its group
+abbrev pub list_begins_path : MetaListTree → Trees → Bool
+list_begins_path l others = false
 
-abbrev pub meta_no_keyword : MetaTree → Bool
-meta_no_keyword (path_meta p) = no_keyword p
-meta_no_keyword (list_meta l) = list_no_keyword l
+abbrev pub meta_begins_path : MetaTree → Trees → Bool
+meta_begins_path (path_meta p) others = begins_path p others
+meta_begins_path (list_meta l) others = list_begins_path l others
 
-abbrev pub nested_no_keyword : NestedMetaTree → Bool
-nested_no_keyword (nested m) = meta_no_keyword m
-nested_no_keyword (lit l) = true
+abbrev pub nested_begins_path : NestedMetaTree → Trees → Bool
+nested_begins_path (nested m) others = meta_begins_path m others
+nested_begins_path (lit l) others = false
 
--- each without a keyword is too deep, first in this range, since a keyword isn't looked for where a path is too deep. It is a place in the
--- trees, and in front of it more than 128 tokens stand behind which a level may begin
-pub record IsDeepMeta {A : Type 0} (S : A → Spelling) (free : A → Bool) (limit : ℕ) (ts : Trees) (range : Span) : Type 0 where
-  pub first : (x : A) (others : Trees) (m : Marks) → S x ts others m → free x ≡ true → first_too_deep m ≡ Some range
+-- each is too deep, first in this range, but for a keyword at which a path may have begun: it isn't looked for where that path is too
+-- deep. The range is a place in the trees, and in front of it more than 128 tokens stand behind which a level may begin
+pub record IsDeepMeta {A : Type 0} (S : A → Spelling) (begins : A → Trees → Bool) (limit : ℕ) (ts : Trees) (range : Span) : Type 0 where
+  pub first : (x : A) (others : Trees) (m : Marks) → S x ts others m → begins x others ≡ false → first_too_deep m ≡ Some range
   pub place : IsPlaceIn limit ts range
   pub deep : deepest < openers place.front
 
@@ -112,15 +113,15 @@ pub record IsNoMeta {A : Type 0} (S : A → Spelling) (limit : ℕ) (ts : Trees)
   pub none : (x : A) (others : Trees) (m : Marks) → ¬ S x ts others m
   pub place : range ≡ first_span ts limit
 
-abbrev pub IsUnreadMeta : {A : Type 0} → (A → Spelling) → (A → Bool) → Kind → Span → ℕ → Trees → Type 0
-IsUnreadMeta S free TooDeep range limit ts = IsDeepMeta S free limit ts range
-IsUnreadMeta S free Syntax range limit ts = IsNoMeta S limit ts range
-IsUnreadMeta S free _ range limit ts = ⊥
+abbrev pub IsUnreadMeta : {A : Type 0} → (A → Spelling) → (A → Trees → Bool) → Kind → Span → ℕ → Trees → Type 0
+IsUnreadMeta S begins TooDeep range limit ts = IsDeepMeta S begins limit ts range
+IsUnreadMeta S begins Syntax range limit ts = IsNoMeta S limit ts range
+IsUnreadMeta S begins _ range limit ts = ⊥
 
 -- why none is given; want of memory is free
-abbrev pub NoMeta : {A : Type 0} → (A → Spelling) → (A → Bool) → Error → ℕ → Trees → Type 0
-NoMeta S free (error.Refused r) limit ts = IsUnreadMeta S free r.kind r.span limit ts
-NoMeta S free error.NoMemory limit ts = Unit {0}
+abbrev pub NoMeta : {A : Type 0} → (A → Spelling) → (A → Trees → Bool) → Error → ℕ → Trees → Type 0
+NoMeta S begins (error.Refused r) limit ts = IsUnreadMeta S begins r.kind r.span limit ts
+NoMeta S begins error.NoMemory limit ts = Unit {0}
 
 -- ---- their tokens
 

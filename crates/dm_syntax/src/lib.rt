@@ -9,6 +9,7 @@ mod decl;
 mod emit;
 mod emit_decl;
 mod emit_parts;
+mod laws;
 mod meta;
 mod naming;
 mod parse;
@@ -26,6 +27,7 @@ pub use decl::{
 };
 pub use emit::{write_arguments, write_bounds, write_path, write_qualified, write_type};
 pub use emit_parts::{write_attribute, write_attributes, write_const, write_for, write_plain};
+pub use laws::tokens_come_back;
 pub use meta::{ArgReader, Meta, MetaList, NestedMeta};
 pub use naming::check::check_names;
 pub use naming::many::check_many_names;

@@ -168,14 +168,15 @@ impl<'a> MetaList<'a> {
     /// The one that the trees begin with, and the place behind it.
     ///
     /// The refusal is `Kind::Syntax` at the first tree, or where the list ends, where none begins there, or `Kind::TooDeep` at the
-    /// first token of a path that stands deeper than level 128, both in bytes of the text that the trees were read from.
+    /// first token, of a path or in the parentheses, that stands deeper than level 128, both in bytes of the text that the trees
+    /// were read from.
     pub fn parse<'t>(
         alloc: Global,
         c: Cursor<'t, 'a>,
     ) -> Result<(MetaList<'a>, Cursor<'t, 'a>), Error>
         requires { sound c }
         ensures found { IfOk result (λ r. IsFront (λ l. metas.meta_list l (place 0 c.entry)) (left c.entry) (metas.meta_list_view r.0) (left r.1)) }
-        ensures refused { IfErr result (λ e. NoMeta (λ l. metas.meta_list l (place 0 c.entry)) metas.list_no_keyword e (end_of c.entry) (left c.entry)) }
+        ensures refused { IfErr result (λ e. NoMeta (λ l. metas.meta_list l (place 0 c.entry)) metas.list_begins_path e (end_of c.entry) (left c.entry)) }
         ensures place { IfOk result (λ r. IsPlaceAfter c.entry r.1) }
     {
         match meta_list(alloc, 0, c) {
@@ -209,11 +210,12 @@ impl<'a> Meta<'a> {
     /// The one that the trees begin with, and the place behind it.
     ///
     /// The refusal is `Kind::Syntax` at the first tree, or where the list ends, where none begins there, or `Kind::TooDeep` at the
-    /// first token of a path that stands deeper than level 128, both in bytes of the text that the trees were read from.
+    /// first token, of a path or in the parentheses, that stands deeper than level 128, both in bytes of the text that the trees
+    /// were read from.
     pub fn parse<'t>(alloc: Global, c: Cursor<'t, 'a>) -> Result<(Meta<'a>, Cursor<'t, 'a>), Error>
         requires { sound c }
         ensures found { IfOk result (λ r. IsFront (λ m. metas.meta_spelled m (place 0 c.entry)) (left c.entry) (metas.meta_view r.0) (left r.1)) }
-        ensures refused { IfErr result (λ e. NoMeta (λ m. metas.meta_spelled m (place 0 c.entry)) metas.meta_no_keyword e (end_of c.entry) (left c.entry)) }
+        ensures refused { IfErr result (λ e. NoMeta (λ m. metas.meta_spelled m (place 0 c.entry)) metas.meta_begins_path e (end_of c.entry) (left c.entry)) }
         ensures place { IfOk result (λ r. IsPlaceAfter c.entry r.1) }
     {
         match one_meta(alloc, 0, c) {
@@ -243,14 +245,15 @@ impl<'a> NestedMeta<'a> {
     /// The one that the trees begin with, and the place behind it.
     ///
     /// The refusal is `Kind::Syntax` at the first tree, or where the list ends, where none begins there, or `Kind::TooDeep` at the
-    /// first token of a path that stands deeper than level 128, both in bytes of the text that the trees were read from.
+    /// first token, of a path or in the parentheses, that stands deeper than level 128, both in bytes of the text that the trees
+    /// were read from.
     pub fn parse<'t>(
         alloc: Global,
         c: Cursor<'t, 'a>,
     ) -> Result<(NestedMeta<'a>, Cursor<'t, 'a>), Error>
         requires { sound c }
         ensures found { IfOk result (λ r. IsFront (λ m. metas.nested_meta m (place 0 c.entry)) (left c.entry) (metas.nested_meta_view r.0) (left r.1)) }
-        ensures refused { IfErr result (λ e. NoMeta (λ m. metas.nested_meta m (place 0 c.entry)) metas.nested_no_keyword e (end_of c.entry) (left c.entry)) }
+        ensures refused { IfErr result (λ e. NoMeta (λ m. metas.nested_meta m (place 0 c.entry)) metas.nested_begins_path e (end_of c.entry) (left c.entry)) }
         ensures place { IfOk result (λ r. IsPlaceAfter c.entry r.1) }
     {
         match nested_meta(alloc, 0, c) {

@@ -13,8 +13,9 @@ use std::alloc::Global;
 /// The one declaration with these tokens: a struct, an enum or a union as in the Rust Reference, without unnamed fields,
 /// trait objects without `dyn`, and the bounds `use<..>` and `~const`.
 ///
-/// Where a token stands at a level over 128 it refuses with `Kind::TooDeep` at the first such token. A level is a group or `<..>`
-/// around the token, or a type `&`, `*`, `fn`, `dyn` or `impl` behind whose first token it stands, or the parameters of a path behind whose `->` it stands.
+/// Where a token stands at a level over 128 it refuses with `Kind::TooDeep` at the first such token. The level is the number of
+/// groups and `<..>` around the token, of types `&`, `*`, `fn`, `dyn` and `impl` in whose part behind that word or punct it stands,
+/// and of parameter lists of paths behind whose `->` it stands.
 /// Where no declaration has these tokens, it refuses with `Kind::Syntax`, at a token's range or at the place where a list ends;
 /// or with `Kind::TooDeep` at such a place, if more than 128 of `( [ { < & *` and the words `fn`, `dyn`, `impl` stand before it.
 pub fn parse_decl<'a>(alloc: Global, stream: &TokenStream<'a>) -> Result<DeriveInput<'a>, Error>

@@ -135,7 +135,7 @@ impl<'a> PathOrKeyword<'a> {
     ) -> Result<(PathOrKeyword<'a>, Cursor<'t, 'a>), Error>
         requires { sound c }
         ensures found { IfOk result (λ r. IsFront (λ p. metas.path_or_keyword p (place 0 c.entry)) (left c.entry) (metas.path_or_keyword_view r.0) (left r.1)) }
-        ensures refused { IfErr result (λ e. NoMeta (λ p. metas.path_or_keyword p (place 0 c.entry)) metas.no_keyword e (end_of c.entry) (left c.entry)) }
+        ensures refused { IfErr result (λ e. NoMeta (λ p. metas.path_or_keyword p (place 0 c.entry)) metas.begins_path e (end_of c.entry) (left c.entry)) }
         ensures place { IfOk result (λ r. IsPlaceAfter c.entry r.1) }
     {
         match path_or_keyword(alloc, 0, c) {

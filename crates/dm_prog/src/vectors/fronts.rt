@@ -69,25 +69,65 @@ fn no_types(rt: HostRuntime) -> Result<(), Error> {
     Ok(())
 }
 
-/// So many `&`, and `u8`.
-fn references(alloc: Global, times: usize) -> Result<String, AllocError> {
+/// So many of a part that opens, `u8`, and so many of one that closes.
+pub(crate) fn nested(
+    alloc: Global,
+    open: &str,
+    close: &str,
+    times: usize,
+) -> Result<String, AllocError> {
     let mut text = String::new(alloc);
     for _turn in 0..times {
-        text.push_str("&")?;
+        text.push_str(open)?;
     }
     text.push_str("u8")?;
+    for _turn in 0..times {
+        text.push_str(close)?;
+    }
     Ok(text)
 }
 
 #[test]
 fn levels(rt: HostRuntime) -> Result<(), Error> {
     let alloc = rt.alloc();
-    let text = references(alloc, 128)?;
+    let text = nested(alloc, "&", "", 128)?;
     let stream = lex(alloc, text.as_str())?;
     assert!(rt; parse_type(alloc, stream.cursor()).is_ok());
-    let deep = references(alloc, 129)?;
+    let deep = nested(alloc, "&", "", 129)?;
     let stream = lex(alloc, deep.as_str())?;
     match parse_type(alloc, stream.cursor()) {
+        Ok(_) => assert!(rt; false),
+        Err(error) => assert!(rt; refusal_of(error) == Some((Kind::TooDeep, 129, 131))),
+    }
+    Ok(())
+}
+
+#[test]
+fn path_levels(rt: HostRuntime) -> Result<(), Error> {
+    let alloc = rt.alloc();
+    let text = nested(alloc, "a<", ">", 128)?;
+    let stream = lex(alloc, text.as_str())?;
+    assert!(rt; parse_path(alloc, stream.cursor()).is_ok());
+    let deep = nested(alloc, "a<", ">", 129)?;
+    let stream = lex(alloc, deep.as_str())?;
+    match parse_path(alloc, stream.cursor()) {
+        Ok(_) => assert!(rt; false),
+        Err(error) => assert!(rt; refusal_of(error) == Some((Kind::TooDeep, 258, 260))),
+    }
+    Ok(())
+}
+
+#[test]
+fn predicate_levels(rt: HostRuntime) -> Result<(), Error> {
+    let alloc = rt.alloc();
+    let mut text = nested(alloc, "&", "", 128)?;
+    text.push_str(": A")?;
+    let stream = lex(alloc, text.as_str())?;
+    assert!(rt; parse_predicates(alloc, stream.cursor()).is_ok());
+    let mut deep = nested(alloc, "&", "", 129)?;
+    deep.push_str(": A")?;
+    let stream = lex(alloc, deep.as_str())?;
+    match parse_predicates(alloc, stream.cursor()) {
         Ok(_) => assert!(rt; false),
         Err(error) => assert!(rt; refusal_of(error) == Some((Kind::TooDeep, 129, 131))),
     }

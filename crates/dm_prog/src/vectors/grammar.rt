@@ -80,6 +80,18 @@ const ITEMS: &[&str] = &[
     "union union { a : u8 }",
 ];
 
+/// Discriminants whose last punct is joint to what follows, and the declaration's text, in which it isn't.
+const ENDS: &[(&str, &str)] = &[
+    ("enum E { A = x+, B }", "enum E { A = x + , B }"),
+    ("enum E { A = x+-, B }", "enum E { A = x +- , B }"),
+    ("enum E { A = +,}", "enum E { A = + , }"),
+    (
+        "enum E { A = x +, B = y*,}",
+        "enum E { A = x + , B = y * , }",
+    ),
+    ("enum E { A = (x) +=, B }", "enum E { A = (x) += , B }"),
+];
+
 /// Attributes in each place, and in each form.
 const ATTRIBUTES: &[&str] = &[
     "# [a] struct S ;",
@@ -262,6 +274,16 @@ fn items(rt: HostRuntime) -> Result<(), Error> {
 }
 
 #[test]
+fn ends(rt: HostRuntime) -> Result<(), Error> {
+    let alloc = rt.alloc();
+    for (text, wanted) in ENDS.iter().copied() {
+        let input = read(alloc, text)?;
+        assert!(rt; written(alloc, &input)?.as_str() == wanted);
+    }
+    Ok(())
+}
+
+#[test]
 fn attributes(rt: HostRuntime) -> Result<(), Error> {
     for text in ATTRIBUTES.iter().copied() {
         assert!(rt; is_read(rt.alloc(), text)?);
@@ -365,6 +387,29 @@ fn refusals(rt: HostRuntime) {
     for (text, start, end) in NONE.iter().copied() {
         assert!(rt; refused(rt.alloc(), text) == Some((Kind::Syntax, start, end)));
     }
+}
+
+/// The keywords, none of which is a name.
+const KEYWORDS: &[&str] = &[
+    "abstract", "as", "async", "await", "become", "box", "break", "const", "continue", "crate",
+    "do", "dyn", "else", "enum", "extern", "false", "final", "fn", "for", "if", "impl", "in",
+    "let", "loop", "macro", "match", "mod", "move", "mut", "override", "priv", "pub", "ref",
+    "return", "Self", "self", "static", "struct", "super", "trait", "true", "try", "type",
+    "typeof", "unsafe", "unsized", "use", "virtual", "where", "while", "yield",
+];
+
+#[test]
+fn keywords(rt: HostRuntime) -> Result<(), AllocError> {
+    let alloc = rt.alloc();
+    for word in KEYWORDS.iter().copied() {
+        let mut text = String::new(alloc);
+        text.push_str("struct ")?;
+        text.push_str(word)?;
+        text.push_str(";")?;
+        let end = text.len().saturating_sub(1);
+        assert!(rt; refused(alloc, text.as_str()) == Some((Kind::Syntax, 7, end)));
+    }
+    Ok(())
 }
 
 /// Texts of no type.
@@ -497,6 +542,7 @@ const NESTS: &[(&str, &str, usize, usize, usize)] = &[
     ("F(", ")", 127, 0, 2),
     ("fn(", ")", 63, 0, 2),
     ("fn() -> ", "", 127, 6, 1),
+    ("F() -> ", "", 127, 0, 2),
     ("dyn A<", ">", 63, 0, 2),
     ("impl A<", ">", 63, 0, 2),
 ];
@@ -511,6 +557,58 @@ fn levels(rt: HostRuntime) -> Result<(), AllocError> {
         let start = place.saturating_sub(before);
         let end = start.saturating_add(length);
         assert!(rt; refused(alloc, deep.as_str()) == Some((Kind::TooDeep, start, end)));
+    }
+    Ok(())
+}
+
+/// The text before a type, the type and the text behind it; how many `&` before the type bring a token of it to level 128, and
+/// which token is the first to stand too deep behind one more: where in the type it begins, and its length.
+const PARTS: &[(&str, &str, &str, usize, usize, usize)] = &[
+    ("struct S<T = ", "u8", ">;", 127, 0, 2),
+    ("struct S where ", "u8", ": A;", 128, 0, 2),
+    ("struct S(", "for<'a> fn()", ");", 126, 4, 2),
+    ("struct S(", "dyn for<'a> A", ");", 125, 8, 2),
+    ("struct S(", "dyn (A)", ");", 125, 5, 1),
+    ("struct S(", "a<B: (C)>", ");", 125, 6, 1),
+    ("struct S(", "[u8; (1)]", ");", 125, 6, 1),
+    ("struct S(", "a<{1}>", ");", 125, 3, 1),
+    ("struct S(", "a<B = {1}>", ");", 125, 7, 1),
+    ("struct S(", "m!(1)", ");", 126, 3, 1),
+    ("struct S(", "m![1]", ");", 126, 3, 1),
+    ("struct S(", "fn(#[a(1)] u8)", ");", 123, 7, 1),
+    ("struct S(", "fn(#[a = (1)] u8)", ");", 123, 10, 1),
+];
+
+/// The text of such a row with so many `&`, and where the type begins.
+fn behind(
+    alloc: Global,
+    front: &str,
+    ty: &str,
+    back: &str,
+    times: usize,
+) -> Result<(String, usize), AllocError> {
+    let mut text = String::new(alloc);
+    text.push_str(front)?;
+    push_times(&mut text, "&", times)?;
+    let place = text.len();
+    text.push_str(ty)?;
+    text.push_str(back)?;
+    Ok((text, place))
+}
+
+#[test]
+fn part_levels(rt: HostRuntime) -> Result<(), AllocError> {
+    let alloc = rt.alloc();
+    for (front, ty, back, times, at, length) in PARTS.iter().copied() {
+        let (text, _) = behind(alloc, front, ty, back, times)?;
+        assert!(rt; read(alloc, text.as_str()).is_ok(), "{ty}");
+        let (deep, place) = behind(alloc, front, ty, back, times.saturating_add(1))?;
+        let start = place.saturating_add(at);
+        let end = start.saturating_add(length);
+        assert!(rt;
+            refused(alloc, deep.as_str()) == Some((Kind::TooDeep, start, end)),
+            "{ty}"
+        );
     }
     Ok(())
 }

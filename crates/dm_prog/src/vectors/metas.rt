@@ -1,7 +1,9 @@
-use crate::vectors::fronts::{left, printed, refusal_of};
-use dm_syntax::{ArgReader, Meta, MetaList, NestedMeta, Path, PathOrKeyword, parse_path};
+use crate::vectors::fronts::{left, nested as deep_path, printed, refusal_of};
+use dm_syntax::{
+    ArgReader, Meta, MetaList, NestedMeta, Path, PathOrKeyword, parse_path, tokens_come_back,
+};
 use dm_tokens::{Cursor, Error, Kind, Refusal, lex};
-use std::alloc::Global;
+use std::alloc::{AllocError, Global};
 
 /// Texts, whether each begins with a keyword, the tokens of the path or keyword, the one name that it is, and what is left.
 const WORDS: &[(&str, bool, &str, Option<&str>, &str)] = &[
@@ -74,6 +76,7 @@ fn metas(rt: HostRuntime) -> Result<(), Error> {
         let copy = meta.clone_in(alloc)?;
         assert!(rt; printed(alloc, &copy)?.as_str() == tokens);
     }
+    tokens_come_back();
     Ok(())
 }
 
@@ -111,6 +114,67 @@ fn none(rt: HostRuntime) -> Result<(), Error> {
     assert!(rt; PathOrKeyword::parse(alloc, stream.cursor()).is_err());
     assert!(rt; Meta::parse(alloc, stream.cursor()).is_err());
     assert!(rt; NestedMeta::parse(alloc, stream.cursor()).is_err());
+    Ok(())
+}
+
+/// A path at this depth, with a list of metas behind it.
+fn list_behind(alloc: Global, times: usize) -> Result<String, AllocError> {
+    let mut text = deep_path(alloc, "a<", ">", times)?;
+    text.push_str("(b)")?;
+    Ok(text)
+}
+
+#[test]
+fn levels(rt: HostRuntime) -> Result<(), Error> {
+    let alloc = rt.alloc();
+    let text = list_behind(alloc, 128)?;
+    let stream = lex(alloc, text.as_str())?;
+    assert!(rt; PathOrKeyword::parse(alloc, stream.cursor()).is_ok());
+    assert!(rt; MetaList::parse(alloc, stream.cursor()).is_ok());
+    assert!(rt; Meta::parse(alloc, stream.cursor()).is_ok());
+    assert!(rt; NestedMeta::parse(alloc, stream.cursor()).is_ok());
+    Ok(())
+}
+
+#[test]
+fn too_deep(rt: HostRuntime) -> Result<(), Error> {
+    let alloc = rt.alloc();
+    let place = Some((Kind::TooDeep, 258, 260));
+    let text = list_behind(alloc, 129)?;
+    let stream = lex(alloc, text.as_str())?;
+    match PathOrKeyword::parse(alloc, stream.cursor()) {
+        Ok(_) => assert!(rt; false),
+        Err(error) => assert!(rt; refusal_of(error) == place),
+    }
+    match MetaList::parse(alloc, stream.cursor()) {
+        Ok(_) => assert!(rt; false),
+        Err(error) => assert!(rt; refusal_of(error) == place),
+    }
+    match Meta::parse(alloc, stream.cursor()) {
+        Ok(_) => assert!(rt; false),
+        Err(error) => assert!(rt; refusal_of(error) == place),
+    }
+    match NestedMeta::parse(alloc, stream.cursor()) {
+        Ok(_) => assert!(rt; false),
+        Err(error) => assert!(rt; refusal_of(error) == place),
+    }
+    Ok(())
+}
+
+/// What stands behind a meta isn't read, however deep it is.
+#[test]
+fn ends_at_comma(rt: HostRuntime) -> Result<(), Error> {
+    let alloc = rt.alloc();
+    for front in ["fn, ", "a, ", "fn(b), "] {
+        let mut text = String::new(alloc);
+        text.push_str(front)?;
+        let deep = deep_path(alloc, "&", "", 129)?;
+        text.push_str(deep.as_str())?;
+        let stream = lex(alloc, text.as_str())?;
+        assert!(rt; PathOrKeyword::parse(alloc, stream.cursor()).is_ok());
+        assert!(rt; Meta::parse(alloc, stream.cursor()).is_ok());
+        assert!(rt; NestedMeta::parse(alloc, stream.cursor()).is_ok());
+    }
     Ok(())
 }
 

@@ -1,7 +1,7 @@
 -- What is found, and where none begins.
 use Rattle.std.proofs.Common.{sym, subst}
 use Rattle.dm_tokens.specs.Cursors.{left}
-use Rattle.dm_syntax.specs.Metas.{nested_meta_view, nested_meta, nested_no_keyword, NoMeta}
+use Rattle.dm_syntax.specs.Metas.{nested_meta_view, nested_meta, nested_begins_path, NoMeta}
 use Rattle.dm_syntax.specs.MetaReaders.{read_nested_meta}
 use Rattle.dm_syntax.specs.Readers.{place}
 use Rattle.dm_syntax.proofs.LicensedDeclarations.{refused_there}
@@ -14,11 +14,11 @@ pub returns-in-Ok-clause-found : goal.returns-in-Ok-clause-found
 returns-in-Ok-clause-found c =
     let w = place 0 c.args.c in
     let ts = left c.args.c in
-    meta_found nested_meta_view (λ x. nested_meta x w) nested_no_keyword w.limit ts (read_nested_meta w ts) (nested_decided w ts) (refused_there (licensed_nested w) ts) c.in-Ok.read c.in-Ok.ensures.reads
+    meta_found nested_meta_view (λ x. nested_meta x w) nested_begins_path w.limit ts (read_nested_meta w ts) (nested_decided w ts) (refused_there (licensed_nested w) ts) c.in-Ok.read c.in-Ok.ensures.reads
 
 pub returns-in-Err-clause-refused : goal.returns-in-Err-clause-refused
 returns-in-Err-clause-refused c =
     let w = place 0 c.args.c in
     let ts = left c.args.c in
-    subst (λ e. NoMeta (λ x. nested_meta x w) nested_no_keyword e w.limit ts) (sym c.at_front.ensures)
-    (meta_refused nested_meta_view (λ x. nested_meta x w) nested_no_keyword w.limit ts (read_nested_meta w ts) (nested_decided w ts) (refused_there (licensed_nested w) ts) c.in-Err.error c.in-Err.ensures.reads)
+    subst (λ e. NoMeta (λ x. nested_meta x w) nested_begins_path e w.limit ts) (sym c.at_front.ensures)
+    (meta_refused nested_meta_view (λ x. nested_meta x w) nested_begins_path w.limit ts (read_nested_meta w ts) (nested_decided w ts) (refused_there (licensed_nested w) ts) c.in-Err.error c.in-Err.ensures.reads)
