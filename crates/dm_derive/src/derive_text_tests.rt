@@ -176,7 +176,7 @@ fn named(rt: HostRuntime) -> Result<(), Error> {
 }
 
 /// `struct S { a: &..&u8 }`.
-fn referred(alloc: Global, times: usize) -> Result<String, AllocError> {
+pub fn referred(alloc: Global, times: usize) -> Result<String, AllocError> {
     let mut text = String::new(alloc);
     text.push_str("struct S { a: ")?;
     for _turn in 0..times {

@@ -1,4 +1,5 @@
-use super::{MemSink, MemSource, Status, derive_main, derive_printed, derive_text};
+use super::tests::derived;
+use super::{Status, derive_printed, derive_text};
 use dm_tokens::Error;
 use std::alloc::{AllocError, Global};
 
@@ -27,11 +28,7 @@ type Row = (&'static str, &'static str, &'static str, &'static str);
 
 /// Whether a run writes this implementation of the declaration.
 fn is_written(alloc: Global, decl: &str, want: &str) -> Result<bool, AllocError> {
-    let mut input = Vec::from_slice(alloc, b"PartialEq\n")?;
-    input.extend_from_slice(decl.as_bytes())?;
-    let mut source = MemSource::new(input, 64, Vec::new(alloc));
-    let mut sink = MemSink::new(alloc, 10_000, 10_000, Vec::new(alloc))?;
-    let status = derive_main(alloc, &[], &mut source, &mut sink);
+    let (status, sink) = derived(alloc, decl)?;
     Ok(status == Status::Done && sink.written() == want.as_bytes())
 }
 

@@ -118,7 +118,7 @@ impl Model for MemSink {
 
 impl MemSink {
     /// A sink with room for so many bytes, all of which it takes now. A write takes `most` bytes at the most; it fails where its
-    /// number, counted from 1, is in `failing`, and where the room is full.
+    /// number, counted from 1, is in `failing`, and where the room is full and the piece isn't empty.
     pub fn new(
         alloc: Global,
         room: usize,

@@ -1,3 +1,4 @@
+use super::derive_text_tests::referred;
 use super::transfer::LIMIT;
 use super::{MemSink, MemSource, Status, derive_main, split};
 use std::alloc::{AllocError, Global};
@@ -55,6 +56,13 @@ fn run(
     let mut sink = MemSink::new(alloc, outside.room, 10, failing_writes)?;
     let status = derive_main(alloc, words, &mut source, &mut sink);
     Ok((status, sink))
+}
+
+/// A run of `PartialEq` on a declaration.
+pub fn derived(alloc: Global, decl: &str) -> Result<(Status, MemSink), AllocError> {
+    let mut input = Vec::from_slice(alloc, b"PartialEq\n")?;
+    input.extend_from_slice(decl.as_bytes())?;
+    run(alloc, &[], sound(input.as_slice()))
 }
 
 #[test]
@@ -290,24 +298,14 @@ fn depths(rt: HostRuntime) -> Result<(), AllocError> {
     Ok(())
 }
 
-/// The trait's name and `struct S { a: &..&u8 }`.
-fn referred(alloc: Global, times: usize) -> Result<Vec<u8>, AllocError> {
-    let mut input = Vec::from_slice(alloc, b"PartialEq\nstruct S { a: ")?;
-    for _ in 0..times {
-        input.push(b'&')?;
-    }
-    input.extend_from_slice(b"u8 }")?;
-    Ok(input)
-}
-
 #[test]
 fn levels(rt: HostRuntime) -> Result<(), AllocError> {
     let alloc = rt.alloc();
     let deepest = referred(alloc, 127)?;
-    let (status, _) = run(alloc, &[], sound(deepest.as_slice()))?;
+    let (status, _) = derived(alloc, deepest.as_str())?;
     assert!(rt; status == Status::Done);
     let deeper = referred(alloc, 128)?;
-    let (status, sink) = run(alloc, &[], sound(deeper.as_slice()))?;
+    let (status, sink) = derived(alloc, deeper.as_str())?;
     assert!(rt; status == Status::Refused);
     assert!(rt; sink.written() == b"TooDeep 142..144: nested deeper than 128\n".as_slice());
     Ok(())
