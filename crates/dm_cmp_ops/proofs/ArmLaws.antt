@@ -1,60 +1,55 @@
--- What the arms give at two values of one variant.
-use Rattle.std.proofs.Common.{◌≡◌, ◌≢◌, ℕ, zero, suc, ◌+◌, ◌<◌, ◌^◌, List, [], ◌∷◌, length, Bool, true, false, not, cond, ◌&&◌, Option, Some, slice_get, refl, sym, ap, ◌∙◌, arith}
+-- What the arms for two operands of one variant give at two values of one variant, whichever variants have an arm and whatever it gives.
+use Rattle.std.proofs.Common.{◌≡◌, ◌≢◌, ℕ, zero, suc, ◌+◌, ◌<◌, ◌^◌, List, [], ◌∷◌, length, Bool, true, false, cond, Option, Some, slice_get, refl, sym, ap, ◌∙◌, arith}
 use Rattle.std.specs.Prelude.{option_and_then}
-use Rattle.dm_syntax.specs.Declarations.{Declaration, FieldTree}
-use Rattle.dm_emit.specs.Output.{ArmTree, arms_of, exprs_of}
-use Rattle.dm_emit.specs.Values.{Value, mine, theirs, Thing, truth, value, pair, Case, cases, field_list}
-use Rattle.dm_emit.specs.Run.{Env, run, run_arms, brace_fields}
-use Rattle.dm_cmp_ops.specs.declared.partial_eq.Comparing.{Comparing}
-use Rattle.dm_cmp_ops.specs.Skips.{is_skipped}
-use Rattle.dm_cmp_ops.specs.Heads.{keeps_some, is_compared}
-use Rattle.dm_cmp_ops.specs.Direct.{all_kept}
-use Rattle.dm_cmp_ops.specs.Emitted.{says, join_of, self_name, other_name, tests, case_path, arm, arms}
+use Rattle.dm_syntax.specs.Declarations.{FieldTree}
+use Rattle.dm_emit.specs.Output.{ArmTree, arms_of}
+use Rattle.dm_emit.specs.Values.{Value, mine, theirs, Thing, value, pair, Case, cases, field_list}
+use Rattle.dm_emit.specs.Run.{Env, Setting, run, run_arms, brace_fields}
+use Rattle.dm_cmp_ops.specs.Sides.{case_path, PairArms, pair_arm, pair_arms}
 use Rattle.dm_cmp_ops.specs.Named.{AreNamed, AreFieldsNamed}
-use Rattle.dm_cmp_ops.proofs.NameLaws.{self-other, self-self, other-other, path-found}
-use Rattle.dm_cmp_ops.proofs.BindingLaws.{skips_field, bound_side, knows, knows-behind, fits-side, misses-side}
-use Rattle.dm_cmp_ops.proofs.ChainLaws.{setting, run-tests, run-chain}
+use Rattle.dm_cmp_ops.proofs.NameLaws.{Differ, Apart, path-found}
+use Rattle.dm_cmp_ops.proofs.BindingLaws.{bound_side, Knows, knows, knows-behind, IsEnclosed, fits-side, misses-side}
 
 abbrev pub two_values : Value → Value → Thing
 two_values x y = pair (value mine x) (value theirs y)
 
-compared-keeps : (v : Case) → is_compared v ≡ true → keeps_some (field_list v.fields) ≡ true
-compared-keeps v h =
-    (elim (is_skipped v.attrs) as (λ b. (not b && keeps_some (field_list v.fields)) ≡ true → keeps_some (field_list v.fields) ≡ true)
-    [ true ↦ λ k. cc | false ↦ λ k. k ]) h
+-- what the patterns of an arm bind
+abbrev pub both_sides : PairArms → List FieldTree → Env → Env
+both_sides a fs env = bound_side a.right theirs 0 fs (bound_side a.left mine 0 fs env)
+
+-- names that differ within a side and between the sides are known of both
+pub both-known : (a : PairArms) (fs : List FieldTree) (env : Env) → Differ a.left.naming → Differ a.right.naming → Apart a.left.naming a.right.naming →
+    length fs < 2 ^ 64 → Knows a.left mine (both_sides a fs env) 0 fs × Knows a.right theirs (both_sides a fs env) 0 fs
+both-known a fs env left right apart small = (
+  knows-behind a.left a.right apart mine theirs 0 fs fs (bound_side a.left mine 0 fs env) (knows a.left left mine 0 fs env (omega arith)),
+  knows a.right right theirs 0 fs (bound_side a.left mine 0 fs env) (omega arith),
+)
 
 -- the arm of the variant of both values
-arm-taken : (c : Comparing) (d : Declaration) (os : List Bool) (v : Case) (x y : Value) (env : Env) (more : List ArmTree) → AreNamed d →
-    slice_get (cases d) x.variant ≡ Some v → x.variant ≡ y.variant → is_compared v ≡ true →
-    length (field_list v.fields) < 2 ^ 64 → length os ≡ length (field_list v.fields) →
-    run_arms (setting d os) (arms_of (arm c d v ∷ more)) (two_values x y) env ≡ Some (truth (says c (all_kept (field_list v.fields) os)))
-arm-taken c d os v x y env more names at same compared small len =
+arm-taken : (s : Setting) (a : PairArms) (v : Case) (x y : Value) (env : Env) (more : List ArmTree) → AreNamed s.decl →
+    slice_get (cases s.decl) x.variant ≡ Some v → x.variant ≡ y.variant → IsEnclosed v.fields →
+    run_arms s (arms_of (pair_arm a s.decl v ∷ more)) (two_values x y) env ≡ run s (a.gives v) (both_sides a (field_list v.fields) env)
+arm-taken s a v x y env more names at same enclosed =
     let fs = field_list v.fields in
-    let env1 = bound_side skips_field self_name mine 0 fs env in
-    let env2 = bound_side skips_field other_name theirs 0 fs env1 in
-    let at' : slice_get (cases d) y.variant ≡ Some v = ap (slice_get (cases d)) (sym same) ∙ at in
-    let keeps = compared-keeps v compared in
+    let env1 = bound_side a.left mine 0 fs env in
+    let at' : slice_get (cases s.decl) y.variant ≡ Some v = ap (slice_get (cases s.decl)) (sym same) ∙ at in
     let braces : (gs : List FieldTree) → brace_fields v.fields ≡ Some gs → AreFieldsNamed gs = λ gs e. names.fields x.variant v gs at e in
-    let left = fits-side d self_name mine (case_path d v) v.fields x env (path-found d x.variant v names at)
-    (λ kind. ap (option_and_then (λ (b : Case). kind b.fields)) at) braces keeps in
-    let right = fits-side d other_name theirs (case_path d v) v.fields y env1 (path-found d y.variant v names at')
-    (λ kind. ap (option_and_then (λ (b : Case). kind b.fields)) at') braces keeps in
-    let all' : run (setting d os) (join_of c (exprs_of (tests c 0 fs))) env2 ≡ Some (truth (says c (all_kept fs os))) =
-    run-tests c d os env2 0 fs os (λ k. ap (slice_get os) (omega arith)) len
-    (knows-behind skips_field self_name other_name self-other mine theirs 0 fs fs env1 (knows skips_field self_name self-self mine 0 fs env (omega arith)))
-    (knows skips_field other_name other-other theirs 0 fs env1 (omega arith)) in
-    rw (left, right) (run-chain c (setting d os) (tests c 0 fs) env2 (says c (all_kept fs os)) all')
+    let left = fits-side s.decl a.left mine (case_path s.decl v) v.fields x env (path-found s.decl x.variant v names at)
+    (λ kind. ap (option_and_then (λ (b : Case). kind b.fields)) at) braces enclosed in
+    let right = fits-side s.decl a.right theirs (case_path s.decl v) v.fields y env1 (path-found s.decl y.variant v names at')
+    (λ kind. ap (option_and_then (λ (b : Case). kind b.fields)) at') braces enclosed in
+    rw (left, right) refl
 
 -- the arm of another variant
-arm-passed : (c : Comparing) (d : Declaration) (os : List Bool) (v : Case) (n : ℕ) (x y : Value) (env : Env) (more : List ArmTree) → AreNamed d →
-    slice_get (cases d) n ≡ Some v → n ≢ x.variant →
-    run_arms (setting d os) (arms_of (arm c d v ∷ more)) (two_values x y) env ≡ run_arms (setting d os) (arms_of more) (two_values x y) env
-arm-passed c d os v n x y env more names at ne =
-    rw (misses-side d self_name mine (case_path d v) v.fields n x env (path-found d n v names at) ne) refl
+arm-passed : (s : Setting) (a : PairArms) (v : Case) (n : ℕ) (x y : Value) (env : Env) (more : List ArmTree) → AreNamed s.decl →
+    slice_get (cases s.decl) n ≡ Some v → n ≢ x.variant →
+    run_arms s (arms_of (pair_arm a s.decl v ∷ more)) (two_values x y) env ≡ run_arms s (arms_of more) (two_values x y) env
+arm-passed s a v n x y env more names at ne =
+    rw (misses-side s.decl a.left mine (case_path s.decl v) v.fields n x env (path-found s.decl n v names at) ne) refl
 
 -- what the arms give at two values of the variant u: its own arm, or what stands behind
-abbrev pub answer : Comparing → Case → Bool → List Bool → Option Thing → Option Thing
-answer c u b os other = cond b (Some (truth (says c (all_kept (field_list u.fields) os)))) other
+abbrev pub answer : Setting → PairArms → Case → Bool → Env → Option Thing → Option Thing
+answer s a u b env other = cond b (run s (a.gives u) (both_sides a (field_list u.fields) env)) other
 
 -- the variants from n on
 abbrev pub AreFrom : List Case → ℕ → List Case → Type 0
@@ -67,38 +62,37 @@ from-rest : (all : List Case) (n : ℕ) (v : Case) (vs : List Case) → AreFrom 
 from-rest all n v vs from = λ k. ap (slice_get all) (omega arith) ∙ from (suc k)
 
 -- the arms of variants behind that of the values
-arms-past : (c : Comparing) (d : Declaration) (os : List Bool) (x y : Value) (env : Env) (more : List ArmTree) (vs : List Case) (n : ℕ) → AreNamed d →
-    AreFrom (cases d) n vs → x.variant < n →
-    run_arms (setting d os) (arms_of (arms c d vs more)) (two_values x y) env ≡ run_arms (setting d os) (arms_of more) (two_values x y) env
-arms-past c d os x y env more [] n names from lt = refl
-arms-past c d os x y env more (v ∷ vs) n names from lt =
-    let behind = arms-past c d os x y env more vs (n + 1) names (from-rest (cases d) n v vs from) (omega arith) in
-    elim (is_compared v) as (λ b.
-    run_arms (setting d os) (arms_of (cond b (arm c d v ∷ arms c d vs more) (arms c d vs more))) (two_values x y) env ≡
-    run_arms (setting d os) (arms_of more) (two_values x y) env) [
-      | true ↦ arm-passed c d os v n x y env (arms c d vs more) names (from-first (cases d) n v vs from) (omega arith) ∙ behind
+arms-past : (s : Setting) (a : PairArms) (x y : Value) (env : Env) (more : List ArmTree) (vs : List Case) (n : ℕ) → AreNamed s.decl →
+    AreFrom (cases s.decl) n vs → x.variant < n →
+    run_arms s (arms_of (pair_arms a s.decl vs more)) (two_values x y) env ≡ run_arms s (arms_of more) (two_values x y) env
+arms-past s a x y env more [] n names from lt = refl
+arms-past s a x y env more (v ∷ vs) n names from lt =
+    let behind = arms-past s a x y env more vs (n + 1) names (from-rest (cases s.decl) n v vs from) (omega arith) in
+    elim (a.has v) as (λ b.
+    run_arms s (arms_of (cond b (pair_arm a s.decl v ∷ pair_arms a s.decl vs more) (pair_arms a s.decl vs more))) (two_values x y) env ≡
+    run_arms s (arms_of more) (two_values x y) env) [
+      | true ↦ arm-passed s a v n x y env (pair_arms a s.decl vs more) names (from-first (cases s.decl) n v vs from) (omega arith) ∙ behind
       | false ↦ behind
     ]
 
-pub arms-run : (c : Comparing) (d : Declaration) (os : List Bool) (x y : Value) (env : Env) (more : List ArmTree) (u : Case) (vs : List Case) (n j : ℕ) → AreNamed d →
-    AreFrom (cases d) n vs → slice_get vs j ≡ Some u → x.variant ≡ n + j → x.variant ≡ y.variant →
-    length (field_list u.fields) < 2 ^ 64 → length os ≡ length (field_list u.fields) →
-    run_arms (setting d os) (arms_of (arms c d vs more)) (two_values x y) env ≡
-    answer c u (is_compared u) os (run_arms (setting d os) (arms_of more) (two_values x y) env)
-arms-run c d os x y env more u [] n j names from at is same small len = cc
-arms-run c d os x y env more u (v ∷ vs) n zero names from at is same small len =
-    let behind = arms-past c d os x y env more vs (n + 1) names (from-rest (cases d) n v vs from) (omega arith) in
+pub arms-run : (s : Setting) (a : PairArms) (x y : Value) (env : Env) (more : List ArmTree) (u : Case) (vs : List Case) (n j : ℕ) → AreNamed s.decl →
+    AreFrom (cases s.decl) n vs → slice_get vs j ≡ Some u → x.variant ≡ n + j → x.variant ≡ y.variant → (a.has u ≡ true → IsEnclosed u.fields) →
+    run_arms s (arms_of (pair_arms a s.decl vs more)) (two_values x y) env ≡
+    answer s a u (a.has u) env (run_arms s (arms_of more) (two_values x y) env)
+arms-run s a x y env more u [] n j names from at is same enclosed = cc
+arms-run s a x y env more u (v ∷ vs) n zero names from at is same enclosed =
+    let behind = arms-past s a x y env more vs (n + 1) names (from-rest (cases s.decl) n v vs from) (omega arith) in
     let e : v ≡ u = cc in
-    let here : slice_get (cases d) x.variant ≡ Some u = ap (slice_get (cases d)) (omega arith) ∙ from-first (cases d) n v vs from ∙ ap Some e in
-    rw e ((elim (is_compared u) as (λ b. is_compared u ≡ b →
-    run_arms (setting d os) (arms_of (cond b (arm c d u ∷ arms c d vs more) (arms c d vs more))) (two_values x y) env ≡
-    answer c u b os (run_arms (setting d os) (arms_of more) (two_values x y) env))
-    [ true ↦ λ h. arm-taken c d os u x y env (arms c d vs more) names here same h small len | false ↦ λ h. behind ]) refl)
-arms-run c d os x y env more u (v ∷ vs) n (suc j) names from at is same small len =
-    let further = arms-run c d os x y env more u vs (n + 1) j names (from-rest (cases d) n v vs from) at (omega arith) same small len in
-    elim (is_compared v) as (λ b.
-    run_arms (setting d os) (arms_of (cond b (arm c d v ∷ arms c d vs more) (arms c d vs more))) (two_values x y) env ≡
-    answer c u (is_compared u) os (run_arms (setting d os) (arms_of more) (two_values x y) env)) [
-      | true ↦ arm-passed c d os v n x y env (arms c d vs more) names (from-first (cases d) n v vs from) (omega arith) ∙ further
+    let here : slice_get (cases s.decl) x.variant ≡ Some u = ap (slice_get (cases s.decl)) (omega arith) ∙ from-first (cases s.decl) n v vs from ∙ ap Some e in
+    rw e ((elim (a.has u) as (λ b. a.has u ≡ b →
+    run_arms s (arms_of (cond b (pair_arm a s.decl u ∷ pair_arms a s.decl vs more) (pair_arms a s.decl vs more))) (two_values x y) env ≡
+    answer s a u b env (run_arms s (arms_of more) (two_values x y) env))
+    [ true ↦ λ h. arm-taken s a u x y env (pair_arms a s.decl vs more) names here same (enclosed h) | false ↦ λ h. behind ]) refl)
+arms-run s a x y env more u (v ∷ vs) n (suc j) names from at is same enclosed =
+    let further = arms-run s a x y env more u vs (n + 1) j names (from-rest (cases s.decl) n v vs from) at (omega arith) same enclosed in
+    elim (a.has v) as (λ b.
+    run_arms s (arms_of (cond b (pair_arm a s.decl v ∷ pair_arms a s.decl vs more) (pair_arms a s.decl vs more))) (two_values x y) env ≡
+    answer s a u (a.has u) env (run_arms s (arms_of more) (two_values x y) env)) [
+      | true ↦ arm-passed s a v n x y env (pair_arms a s.decl vs more) names (from-first (cases s.decl) n v vs from) (omega arith) ∙ further
       | false ↦ further
     ]

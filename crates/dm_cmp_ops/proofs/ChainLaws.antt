@@ -8,8 +8,8 @@ use Rattle.dm_cmp_ops.specs.declared.partial_eq.Comparing.{Comparing}
 use Rattle.dm_cmp_ops.specs.declared.partial_eq.Comparing.TheVariants.{Equal, Unequal}
 use Rattle.dm_cmp_ops.specs.Skips.{is_skipped}
 use Rattle.dm_cmp_ops.specs.Direct.{all_kept}
-use Rattle.dm_cmp_ops.specs.Emitted.{says, neutral_of, join_of, self_name, other_name, test, tests, chain}
-use Rattle.dm_cmp_ops.proofs.BindingLaws.{Knows, skips_field, eqb-same}
+use Rattle.dm_cmp_ops.specs.Emitted.{says, neutral_of, join_of, self_name, other_name, binds, test, tests, chain}
+use Rattle.dm_cmp_ops.proofs.BindingLaws.{Knows, eqb-same}
 
 abbrev pub setting : Declaration → List Bool → Setting
 setting d os = record { decl = d; outcomes = os }
@@ -74,7 +74,7 @@ run-test Unequal d outcomes env n false at a b = rw (a, b, eqb-same n, at) refl
 -- the tests of the kept fields from n on
 pub run-tests : (c : Comparing) (d : Declaration) (outcomes : List Bool) (env : Env) (n : ℕ) (fs : List FieldTree) (os : List Bool) →
     ((k : ℕ) → slice_get outcomes (n + k) ≡ slice_get os k) → length os ≡ length fs →
-    Knows skips_field self_name mine env n fs → Knows skips_field other_name theirs env n fs →
+    Knows (binds self_name) mine env n fs → Knows (binds other_name) theirs env n fs →
     run (setting d outcomes) (join_of c (exprs_of (tests c n fs))) env ≡ Some (truth (says c (all_kept fs os)))
 run-tests c d outcomes env n [] os at len a b = join-none c (setting d outcomes) env
 run-tests c d outcomes env n (f ∷ fs) [] at len a b = absurd (omega arith)

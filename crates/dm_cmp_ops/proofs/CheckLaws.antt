@@ -8,17 +8,17 @@ use Rattle.dm_tokens.specs.declared.error.Refusal.{Refusal}
 use Rattle.dm_syntax.specs.declared.plain.Attribute.{Attribute}
 use Rattle.dm_syntax.specs.Declarations.{Declaration, FieldTree, ShapeTree, struct_shape, enum_shape, union_shape}
 use Rattle.dm_emit.specs.Values.{Text, Case, cases, field_list}
-use Rattle.dm_cmp_ops.specs.Skips.{Skip, no, yes, bad, reads_skip, is_examined, skip_among, skip, or_else, is_skipped}
+use Rattle.dm_cmp_ops.specs.Skips.{Skipping, no, yes, bad, reads_skip, is_examined, skip_among, skip, or_else, is_skipped}
 use Rattle.dm_cmp_ops.specs.Checks.{refusal_at, repeated, refusal_among, or_those, place_refusal, attrs_of, places, first_refusal, refusal_of_shape, refusal, IsGood, IsGoodCase, IsNoUnion, IsValid}
 use Rattle.dm_cmp_ops.proofs.CheckSteps.{or_none, first-append}
 
 -- ---- what is refused of a place, and what its attributes say
 
 -- there is no refusal exactly where it isn't bad
-abbrev pub Agree : Option Refusal → Skip → Type 0
+abbrev pub Agree : Option Refusal → Skipping → Type 0
 Agree o s = (o ≡ None) ↔ (s ≢ bad)
 
-agree_none : (s : Skip) → s ≢ bad → Agree None s
+agree_none : (s : Skipping) → s ≢ bad → Agree None s
 agree_none s h = (λ _. h, λ _. refl)
 
 agree_some : (r : Refusal) → Agree (Some r) bad
@@ -41,7 +41,7 @@ agree-among (a ∷ b ∷ xs) = agree_two (reads_skip a.args) (refusal_at AttrSyn
 pub unrefused-name : (name : Text) (attrs : List Attribute) → (refusal_among (filter (is_examined name) attrs) ≡ None) ↔ (skip attrs name ≢ bad)
 unrefused-name name attrs = agree-among (filter (is_examined name) attrs)
 
-first_counts : (a : Attribute) (xs : List Attribute) (s : Skip) → or_else (skip_among (a ∷ xs)) s ≡ skip_among (a ∷ xs)
+first_counts : (a : Attribute) (xs : List Attribute) (s : Skipping) → or_else (skip_among (a ∷ xs)) s ≡ skip_among (a ∷ xs)
 first_counts a [] s = elim (reads_skip a.args) as (λ v. or_else (cond v yes bad) s ≡ cond v yes bad) [ true ↦ refl | false ↦ refl ]
 first_counts a (b ∷ xs) s = refl
 

@@ -5,7 +5,7 @@ use Rattle.std.proofs.lemmas.Grind.{common_steps}
 use Rattle.dm_tokens.specs.declared.error.Refusal.{Refusal}
 use Rattle.dm_syntax.specs.declared.plain.Attribute.{Attribute}
 use Rattle.dm_emit.specs.Values.{Case, field_list}
-use Rattle.dm_cmp_ops.specs.Skips.{Skip, no, yes, bad, partial_eq_skip, is_yes, is_skipped}
+use Rattle.dm_cmp_ops.specs.Skips.{Skipping, no, yes, bad, partial_eq_skip, is_yes, is_skipped}
 use Rattle.dm_cmp_ops.specs.Checks.{place_refusal, attrs_of, places, first_refusal}
 
 pub or_none : (o : Option Refusal) → option_or o None ≡ o
@@ -22,10 +22,10 @@ first-append (p ∷ ps) qs =
 
 -- ---- a variant, by what its attributes say
 
-abbrev pub first_in : List (List Attribute) → Option Refusal → Skip → Option Refusal
+abbrev pub first_in : List (List Attribute) → Option Refusal → Skipping → Option Refusal
 first_in fields own s = option_or own (first_refusal (cond (is_yes s) [] fields))
 
-first-is : (c : Case) (s : Skip) (own : Option Refusal) → s ≡ partial_eq_skip c.attrs → own ≡ place_refusal c.attrs →
+first-is : (c : Case) (s : Skipping) (own : Option Refusal) → s ≡ partial_eq_skip c.attrs → own ≡ place_refusal c.attrs →
     first_in (map attrs_of (field_list c.fields)) own s ≡ first_refusal (places c)
 unfolding is_skipped
 first-is c s own is own_is = rw (is, own_is) refl

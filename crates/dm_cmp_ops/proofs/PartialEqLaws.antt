@@ -1,7 +1,7 @@
 -- The bodies that are emitted for `eq` and `ne` give what `eq` and `ne` mean.
 use Rattle.std.proofs.Common.{◌≡◌, ℕ, zero, suc, ◌<◌, ◌^◌, List, [], ◌∷◌, length, Bool, true, false, not, cond, ◌&&◌, ◌||◌, eqb, nat_lt, Option, Some, None, codes, slice_get, refl, sym, ap, ◌∙◌, arith}
 use Rattle.std.proofs.lemmas.Bool.{eqb-true}
-use Rattle.dm_syntax.specs.Declarations.{Declaration, FieldTree}
+use Rattle.dm_syntax.specs.Declarations.{Declaration, FieldTree, FieldsTree, named, unnamed, unit}
 use Rattle.dm_emit.specs.Output.{exprs_of, arms_of, MethodTree}
 use Rattle.dm_emit.specs.Values.{Value, mine, theirs, truth, value, Case, cases, is_enum, field_list, fits_case, IsValue}
 use Rattle.dm_emit.specs.Run.{Env, run, run_arms, run_block}
@@ -10,12 +10,12 @@ use Rattle.dm_cmp_ops.specs.declared.partial_eq.Comparing.TheVariants.{Equal, Un
 use Rattle.dm_cmp_ops.specs.Skips.{is_skipped}
 use Rattle.dm_cmp_ops.specs.Direct.{all_kept, direct_in, direct_eq, direct_ne, Gives}
 use Rattle.dm_cmp_ops.specs.Heads.{keeps_some, is_compared, some_compared, IsComparison}
-use Rattle.dm_cmp_ops.specs.Emitted.{says, join_of, all_compared, some_skipped_case, rest, matching, match_part, with_discriminants, discriminants, needs_discriminants, parts, body}
+use Rattle.dm_cmp_ops.specs.Emitted.{says, join_of, tests, chain, compared_arms, all_compared, some_skipped_case, rest, matching, match_part, with_discriminants, discriminants, needs_discriminants, parts, body}
 use Rattle.dm_cmp_ops.specs.Named.{AreNamed, AreSmall}
-use Rattle.dm_cmp_ops.proofs.NameLaws.{only-case}
-use Rattle.dm_cmp_ops.proofs.BindingLaws.{eqb-same}
-use Rattle.dm_cmp_ops.proofs.ChainLaws.{setting, says-true, join-none, join-then, join-stops, join-one, run-chain}
-use Rattle.dm_cmp_ops.proofs.ArmLaws.{two_values, answer, arms-run}
+use Rattle.dm_cmp_ops.proofs.NameLaws.{self-other, self-self, other-other, only-case}
+use Rattle.dm_cmp_ops.proofs.BindingLaws.{IsEnclosed, eqb-same}
+use Rattle.dm_cmp_ops.proofs.ChainLaws.{setting, says-true, join-none, join-then, join-stops, join-one, run-chain, run-tests}
+use Rattle.dm_cmp_ops.proofs.ArmLaws.{two_values, both_sides, both-known, answer, arms-run}
 
 -- self and the right side
 abbrev pub operands : Value → Value → Env
@@ -57,14 +57,36 @@ none-compared (v ∷ vs) (suc j) u h at =
 
 -- ---- the match
 
+keeps-enclosed : (fs : FieldsTree) → keeps_some (field_list fs) ≡ true → IsEnclosed fs
+keeps-enclosed (named fs) h = tt
+keeps-enclosed (unnamed fs) h = tt
+keeps-enclosed unit h = absurd cc
+
+compared-enclosed : (v : Case) → is_compared v ≡ true → IsEnclosed v.fields
+compared-enclosed v h =
+    (elim (is_skipped v.attrs) as (λ b. (not b && keeps_some (field_list v.fields)) ≡ true → IsEnclosed v.fields)
+    [ true ↦ λ k. absurd cc | false ↦ λ k. keeps-enclosed v.fields k ]) h
+
+-- the tests of a variant, where its fields are bound
+tests-given : (c : Comparing) (d : Declaration) (os : List Bool) (u : Case) (env : Env) → length (field_list u.fields) < 2 ^ 64 → length os ≡ length (field_list u.fields) →
+    run (setting d os) (chain c (tests c 0 (field_list u.fields))) (both_sides (compared_arms c) (field_list u.fields) env) ≡
+    Some (truth (says c (all_kept (field_list u.fields) os)))
+tests-given c d os u env small len =
+    let fs = field_list u.fields in
+    let known = both-known (compared_arms c) fs env self-self other-other self-other small in
+    run-chain c (setting d os) (tests c 0 fs) (both_sides (compared_arms c) fs env) (says c (all_kept fs os))
+    (run-tests c d os (both_sides (compared_arms c) fs env) 0 fs os (λ k. ap (slice_get os) (omega arith)) len known.0 known.1)
+
 match-run : (c : Comparing) (d : Declaration) (os : List Bool) (x y : Value) (u : Case) → AreNamed d → slice_get (cases d) x.variant ≡ Some u → x.variant ≡ y.variant →
     length (field_list u.fields) < 2 ^ 64 → length os ≡ length (field_list u.fields) →
     run (setting d os) (matching c d) (operands x y) ≡ Some (truth (says c (direct_in (Some u) os)))
 match-run c d os x y u names at same small len =
-    arms-run c d os x y (operands x y) (rest c (cases d)) u (cases d) 0 x.variant names (λ k. ap (slice_get (cases d)) (omega arith)) at (omega arith) same small len ∙
+    arms-run (setting d os) (compared_arms c) x y (operands x y) (rest c (cases d)) u (cases d) 0 x.variant names (λ k. ap (slice_get (cases d)) (omega arith)) at (omega arith) same
+    (compared-enclosed u) ∙
     (elim (is_compared u) as (λ b. is_compared u ≡ b →
-    answer c u b os (run_arms (setting d os) (arms_of (rest c (cases d))) (two_values x y) (operands x y)) ≡ Some (truth (says c (direct_in (Some u) os)))) [
-      | true ↦ λ h. ap (λ t. Some (truth (says c t))) (sym (with-arm u os h))
+    answer (setting d os) (compared_arms c) u b (operands x y) (run_arms (setting d os) (arms_of (rest c (cases d))) (two_values x y) (operands x y)) ≡
+    Some (truth (says c (direct_in (Some u) os)))) [
+      | true ↦ λ h. tests-given c d os u (operands x y) small len ∙ ap (λ t. Some (truth (says c t))) (sym (with-arm u os h))
       | false ↦ λ h. rw (not-all (cases d) x.variant u at h, no-arm u os h, says-true c) refl
     ]) refl
 

@@ -2,7 +2,7 @@
 use Rattle.std.proofs.Common.{◌≡◌, ℕ, ◌+◌, List, [], ◌∷◌, map, Bool, true, false, cond, Result, Ok, Err, refl, sym}
 use Rattle.std.specs.Prelude.{not, ◌&&◌, ◌||◌, OnOk}
 use Rattle.dm_tokens.specs.declared.tokens.Delim.TheVariants.{Brace}
-use Rattle.dm_tokens.specs.Trees.{Trees, no_trees, join}
+use Rattle.dm_tokens.specs.Trees.{Trees, no_trees}
 use Rattle.dm_tokens.specs.Layout.{Laid, laid_start, layout}
 use Rattle.dm_syntax.specs.Declarations.{Declaration, FieldTree}
 use Rattle.dm_emit.specs.Laying.{lay, begun, done}

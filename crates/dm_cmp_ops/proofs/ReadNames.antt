@@ -14,7 +14,7 @@ use Rattle.dm_syntax.specs.Runs.{run}
 use Rattle.dm_syntax.specs.Names.{Found, name_at, variants, fields, declared, is_again, in_some, in_type, in_param, in_where, in_field, in_fields, in_variants, in_shape, found}
 use Rattle.dm_emit.specs.Values.{Text, Case, case_of_variant, cases_of_shape}
 use Rattle.dm_emit.specs.Run.{brace_fields}
-use Rattle.dm_cmp_ops.specs.Emitted.{field_ident}
+use Rattle.dm_cmp_ops.specs.Sides.{field_ident}
 use Rattle.dm_cmp_ops.specs.Named.{AreDistinct, HasName, case_name, field_name, AreFieldsNamed, AreNamed}
 use Rattle.dm_cmp_ops.specs.Expanded.{IsReadable}
 use Rattle.dm_cmp_ops.proofs.BindingLaws.{eqb-same}

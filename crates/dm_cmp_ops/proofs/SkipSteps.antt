@@ -1,74 +1,84 @@
 -- One attribute after the other gives what the definitions say of all.
-use Rattle.std.proofs.Common.{◌≡◌, ◌==◌, suc, length, arith, List, [], ◌∷◌, Bool, true, false, cond, filter, codes, None, Some, refl, sym, ap, ◌∙◌}
+use Rattle.std.proofs.Common.{◌≡◌, ◌==◌, suc, length, arith, List, [], ◌∷◌, true, false, cond, filter, codes, Option, None, Some, Ok, Err, refl, sym, ap, ◌∙◌}
 use Rattle.std.proofs.lemmas.Bool.{ne_eqb}
 use Rattle.std.proofs.lemmas.Grind.{common_steps}
-use Rattle.dm_tokens.specs.declared.error.Kind.TheVariants.{AttrSyntax}
+use Rattle.dm_tokens.specs.declared.error.Kind.TheVariants.{AttrSyntax, AttrRepeated}
 use Rattle.dm_tokens.specs.declared.error.Refusal.{Refusal}
 use Rattle.dm_syntax.specs.declared.plain.Attribute.{Attribute}
 use Rattle.dm_emit.specs.Values.{Text}
-use Rattle.dm_cmp_ops.specs.Skips.{Skip, no, yes, bad, or_else, reads_skip, is_examined, skip_among, skip, partial_eq_skip}
-use Rattle.dm_cmp_ops.specs.Checks.{refusal_at, repeated, repetition, refusal_among, or_those, place_refusal}
-use Rattle.dm_cmp_ops.specs.declared.skips.Said.{Said}
-use Rattle.dm_cmp_ops.specs.declared.skips.Said.TheVariants.{No, Yes, Bad}
-use Rattle.dm_cmp_ops.specs.Found.{found, refused, with_one_more, with_next}
+use Rattle.dm_cmp_ops.specs.declared.attr.Skip.{Skip}
+use Rattle.dm_cmp_ops.specs.declared.attr.Spanning.{Spanning}
+use Rattle.dm_cmp_ops.specs.Skips.{Skipping, no, yes, bad, or_else, skip_read, is_read, reads_skip, is_examined, skip_among, skip, partial_eq_skip}
+use Rattle.dm_cmp_ops.specs.Checks.{refusal_at, repetition, refusal_among, or_those, place_refusal}
+use Rattle.dm_cmp_ops.specs.Merged.{Merging, found, refused, parsed_as, merged_with, taken, taken_named}
 
 -- after all of these attributes
-abbrev pub with_all : Text → Said → List Attribute → Said
-with_all name s [] = s
-with_all name s (a ∷ more) = with_all name (with_next name s a) more
+abbrev pub taken_all : Text → Merging → List Attribute → Merging
+taken_all name m [] = m
+taken_all name m (a ∷ more) = taken_all name (taken_named name m a) more
 
 -- after all of these attributes that have the name
-abbrev with_examined : Said → List Attribute → Said
-with_examined s [] = s
-with_examined s (a ∷ more) = with_examined (with_one_more s a) more
+abbrev taken_examined : Merging → List Attribute → Merging
+taken_examined m [] = m
+taken_examined m (a ∷ more) = taken_examined (taken m a) more
 
-bad_stays : (r : Refusal) (xs : List Attribute) → with_examined (Bad r) xs ≡ Bad r
+bad_stays : (r : Refusal) (xs : List Attribute) → taken_examined (Err r) xs ≡ Err r
 bad_stays r [] = refl
 bad_stays r (a ∷ xs) = bad_stays r xs
 
-all_examined : (name : Text) (s : Said) (xs : List Attribute) → with_all name s xs ≡ with_examined s (filter (is_examined name) xs)
-all_examined name s [] = refl
-all_examined name s (a ∷ xs) =
-    elim (is_examined name a) as (λ v. with_all name (cond v (with_one_more s a) s) xs ≡ with_examined s (cond v (a ∷ filter (is_examined name) xs) (filter (is_examined name) xs))) [
-      | true ↦ all_examined name (with_one_more s a) xs
-      | false ↦ all_examined name s xs
+all_examined : (name : Text) (m : Merging) (xs : List Attribute) → taken_all name m xs ≡ taken_examined m (filter (is_examined name) xs)
+all_examined name m [] = refl
+all_examined name m (a ∷ xs) =
+    elim (is_examined name a) as (λ v. taken_all name (cond v (taken m a) m) xs ≡ taken_examined m (cond v (a ∷ filter (is_examined name) xs) (filter (is_examined name) xs))) [
+      | true ↦ all_examined name (taken m a) xs
+      | false ↦ all_examined name m xs
     ]
+
+-- a refusal is kept behind all others
+pub refusal_stays : (name : Text) (r : Refusal) (xs : List Attribute) → taken_all name (Err r) xs ≡ Err r
+refusal_stays name r xs = all_examined name (Err r) xs ∙ bad_stays r (filter (is_examined name) xs)
 
 -- ---- whether the place is skipped
 
-two_are_bad : (v : Bool) (a b : Attribute) (xs : List Attribute) → found (with_examined (with_one_more (cond v Yes (Bad (refusal_at AttrSyntax a))) b) xs) ≡ bad
-two_are_bad true a b xs = ap found (bad_stays (repeated b) xs)
-two_are_bad false a b xs = ap found (bad_stays (refusal_at AttrSyntax a) xs)
+-- one more behind one that was found is refused
+behind_one : (s : Spanning Skip) (a : Attribute) (xs : List Attribute) (o : Option Skip) →
+    taken_examined (merged_with (Some s) (parsed_as o a)) xs ≡ Err (refusal_at (cond (is_read o) AttrRepeated AttrSyntax) a)
+behind_one s a xs None = bad_stays (refusal_at AttrSyntax a) xs
+behind_one s a xs (Some k) = bad_stays (refusal_at AttrRepeated a) xs
 
-one_alone : (v : Bool) (r : Refusal) → found (cond v Yes (Bad r)) ≡ cond v yes bad
-one_alone true r = refl
-one_alone false r = refl
+two_are_bad : (o : Option Skip) (a b : Attribute) (xs : List Attribute) → found (taken_examined (taken (merged_with None (parsed_as o a)) b) xs) ≡ bad
+two_are_bad None a b xs = ap found (bad_stays (refusal_at AttrSyntax a) xs)
+two_are_bad (Some k) a b xs = ap found (behind_one (record { span = a.span; item = k }) b xs (skip_read b.args))
 
-found_among : (xs : List Attribute) → found (with_examined No xs) ≡ skip_among xs
+one_alone : (o : Option Skip) (a : Attribute) → found (merged_with None (parsed_as o a)) ≡ cond (is_read o) yes bad
+one_alone None a = refl
+one_alone (Some k) a = refl
+
+found_among : (xs : List Attribute) → found (taken_examined (Ok None) xs) ≡ skip_among xs
 found_among [] = refl
-found_among (a ∷ []) = one_alone (reads_skip a.args) (refusal_at AttrSyntax a)
-found_among (a ∷ b ∷ xs) = two_are_bad (reads_skip a.args) a b xs
+found_among (a ∷ []) = one_alone (skip_read a.args) a
+found_among (a ∷ b ∷ xs) = two_are_bad (skip_read a.args) a b xs
 
-pub all_skip : (name : Text) (xs : List Attribute) → found (with_all name No xs) ≡ skip xs name
-all_skip name xs = ap found (all_examined name No xs) ∙ found_among (filter (is_examined name) xs)
+pub all_skip : (name : Text) (xs : List Attribute) → found (taken_all name (Ok None) xs) ≡ skip xs name
+all_skip name xs = ap found (all_examined name (Ok None) xs) ∙ found_among (filter (is_examined name) xs)
 
 -- ---- the first refusal
 
-refused_behind : (xs : List Attribute) → refused (with_examined Yes xs) ≡ repetition xs
-refused_behind [] = refl
-refused_behind (a ∷ xs) = ap refused (bad_stays (repeated a) xs)
+refused_behind : (s : Spanning Skip) (xs : List Attribute) → refused (taken_examined (Ok (Some s)) xs) ≡ repetition xs
+refused_behind s [] = refl
+refused_behind s (a ∷ xs) = ap refused (behind_one s a xs (skip_read a.args))
 
-refused_first : (v : Bool) (r : Refusal) (xs : List Attribute) →
-    refused (with_examined (cond v Yes (Bad r)) xs) ≡ cond v (repetition xs) (Some r)
-refused_first true r xs = refused_behind xs
-refused_first false r xs = ap refused (bad_stays r xs)
+refused_first : (o : Option Skip) (a : Attribute) (xs : List Attribute) →
+    refused (taken_examined (merged_with None (parsed_as o a)) xs) ≡ cond (is_read o) (repetition xs) (Some (refusal_at AttrSyntax a))
+refused_first None a xs = ap refused (bad_stays (refusal_at AttrSyntax a) xs)
+refused_first (Some k) a xs = refused_behind (record { span = a.span; item = k }) xs
 
-refused_among : (xs : List Attribute) → refused (with_examined No xs) ≡ refusal_among xs
+refused_among : (xs : List Attribute) → refused (taken_examined (Ok None) xs) ≡ refusal_among xs
 refused_among [] = refl
-refused_among (a ∷ xs) = refused_first (reads_skip a.args) (refusal_at AttrSyntax a) xs
+refused_among (a ∷ xs) = refused_first (skip_read a.args) a xs
 
-pub all_refused : (name : Text) (xs : List Attribute) → refused (with_all name No xs) ≡ refusal_among (filter (is_examined name) xs)
-all_refused name xs = ap refused (all_examined name No xs) ∙ refused_among (filter (is_examined name) xs)
+pub all_refused : (name : Text) (xs : List Attribute) → refused (taken_all name (Ok None) xs) ≡ refusal_among (filter (is_examined name) xs)
+all_refused name xs = ap refused (all_examined name (Ok None) xs) ∙ refused_among (filter (is_examined name) xs)
 
 -- ---- both names
 
@@ -79,41 +89,48 @@ abbrev second_name : List Attribute → List Attribute
 second_name attrs = filter (is_examined (codes "eq")) attrs
 
 -- these are what a place says
-pub record Says (attrs : List Attribute) (s : Said) : Type 0 where
-  pub skip : found s ≡ partial_eq_skip attrs
-  pub refusal : refused s ≡ place_refusal attrs
+pub record Says (attrs : List Attribute) (m : Merging) : Type 0 where
+  pub skip : found m ≡ partial_eq_skip attrs
+  pub refusal : refused m ≡ place_refusal attrs
 
 others_count : (xs ys : List Attribute) → no ≡ skip_among xs → or_those xs ys ≡ ys
 others_count [] ys h = refl
 others_count (a ∷ []) ys h = (elim (reads_skip a.args) as (λ v. no ≡ cond v yes bad → a ∷ [] ≡ ys) [ true ↦ λ k. cc | false ↦ λ k. cc ]) h
 others_count (a ∷ b ∷ xs) ys h = cc
 
-none_count_else : (xs ys : List Attribute) (s : Skip) → s ≡ skip_among xs → (s ≡ no → ⊥) → or_those xs ys ≡ xs
+none_count_else : (xs ys : List Attribute) (s : Skipping) → s ≡ skip_among xs → (s ≡ no → ⊥) → or_those xs ys ≡ xs
 none_count_else [] ys s h some = absurd (some h)
 none_count_else (a ∷ xs) ys s h some = refl
 
+-- what is found where there is no word, and where there is one
+pub found_none : (o : Option (Spanning Skip)) (s : Skipping) → o ≡ None → found (Ok o) ≡ s → no ≡ s
+found_none o s e f = ap (λ (p : Option (Spanning Skip)). found (Ok p)) (sym e) ∙ f
+
+pub found_some : (o : Option (Spanning Skip)) (k : Spanning Skip) (s : Skipping) → o ≡ Some k → found (Ok o) ≡ s → yes ≡ s
+found_some o k s e f = ap (λ (p : Option (Spanning Skip)). found (Ok p)) (sym e) ∙ f
+
 -- nothing under the first name
-pub unheard : (attrs : List Attribute) (s : Said) → no ≡ skip attrs (codes "partial_eq") → found s ≡ skip attrs (codes "eq") →
-    refused s ≡ refusal_among (second_name attrs) → Says attrs s
+pub unheard : (attrs : List Attribute) (m : Merging) → no ≡ skip attrs (codes "partial_eq") → found m ≡ skip attrs (codes "eq") →
+    refused m ≡ refusal_among (second_name attrs) → Says attrs m
 unfolding place_refusal
-unheard attrs s none f r = record {
+unheard attrs m none f r = record {
   skip = f ∙ ap (λ k. or_else k (skip attrs (codes "eq"))) none;
   refusal = r ∙ ap refusal_among (sym (others_count (first_name attrs) (second_name attrs) none));
 }
 
-heard : (attrs : List Attribute) (s : Said) → (found s ≡ no → ⊥) → ((k : Skip) → or_else (found s) k ≡ found s) → found s ≡ skip attrs (codes "partial_eq") →
-    refused s ≡ refusal_among (first_name attrs) → Says attrs s
+heard : (attrs : List Attribute) (m : Merging) → (found m ≡ no → ⊥) → ((k : Skipping) → or_else (found m) k ≡ found m) → found m ≡ skip attrs (codes "partial_eq") →
+    refused m ≡ refusal_among (first_name attrs) → Says attrs m
 unfolding place_refusal
-heard attrs s some first f r = record {
+heard attrs m some first f r = record {
   skip = sym (first (skip attrs (codes "eq"))) ∙ ap (λ k. or_else k (skip attrs (codes "eq"))) f;
-  refusal = r ∙ ap refusal_among (sym (none_count_else (first_name attrs) (second_name attrs) (found s) f some));
+  refusal = r ∙ ap refusal_among (sym (none_count_else (first_name attrs) (second_name attrs) (found m) f some));
 }
 
-pub heard_yes : (attrs : List Attribute) → yes ≡ skip attrs (codes "partial_eq") → None ≡ refusal_among (first_name attrs) → Says attrs Yes
-heard_yes attrs f r = heard attrs Yes (λ e. cc) (λ k. refl) f r
+pub heard_yes : (attrs : List Attribute) (s : Spanning Skip) → yes ≡ skip attrs (codes "partial_eq") → None ≡ refusal_among (first_name attrs) → Says attrs (Ok (Some s))
+heard_yes attrs s f r = heard attrs (Ok (Some s)) (λ e. cc) (λ k. refl) f r
 
-pub heard_bad : (attrs : List Attribute) (b : Refusal) → bad ≡ skip attrs (codes "partial_eq") → Some b ≡ refusal_among (first_name attrs) → Says attrs (Bad b)
-heard_bad attrs b f r = heard attrs (Bad b) (λ e. cc) (λ k. refl) f r
+pub heard_bad : (attrs : List Attribute) (b : Refusal) → bad ≡ skip attrs (codes "partial_eq") → Some b ≡ refusal_among (first_name attrs) → Says attrs (Err b)
+heard_bad attrs b f r = heard attrs (Err b) (λ e. cc) (λ k. refl) f r
 
 -- nothing is refused of no attributes
 pub nothing_refused : (attrs : List Attribute) → (length attrs == 0) ≡ true → place_refusal attrs ≡ None
@@ -121,4 +138,4 @@ unfolding place_refusal
 nothing_refused [] e = refl
 nothing_refused (a ∷ more) e = let f : (suc (length more) == 0) ≡ false = ne_eqb (suc (length more)) 0 (λ g. omega (arith, g)) in absurd (cc)
 
-pub ruleset skip_steps = (common_steps, all_skip, all_refused)
+pub ruleset skip_steps = (common_steps, refusal_stays, all_skip, all_refused)

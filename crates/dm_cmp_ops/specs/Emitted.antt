@@ -1,17 +1,16 @@
 -- The bodies that are emitted for `eq` and `ne`: one form, with the test, the join and the neutral truth of each.
-use Rattle.std.specs.Prelude.{ℕ, ◌+◌, List, [], ◌∷◌, ◌++◌, length, Bool, true, false, not, cond, ◌&&◌, ◌||◌, eqb, nat_lt, Option, Some, None, codes}
+use Rattle.std.specs.Prelude.{ℕ, ◌+◌, List, [], ◌∷◌, ◌++◌, length, Bool, true, false, not, cond, ◌&&◌, ◌||◌, eqb, nat_lt, Some, codes}
 use Rattle.std.specs.Fmt.{decimal}
-use Rattle.dm_tokens.specs.declared.tokens.Ident.{Ident}
-use Rattle.dm_syntax.specs.Tree.{PathTree, no_self}
-use Rattle.dm_syntax.specs.Declarations.{Declaration, FieldTree, FieldsTree, named, unnamed, unit}
-use Rattle.dm_emit.specs.declared.pattern.Binding.TheVariants.{Plain}
-use Rattle.dm_emit.specs.Output.{PatternTree, wild, bind, tuple_pattern, named_pattern, pair_pattern, patterns_of, named_of, ExprTree, or_expr, and_expr, equal, unequal, deref, path_expr, call, tuple, bool, match_expr, unsafe_expr, ExprTrees, no_exprs, expr_then, exprs_of, no_expr, some_expr, ArmTree, no_arms, arms_of, block_body, expr_body, BlockTree, last_expr, MethodTree, ItemTree}
+use Rattle.dm_syntax.specs.Tree.{no_self}
+use Rattle.dm_syntax.specs.Declarations.{Declaration, FieldTree}
+use Rattle.dm_emit.specs.Output.{wild, patterns_of, ExprTree, or_expr, and_expr, equal, unequal, deref, path_expr, call, tuple, bool, match_expr, unsafe_expr, ExprTrees, no_exprs, expr_then, exprs_of, no_expr, some_expr, ArmTree, no_arms, arms_of, expr_body, BlockTree, last_expr, MethodTree, ItemTree}
 use Rattle.dm_emit.specs.Values.{Text, Case, cases, is_enum, field_list}
 use Rattle.dm_emit.specs.Run.{discriminant_names}
 use Rattle.dm_cmp_ops.specs.declared.partial_eq.Comparing.{Comparing}
 use Rattle.dm_cmp_ops.specs.declared.partial_eq.Comparing.TheVariants.{Equal, Unequal}
-use Rattle.dm_cmp_ops.specs.Skips.{is_skipped}
+use Rattle.dm_cmp_ops.specs.Skips.{is_skipped, skips_field}
 use Rattle.dm_cmp_ops.specs.Heads.{word, words, plain_path, is_compared, some_compared, ref_self, name_type, partial_eq_path, params_of, predicates_of, implementor}
+use Rattle.dm_cmp_ops.specs.Sides.{Binds, PairArms, pair_arm, pair_arms}
 use Rattle.dm_emit.specs.declared.item.ItemAttr.TheVariants.{AllowPrivateBounds, AutomaticallyDerived, Inline}
 use Rattle.dm_emit.specs.declared.item.Receiver.TheVariants.{Ref}
 
@@ -34,7 +33,7 @@ abbrev pub says : Comparing → Bool → Bool
 says Equal b = b
 says Unequal b = not b
 
--- ---- names and patterns
+-- ---- names
 
 abbrev pub self_name : ℕ → Text
 self_name n = codes "__self_" ++ decimal n
@@ -45,35 +44,9 @@ other_name n = codes "__other_" ++ decimal n
 abbrev pub name : Text → ExprTree
 name x = path_expr no_self (plain_path (word x ∷ []))
 
-abbrev pub binding : Bool → Text → PatternTree
-binding skip x = cond skip wild (bind Plain (word x))
-
-abbrev pub bindings : (ℕ → Text) → ℕ → List FieldTree → List PatternTree
-bindings naming n [] = []
-bindings naming n (f ∷ fs) = binding (is_skipped f.attrs) (naming n) ∷ bindings naming (n + 1) fs
-
-abbrev pub field_ident : Option Ident → Ident
-field_ident None = word []
-field_ident (Some i) = i
-
--- the kept fields between braces
-abbrev pub named_bindings : (ℕ → Text) → ℕ → List FieldTree → List (Ident × PatternTree)
-named_bindings naming n [] = []
-named_bindings naming n (f ∷ fs) =
-    cond (is_skipped f.attrs) (named_bindings naming (n + 1) fs) ((field_ident f.ident, bind Plain (word (naming n))) ∷ named_bindings naming (n + 1) fs)
-
-abbrev pub some_skipped_field : List FieldTree → Bool
-some_skipped_field [] = false
-some_skipped_field (f ∷ fs) = is_skipped f.attrs || some_skipped_field fs
-
--- `Self`, or `Self::V`
-abbrev pub case_path : Declaration → Case → PathTree
-case_path d c = cond (is_enum d) (plain_path (word (codes "Self") ∷ c.ident ∷ [])) (plain_path (word (codes "Self") ∷ []))
-
-abbrev pub side : (ℕ → Text) → PathTree → FieldsTree → PatternTree
-side naming p (named fs) = named_pattern p (named_of (named_bindings naming 0 fs.items)) (some_skipped_field fs.items)
-side naming p (unnamed fs) = tuple_pattern p (patterns_of (bindings naming 0 fs.items))
-side naming p unit = tuple_pattern p (patterns_of [])
+-- the fields that aren't skipped, by these names
+abbrev pub binds : (ℕ → Text) → Binds
+binds names = record { skips = skips_field; naming = names }
 
 -- ---- one arm for each variant that is compared
 
@@ -90,16 +63,14 @@ chain c [] = bool (neutral_of c)
 chain c (e ∷ []) = e
 chain c (e ∷ f ∷ es) = join_of c (exprs_of (e ∷ f ∷ es))
 
-abbrev pub block_arm : PatternTree → ExprTree → ArmTree
-block_arm p e = record { patterns = patterns_of (p ∷ []); guard = no_expr; body = block_body (last_expr (some_expr e)) }
+abbrev pub compared_arms : Comparing → PairArms
+compared_arms c = record { left = binds self_name; right = binds other_name; has = is_compared; gives = λ v. chain c (tests c 0 (field_list v.fields)) }
 
 abbrev pub arm : Comparing → Declaration → Case → ArmTree
-arm c d v =
-    block_arm (pair_pattern (side self_name (case_path d v) v.fields) (side other_name (case_path d v) v.fields)) (chain c (tests c 0 (field_list v.fields)))
+arm c d v = pair_arm (compared_arms c) d v
 
 abbrev pub arms : Comparing → Declaration → List Case → List ArmTree → List ArmTree
-arms c d [] more = more
-arms c d (v ∷ vs) more = cond (is_compared v) (arm c d v ∷ arms c d vs more) (arms c d vs more)
+arms c d vs more = pair_arms (compared_arms c) d vs more
 
 -- ---- the last arm
 

@@ -1,8 +1,9 @@
 pub mod Skips
-pub mod Found
 pub mod Checks
+pub mod Merged
 pub mod Direct
 pub mod Heads
+pub mod Sides
 pub mod Emitted
 pub mod Named
 pub mod CaseViews

@@ -1,5 +1,5 @@
 -- The tokens of the parts that are printed without their trees.
-use Rattle.std.specs.Prelude.{Bool, true, List, cond}
+use Rattle.std.specs.Prelude.{Bool, List, cond}
 use Rattle.dm_tokens.specs.Trees.{Trees, no_trees, join}
 use Rattle.dm_syntax.specs.Declarations.{Declaration}
 use Rattle.dm_syntax.specs.TypeTokens.{spaced}

@@ -1,5 +1,5 @@
 -- Which places an attribute skips: `#[NAME(skip)]` or `#[NAME(ignore)]`, in any delimiters.
-use Rattle.std.specs.Prelude.{List, [], ◌∷◌, Bool, true, false, not, ◌&&◌, ◌||◌, cond, codes, filter}
+use Rattle.std.specs.Prelude.{List, [], ◌∷◌, Bool, true, false, not, ◌&&◌, cond, Option, Some, None, codes, filter}
 use Rattle.std.specs.Str.{bytes_eq}
 use Rattle.dm_tokens.specs.declared.tokens.Ident.{Ident}
 use Rattle.dm_tokens.specs.declared.tokens.Token.TheVariants as t
@@ -7,7 +7,10 @@ use Rattle.dm_tokens.specs.Trees.{Trees, no_trees, token}
 use Rattle.dm_syntax.specs.declared.plain.Attribute.{Attribute}
 use Rattle.dm_syntax.specs.declared.plain.AttrArgs.{AttrArgs}
 use Rattle.dm_syntax.specs.declared.plain.AttrArgs.TheVariants as args
+use Rattle.dm_syntax.specs.Declarations.{FieldTree}
 use Rattle.dm_emit.specs.Values.{Text}
+use Rattle.dm_cmp_ops.specs.declared.attr.Skip.{Skip}
+use Rattle.dm_cmp_ops.specs.declared.attr.Skip.TheVariants.{BySkip, ByIgnore}
 
 -- an identifier that isn't raw, of these characters
 abbrev pub is_spelled : Text → Ident → Bool
@@ -22,39 +25,51 @@ is_one_word word (i ∷ j ∷ more) = false
 abbrev pub is_examined : Text → Attribute → Bool
 is_examined name a = not a.path.leading_colon && is_one_word name a.path.segments
 
-abbrev pub is_skip_word : Trees → Bool
-is_skip_word (token (t.Ident i) no_trees) = is_spelled (codes "skip") i || is_spelled (codes "ignore") i
-is_skip_word _ = false
+-- the word by which a place is skipped
+abbrev pub skip_named : Ident → Option Skip
+skip_named i = cond (is_spelled (codes "skip") i) (Some BySkip) (cond (is_spelled (codes "ignore") i) (Some ByIgnore) None)
+
+abbrev pub skip_in : Trees → Option Skip
+skip_in (token (t.Ident i) no_trees) = skip_named i
+skip_in _ = None
+
+-- what the contents of an attribute are read as
+abbrev pub skip_read : AttrArgs → Option Skip
+skip_read args.Absent = None
+skip_read (args.List d inside) = skip_in inside.trees
+skip_read (args.Value o) = None
+
+abbrev pub is_read : Option Skip → Bool
+is_read None = false
+is_read (Some s) = true
 
 abbrev pub reads_skip : AttrArgs → Bool
-reads_skip args.Absent = false
-reads_skip (args.List d inside) = is_skip_word inside.trees
-reads_skip (args.Value o) = false
+reads_skip a = is_read (skip_read a)
 
-pub data Skip : Type 0 where
-  no : Skip
-  yes : Skip
-  bad : Skip
+pub data Skipping : Type 0 where
+  no : Skipping
+  yes : Skipping
+  bad : Skipping
 
 -- none is examined; exactly one is, and it reads; anything else
-abbrev pub skip_among : List Attribute → Skip
+abbrev pub skip_among : List Attribute → Skipping
 skip_among [] = no
 skip_among (a ∷ []) = cond (reads_skip a.args) yes bad
 skip_among (a ∷ b ∷ more) = bad
 
-abbrev pub skip : List Attribute → Text → Skip
+abbrev pub skip : List Attribute → Text → Skipping
 skip attrs name = skip_among (filter (is_examined name) attrs)
 
-abbrev pub or_else : Skip → Skip → Skip
+abbrev pub or_else : Skipping → Skipping → Skipping
 or_else no s = s
 or_else yes s = yes
 or_else bad s = bad
 
 -- under `partial_eq`, or under `eq` where the first gave none
-abbrev pub partial_eq_skip : List Attribute → Skip
+abbrev pub partial_eq_skip : List Attribute → Skipping
 partial_eq_skip attrs = or_else (skip attrs (codes "partial_eq")) (skip attrs (codes "eq"))
 
-abbrev pub is_yes : Skip → Bool
+abbrev pub is_yes : Skipping → Bool
 is_yes no = false
 is_yes yes = true
 is_yes bad = false
@@ -62,3 +77,6 @@ is_yes bad = false
 -- whether `PartialEq` skips the place with these attributes
 unfoldable pub is_skipped : List Attribute → Bool
 is_skipped attrs = is_yes (partial_eq_skip attrs)
+
+abbrev pub skips_field : FieldTree → Bool
+skips_field f = is_skipped f.attrs

@@ -4,6 +4,8 @@ ghost use Rattle.std.specs.Prelude.{◌≡◌, [], ◌∷◌, map, length, IfOk}
 ghost use Rattle.dm_syntax.specs.Declarations.{declaration_view, variant_view, fields_view, field_view};
 ghost use Rattle.dm_emit.specs.Values as values;
 ghost use Rattle.dm_cmp_ops.specs.Heads as heads;
+ghost use Rattle.dm_cmp_ops.specs.Skips.{skips_field};
+ghost use Rattle.dm_cmp_ops.specs.Sides as sides;
 ghost use Rattle.dm_cmp_ops.specs.Emitted as spec;
 ghost use Rattle.dm_cmp_ops.specs.CaseViews.{case_view, fields_ref_view};
 ghost use Rattle.dm_cmp_ops.specs.Named.{AreSmall};
@@ -138,7 +140,7 @@ fn keeps_some_in(fields: FieldsRef<'_, '_>) -> bool
 }
 
 pub(crate) fn some_skipped_field(fields: &[Field<'_>]) -> bool
-    ensures { result ≡ spec.some_skipped_field (map field_view fields.now) }
+    ensures { result ≡ sides.some_left_out skips_field (map field_view fields.now) }
 {
     for field in fields {
         if is_skipped(field.attrs.as_slice()) {

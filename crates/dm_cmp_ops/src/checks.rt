@@ -9,7 +9,7 @@ ghost use Rattle.dm_cmp_ops.specs.CaseViews.{case_view, fields_ref_view};
 ghost use Rattle.dm_cmp_ops.specs.Checks as spec;
 
 use crate::cases::{CaseRef, FieldsRef, case_of_struct, case_of_variant};
-use crate::skips::{Said, place_refusal, said_to_partial_eq};
+use crate::skips::{place_refusal, skip_of};
 use dm_syntax::{Data, DeriveInput, Field, Variant};
 use dm_tokens::{Kind, Refusal, Span};
 
@@ -38,10 +38,10 @@ fn fields_ref_refusal(fields: FieldsRef<'_, '_>) -> Option<Refusal>
 fn case_refusal(case: &CaseRef<'_, '_>) -> Option<Refusal>
     ensures { result ≡ spec.first_refusal (spec.places (case_view case.now)) }
 {
-    match said_to_partial_eq(case.attrs) {
-        Said::No => fields_ref_refusal(case.fields),
-        Said::Yes => None,
-        Said::Bad(refusal) => Some(refusal),
+    match skip_of(case.attrs) {
+        Ok(None) => fields_ref_refusal(case.fields),
+        Ok(Some(_)) => None,
+        Err(refusal) => Some(refusal),
     }
 }
 

@@ -5,7 +5,7 @@ ghost use Rattle.std.specs.Prelude.{◌≡◌, ◌∷◌, ◌++◌, [], cond, ma
 ghost use Rattle.dm_syntax.specs.Declarations.{declaration_view, field_view};
 ghost use Rattle.dm_emit.specs.Output.{expr_view, arm_view, block_view, pattern_view, exprs_of, last_expr, some_expr, no_expr, unsafe_expr, body_view, block_body, patterns_of};
 ghost use Rattle.dm_emit.specs.Values as values;
-ghost use Rattle.dm_cmp_ops.specs.Heads as heads;
+ghost use Rattle.dm_cmp_ops.specs.Sides as sides;
 ghost use Rattle.dm_cmp_ops.specs.Emitted as spec;
 ghost use Rattle.dm_cmp_ops.specs.CaseViews.{case_view, fields_ref_view, naming};
 
@@ -164,7 +164,7 @@ fn block_arm<'a>(
     pattern: Pattern<'a>,
     last: Box<Expr<'a>>,
 ) -> Result<Arm<'a>, AllocError>
-    ensures { IfOk result (λ a. arm_view a ≡ spec.block_arm (pattern_view pattern.entry) (expr_view last.entry.value)) }
+    ensures { IfOk result (λ a. arm_view a ≡ sides.block_arm (pattern_view pattern.entry) (expr_view last.entry.value)) }
 {
     let body = block_body(alloc, last);
     arm_with(alloc, pattern, body)

@@ -1,6 +1,7 @@
 //! Comparison traits: from a declaration to implementations.
 #![tactic(auto)]
 
+mod attr;
 mod cases;
 mod checks;
 mod comparing;

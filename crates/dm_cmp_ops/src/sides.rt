@@ -1,13 +1,14 @@
 //! The patterns by which a variant's fields are bound, for each operand.
 #![tactic(auto, using(crate::proofs::Builders::builder_steps))]
 
-ghost use Rattle.std.specs.Prelude.{◌≡◌, ◌∷◌, [], map, IfOk, IfSome, codes, string_bytes};
+ghost use Rattle.std.specs.Prelude.{◌≡◌, map, IfOk, IfSome, string_bytes};
 ghost use Rattle.dm_syntax.specs.Tree.{path_view};
 ghost use Rattle.dm_syntax.specs.Declarations.{declaration_view, field_view};
 ghost use Rattle.dm_emit.specs.Output.{pattern_view, named_view, bind};
 ghost use Rattle.dm_emit.specs.declared.pattern.Binding.TheVariants.{Plain};
 ghost use Rattle.dm_cmp_ops.specs.Heads as heads;
-ghost use Rattle.dm_cmp_ops.specs.Emitted as spec;
+ghost use Rattle.dm_cmp_ops.specs.Sides as spec;
+ghost use Rattle.dm_cmp_ops.specs.Emitted.{self_name, other_name, binds};
 ghost use Rattle.dm_cmp_ops.specs.CaseViews.{case_view, fields_ref_view, naming};
 
 use crate::cases::{CaseRef, FieldsRef, is_enum, some_skipped_field};
@@ -27,7 +28,7 @@ pub(crate) enum Operand {
 
 /// The names of the first fields of the left operand, which need no memory.
 fn first_mine(n: usize) -> Option<&'static str>
-    ensures { IfSome result (λ name. name.now ≡ spec.self_name n) }
+    ensures { IfSome result (λ name. name.now ≡ self_name n) }
 {
     match n {
         0 => Some("__self_0"),
@@ -44,7 +45,7 @@ fn first_mine(n: usize) -> Option<&'static str>
 
 /// The names of the first fields of the right operand.
 fn first_theirs(n: usize) -> Option<&'static str>
-    ensures { IfSome result (λ name. name.now ≡ spec.other_name n) }
+    ensures { IfSome result (λ name. name.now ≡ other_name n) }
 {
     match n {
         0 => Some("__other_0"),
@@ -116,7 +117,7 @@ fn bindings<'a>(
     operand: Operand,
     fields: &[Field<'_>],
 ) -> Result<Seq<Pattern<'a>>, AllocError>
-    ensures { IfOk result (λ ps. map pattern_view ps ≡ spec.bindings (naming operand) 0 (map field_view fields.now)) }
+    ensures { IfOk result (λ ps. map pattern_view ps ≡ spec.bindings (binds (naming operand)) 0 (map field_view fields.now)) }
 {
     let mut out = Seq::with_capacity(alloc, fields.len())?;
     for (i, field) in fields.iter().enumerate() {
@@ -155,7 +156,7 @@ fn named_bindings<'a>(
     operand: Operand,
     fields: &[Field<'a>],
 ) -> Result<Seq<NamedPattern<'a>>, AllocError>
-    ensures { IfOk result (λ ps. map named_view ps ≡ spec.named_bindings (naming operand) 0 (map field_view fields.now)) }
+    ensures { IfOk result (λ ps. map named_view ps ≡ spec.named_bindings (binds (naming operand)) 0 (map field_view fields.now)) }
 {
     let mut out = Seq::with_capacity(alloc, fields.len())?;
     for (i, field) in fields.iter().enumerate() {
@@ -187,7 +188,7 @@ fn side_of_fields<'a>(
     path: Path<'a>,
     fields: FieldsRef<'_, 'a>,
 ) -> Result<Pattern<'a>, AllocError>
-    ensures { IfOk result (λ p. pattern_view p ≡ spec.side (naming operand) (path_view path.entry) (fields_ref_view fields.entry)) }
+    ensures { IfOk result (λ p. pattern_view p ≡ spec.side (binds (naming operand)) (path_view path.entry) (fields_ref_view fields.entry)) }
 {
     match fields {
         FieldsRef::Named(all) => {
@@ -210,7 +211,7 @@ pub(crate) fn side<'a>(
     input: &DeriveInput<'a>,
     case: &CaseRef<'_, 'a>,
 ) -> Result<Box<Pattern<'a>>, AllocError>
-    ensures { IfOk result (λ p. pattern_view p.value ≡ spec.side (naming operand) (spec.case_path (declaration_view input.now) (case_view case.now)) (case_view case.now).fields) }
+    ensures { IfOk result (λ p. pattern_view p.value ≡ spec.side (binds (naming operand)) (spec.case_path (declaration_view input.now) (case_view case.now)) (case_view case.now).fields) }
 {
     let path = case_path(alloc, input, case)?;
     let pattern = side_of_fields(alloc, operand, path, case.fields)?;

@@ -9,7 +9,8 @@ ghost use Rattle.dm_syntax.specs.TypeTokens as syntax;
 ghost use Rattle.dm_emit.specs.Output.{patterns_of, named_of};
 ghost use Rattle.dm_emit.specs.Tokens as tokens;
 ghost use Rattle.dm_emit.specs.Laying.{lay};
-ghost use Rattle.dm_cmp_ops.specs.Emitted as spec;
+ghost use Rattle.dm_cmp_ops.specs.Sides as spec;
+ghost use Rattle.dm_cmp_ops.specs.Emitted.{binds};
 ghost use Rattle.dm_cmp_ops.specs.CaseViews.{case_view, naming};
 
 use crate::cases::{CaseRef, FieldsRef, is_enum, some_skipped_field};
@@ -59,7 +60,7 @@ fn bindings(
     operand: Operand,
     fields: &[Field<'_>],
 ) -> Result<(), AllocError>
-    ensures { OnOk result (out.new ≡ lay out.old (tokens.ended (tokens.each_pattern (patterns_of (spec.bindings (naming operand) 0 (map field_view fields.now)))))) }
+    ensures { OnOk result (out.new ≡ lay out.old (tokens.ended (tokens.each_pattern (patterns_of (spec.bindings (binds (naming operand)) 0 (map field_view fields.now)))))) }
 {
     for (i, field) in fields.iter().enumerate() {
         binding(alloc, out, operand, i, is_skipped(field.attrs.as_slice()))?;
@@ -98,7 +99,7 @@ fn named_bindings(
     operand: Operand,
     fields: &[Field<'_>],
 ) -> Result<(), AllocError>
-    ensures { OnOk result (out.new ≡ lay out.old (tokens.ended (tokens.each_named (named_of (spec.named_bindings (naming operand) 0 (map field_view fields.now)))))) }
+    ensures { OnOk result (out.new ≡ lay out.old (tokens.ended (tokens.each_named (named_of (spec.named_bindings (binds (naming operand)) 0 (map field_view fields.now)))))) }
 {
     for (i, field) in fields.iter().enumerate() {
         if !is_skipped(field.attrs.as_slice()) {
@@ -132,7 +133,7 @@ pub fn side(
     input: &DeriveInput<'_>,
     case: &CaseRef<'_, '_>,
 ) -> Result<(), AllocError>
-    ensures { OnOk result (out.new ≡ lay out.old (tokens.pattern_trees (spec.side (naming operand) (spec.case_path (declaration_view input.now) (case_view case.now)) (case_view case.now).fields))) }
+    ensures { OnOk result (out.new ≡ lay out.old (tokens.pattern_trees (spec.side (binds (naming operand)) (spec.case_path (declaration_view input.now) (case_view case.now)) (case_view case.now).fields))) }
 {
     case_path(out, input, case)?;
     match case.fields {

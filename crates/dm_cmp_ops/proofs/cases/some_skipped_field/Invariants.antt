@@ -1,7 +1,8 @@
 use Rattle.std.proofs.Common.{◌≡◌, map, drop}
 use Rattle.dm_syntax.specs.Declarations.{field_view}
-use Rattle.dm_cmp_ops.specs.Emitted as spec
+use Rattle.dm_cmp_ops.specs.Skips.{skips_field}
+use Rattle.dm_cmp_ops.specs.Sides.{some_left_out}
 use Rattle.dm_cmp_ops.proofs.cases.some_skipped_field.Given as goal
 
 abbrev pub invariant-loop-field : goal.invariant-loop-field
-invariant-loop-field l = spec.some_skipped_field (map field_view (drop l.field-index l.fields)) ≡ spec.some_skipped_field (map field_view l.fields)
+invariant-loop-field l = some_left_out skips_field (map field_view (drop l.field-index l.fields)) ≡ some_left_out skips_field (map field_view l.fields)

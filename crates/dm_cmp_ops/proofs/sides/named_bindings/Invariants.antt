@@ -2,9 +2,10 @@ use Rattle.std.proofs.Common.{◌≡◌, ◌++◌, map, drop}
 use Rattle.dm_syntax.specs.Declarations.{field_view}
 use Rattle.dm_emit.specs.Output.{named_view}
 use Rattle.dm_cmp_ops.specs.CaseViews.{naming}
-use Rattle.dm_cmp_ops.specs.Emitted as spec
+use Rattle.dm_cmp_ops.specs.Sides as spec
+use Rattle.dm_cmp_ops.specs.Emitted.{binds}
 use Rattle.dm_cmp_ops.proofs.sides.named_bindings.Given as goal
 
 abbrev pub invariant-loop-i : goal.invariant-loop-i
 invariant-loop-i l =
-    map named_view l.out ++ spec.named_bindings (naming l.operand) l.i (map field_view (drop l.i l.fields)) ≡ spec.named_bindings (naming l.operand) 0 (map field_view l.fields)
+    map named_view l.out ++ spec.named_bindings (binds (naming l.operand)) l.i (map field_view (drop l.i l.fields)) ≡ spec.named_bindings (binds (naming l.operand)) 0 (map field_view l.fields)

@@ -4,10 +4,11 @@ use Rattle.dm_emit.specs.Laying.{lay}
 use Rattle.dm_emit.specs.Output.{patterns_of}
 use Rattle.dm_emit.specs.Tokens.{ended, each_pattern}
 use Rattle.dm_cmp_ops.specs.CaseViews.{naming}
-use Rattle.dm_cmp_ops.specs.Emitted as spec
+use Rattle.dm_cmp_ops.specs.Sides as spec
+use Rattle.dm_cmp_ops.specs.Emitted.{binds}
 use Rattle.dm_cmp_ops.proofs.printing.sides.bindings.Given as goal
 
 abbrev pub invariant-loop-i : goal.invariant-loop-i
 invariant-loop-i l =
-    lay l.out (ended (each_pattern (patterns_of (spec.bindings (naming l.operand) l.i (map field_view (drop l.i l.fields)))))) ≡
-    lay l.initial.out (ended (each_pattern (patterns_of (spec.bindings (naming l.operand) 0 (map field_view l.fields)))))
+    lay l.out (ended (each_pattern (patterns_of (spec.bindings (binds (naming l.operand)) l.i (map field_view (drop l.i l.fields)))))) ≡
+    lay l.initial.out (ended (each_pattern (patterns_of (spec.bindings (binds (naming l.operand)) 0 (map field_view l.fields)))))
