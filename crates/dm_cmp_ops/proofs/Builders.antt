@@ -1,12 +1,13 @@
 -- Steps that the builders of emitted code take.
 use Rattle.std.proofs.Common.{◌≡◌, List, [], ◌∷◌, ◌++◌, Bool, true, false, refl, ap}
 use Rattle.dm_syntax.specs.Tree.{SegmentTree, segment, absent, segments_of, segment_then}
+use Rattle.dm_syntax.specs.Implementors.{segments}
 use Rattle.dm_emit.specs.Values.{Text}
 use Rattle.dm_emit.proofs.View.{view_steps}
 use Rattle.dm_emit.specs.Output.{ExprTree}
 use Rattle.dm_cmp_ops.specs.declared.partial_eq.Comparing.{Comparing}
 use Rattle.dm_cmp_ops.specs.Emitted.{with_discriminants}
-use Rattle.dm_cmp_ops.specs.Heads.{word, words, segments}
+use Rattle.dm_cmp_ops.specs.Heads.{word, words}
 
 -- the segments of a path of these names
 abbrev pub plain_segments : List Text → List SegmentTree

@@ -6,9 +6,10 @@ use Rattle.std.proofs.lemmas.Fmt.{decimal_injective}
 use Rattle.std.proofs.lemmas.Slice.Eq.{bytes_eq-Decides}
 use Rattle.dm_tokens.specs.declared.tokens.Ident.{Ident}
 use Rattle.dm_syntax.specs.Declarations.{Declaration, FieldTree, ShapeTree, struct_shape, enum_shape, union_shape}
+use Rattle.dm_syntax.specs.Implementors.{plain_path}
 use Rattle.dm_emit.specs.Values.{Text, Case, cases, cases_of_shape, is_enum, is_enum_shape}
 use Rattle.dm_emit.specs.Run.{case_named, path_case, field_named, same_name}
-use Rattle.dm_cmp_ops.specs.Heads.{word, plain_path}
+use Rattle.dm_cmp_ops.specs.Heads.{word}
 use Rattle.dm_cmp_ops.specs.Sides.{case_path, field_ident}
 use Rattle.dm_cmp_ops.specs.Emitted.{self_name, other_name}
 use Rattle.dm_cmp_ops.specs.Named.{AreDistinct, HasName, case_name, field_name, AreFieldsNamed, AreNamed}

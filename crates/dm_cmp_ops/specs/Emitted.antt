@@ -3,13 +3,14 @@ use Rattle.std.specs.Prelude.{ℕ, ◌+◌, List, [], ◌∷◌, ◌++◌, lengt
 use Rattle.std.specs.Fmt.{decimal}
 use Rattle.dm_syntax.specs.Tree.{no_self}
 use Rattle.dm_syntax.specs.Declarations.{Declaration, FieldTree}
+use Rattle.dm_syntax.specs.Implementors.{plain_path, name_type, params_of, predicates_of, implementor}
 use Rattle.dm_emit.specs.Output.{wild, patterns_of, ExprTree, or_expr, and_expr, equal, unequal, deref, path_expr, call, tuple, bool, match_expr, unsafe_expr, ExprTrees, no_exprs, expr_then, exprs_of, no_expr, some_expr, ArmTree, no_arms, arms_of, expr_body, BlockTree, last_expr, MethodTree, ItemTree}
 use Rattle.dm_emit.specs.Values.{Text, Case, cases, is_enum, field_list}
 use Rattle.dm_emit.specs.Run.{discriminant_names}
 use Rattle.dm_cmp_ops.specs.declared.partial_eq.Comparing.{Comparing}
 use Rattle.dm_cmp_ops.specs.declared.partial_eq.Comparing.TheVariants.{Equal, Unequal}
 use Rattle.dm_cmp_ops.specs.Skips.{is_skipped, skips_field}
-use Rattle.dm_cmp_ops.specs.Heads.{word, words, plain_path, is_compared, some_compared, ref_self, name_type, partial_eq_path, params_of, predicates_of, implementor}
+use Rattle.dm_cmp_ops.specs.Heads.{word, words, is_compared, some_compared, ref_self, partial_eq_path}
 use Rattle.dm_cmp_ops.specs.Sides.{Binds, PairArms, pair_arm, pair_arms}
 use Rattle.dm_emit.specs.declared.item.ItemAttr.TheVariants.{AllowPrivateBounds, AutomaticallyDerived, Inline}
 use Rattle.dm_emit.specs.declared.item.Receiver.TheVariants.{Ref}

@@ -1,9 +1,10 @@
 -- The implementation of `PartialEq` but for its bodies.
-use Rattle.std.specs.Prelude.{◌≡◌, List, [], ◌∷◌, ◌++◌, map, filter, Bool, true, false, not, ◌&&◌, ◌||◌, codes, Option, Some, None}
+use Rattle.std.specs.Prelude.{◌≡◌, List, [], ◌∷◌, Bool, true, false, not, ◌&&◌, ◌||◌, codes, Some, None}
 use Rattle.dm_tokens.specs.declared.tokens.Ident.{Ident}
 use Rattle.dm_tokens.specs.Layout.{nowhere}
-use Rattle.dm_syntax.specs.Tree.{TypeTree, type_tree, path, reference, PathTree, path_tree, SegmentTrees, segment, no_segments, segment_then, ArgumentsTree, absent, angle, ArgumentTree, lifetime_arg, type_arg, arguments_of, no_self}
-use Rattle.dm_syntax.specs.Declarations.{Listed, ParamTree, lifetime_param, type_param, const_param, PredicateTree, Declaration, FieldTree}
+use Rattle.dm_syntax.specs.Tree.{TypeTree, type_tree, reference, PathTree}
+use Rattle.dm_syntax.specs.Declarations.{Declaration, FieldTree}
+use Rattle.dm_syntax.specs.Implementors.{plain_path, name_type, params_of, predicates_of, implementor}
 use Rattle.dm_emit.specs.Output.{ItemTree, MethodTree}
 use Rattle.dm_emit.specs.Values.{Text, Case, cases, field_list}
 use Rattle.dm_emit.specs.declared.item.ItemAttr.TheVariants.{AllowPrivateBounds, AutomaticallyDerived, Inline}
@@ -15,64 +16,9 @@ use Rattle.dm_cmp_ops.specs.Direct.{Gives, direct_eq, direct_ne}
 abbrev pub word : Text → Ident
 word x = record { name = x; raw = false; span = nowhere }
 
-abbrev pub segments : List Ident → SegmentTrees
-segments [] = no_segments
-segments (i ∷ is) = segment_then (segment i absent) (segments is)
-
 abbrev pub words : List Text → List Ident
 words [] = []
 words (x ∷ xs) = word x ∷ words xs
-
-abbrev pub plain_path : List Ident → PathTree
-plain_path is = path_tree false (segments is)
-
-abbrev pub name_type : Ident → TypeTree
-name_type i = type_tree (path no_self (plain_path (i ∷ []))) nowhere
-
--- ---- parameters and predicates
-
-abbrev pub is_lifetime : ParamTree → Bool
-is_lifetime (lifetime_param attrs l bounds) = true
-is_lifetime (type_param attrs i bounds default) = false
-is_lifetime (const_param attrs i t default) = false
-
-abbrev pub is_other : ParamTree → Bool
-is_other p = not (is_lifetime p)
-
--- a parameter without its attributes and its default
-abbrev pub bare : ParamTree → ParamTree
-bare (lifetime_param attrs l bounds) = lifetime_param [] l bounds
-bare (type_param attrs i bounds default) = type_param [] i bounds None
-bare (const_param attrs i t default) = const_param [] i t None
-
--- the declared parameters, lifetimes first
-abbrev pub params_of : Declaration → List ParamTree
-params_of d = map bare (filter is_lifetime d.generics.params.items) ++ map bare (filter is_other d.generics.params.items)
-
-abbrev pub predicates_in : Option (Listed PredicateTree) → List PredicateTree
-predicates_in None = []
-predicates_in (Some ps) = ps.items
-
--- the declared predicates
-abbrev pub predicates_of : Declaration → List PredicateTree
-predicates_of d = predicates_in d.generics.where_clause
-
--- ---- the implementor
-
--- what stands for a parameter between `<` and `>`; a constant's name is read as a type
-abbrev pub argument : ParamTree → ArgumentTree
-argument (lifetime_param attrs l bounds) = lifetime_arg l
-argument (type_param attrs i bounds default) = type_arg (name_type i)
-argument (const_param attrs i t default) = type_arg (name_type i)
-
--- `<..>` where there is any parameter
-abbrev pub arguments : List ParamTree → ArgumentsTree
-arguments [] = absent
-arguments (p ∷ ps) = angle false (arguments_of (map argument (p ∷ ps))) false
-
--- the declared type with an argument for each of its parameters
-abbrev pub implementor : Declaration → TypeTree
-implementor d = type_tree (path no_self (path_tree false (segment_then (segment d.ident (arguments (params_of d))) no_segments))) nowhere
 
 -- derive_more::core::cmp::PartialEq
 abbrev pub partial_eq_path : PathTree

@@ -4,10 +4,11 @@ use Rattle.std.specs.Prelude.{ℕ, ◌+◌, List, [], ◌∷◌, Bool, false, co
 use Rattle.dm_tokens.specs.declared.tokens.Ident.{Ident}
 use Rattle.dm_syntax.specs.Tree.{PathTree}
 use Rattle.dm_syntax.specs.Declarations.{Declaration, FieldTree, FieldsTree, named, unnamed, unit}
+use Rattle.dm_syntax.specs.Implementors.{plain_path}
 use Rattle.dm_emit.specs.declared.pattern.Binding.TheVariants.{Plain}
 use Rattle.dm_emit.specs.Output.{PatternTree, wild, bind, tuple_pattern, named_pattern, pair_pattern, patterns_of, named_of, ExprTree, ArmTree, some_expr, no_expr, last_expr, block_body}
 use Rattle.dm_emit.specs.Values.{Text, Case, is_enum}
-use Rattle.dm_cmp_ops.specs.Heads.{word, plain_path}
+use Rattle.dm_cmp_ops.specs.Heads.{word}
 
 -- which fields of an operand are left out, and what the others are called, by their numbers
 pub record Binds : Type 0 where

@@ -15,7 +15,7 @@ ghost use Rattle.dm_syntax.specs.Tree.{
   type_arg,
 };
 ghost use Rattle.dm_syntax.specs.Declarations.{declaration_view, param_view, predicate_view};
-ghost use Rattle.dm_cmp_ops.specs.Heads as spec;
+ghost use Rattle.dm_syntax.specs.Implementors as spec;
 
 use crate::heads::{name_type, plain_type};
 use crate::names::one;

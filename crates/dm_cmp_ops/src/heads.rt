@@ -6,6 +6,7 @@ ghost use Rattle.dm_syntax.specs.Tree.{ty_view, path_view, type_tree, path as tr
 ghost use Rattle.dm_syntax.specs.Declarations.{declaration_view};
 ghost use Rattle.dm_emit.specs.Output.{method_param_view};
 ghost use Rattle.dm_tokens.specs.Layout.{nowhere};
+ghost use Rattle.dm_syntax.specs.Implementors as implementors;
 ghost use Rattle.dm_cmp_ops.specs.Heads as spec;
 
 use crate::names::{path_of, path_of_one, word};
@@ -25,7 +26,7 @@ pub(crate) fn plain_type(path: Path<'_>) -> Ty<'_>
 }
 
 pub(crate) fn name_type(alloc: Global, ident: Ident<'_>) -> Result<Ty<'_>, AllocError>
-    ensures { IfOk result (λ t. ty_view t ≡ spec.name_type ident.entry) }
+    ensures { IfOk result (λ t. ty_view t ≡ implementors.name_type ident.entry) }
 {
     let path = path_of_one(alloc, ident)?;
     Ok(plain_type(path))
@@ -33,7 +34,7 @@ pub(crate) fn name_type(alloc: Global, ident: Ident<'_>) -> Result<Ty<'_>, Alloc
 
 /// The type of that name.
 pub(crate) fn word_type<'a>(alloc: Global, name: &'a str) -> Result<Ty<'a>, AllocError>
-    ensures { IfOk result (λ t. ty_view t ≡ spec.name_type (spec.word name.now)) }
+    ensures { IfOk result (λ t. ty_view t ≡ implementors.name_type (spec.word name.now)) }
 {
     name_type(alloc, word(name))
 }

@@ -4,6 +4,7 @@
 ghost use Rattle.std.specs.Prelude.{◌≡◌, [], ◌∷◌, map, IfOk};
 ghost use Rattle.dm_syntax.specs.Tree.{path_view, segment_view, segments_of, segment, absent, no_self};
 ghost use Rattle.dm_emit.specs.Output.{expr_view, path_expr};
+ghost use Rattle.dm_syntax.specs.Implementors as implementors;
 ghost use Rattle.dm_cmp_ops.specs.Heads as heads;
 
 use dm_emit::{Expr, PathExpr};
@@ -56,7 +57,7 @@ fn segment(ident: Ident<'_>) -> PathSegment<'_>
 
 /// A path of one identifier.
 pub(crate) fn path_of_one(alloc: Global, ident: Ident<'_>) -> Result<Path<'_>, AllocError>
-    ensures { IfOk result (λ p. path_view p ≡ heads.plain_path (ident.entry ∷ [])) }
+    ensures { IfOk result (λ p. path_view p ≡ implementors.plain_path (ident.entry ∷ [])) }
 {
     Ok(Path {
         leading_colon: false,
@@ -70,7 +71,7 @@ pub(crate) fn path_of_two<'a>(
     first: Ident<'a>,
     second: Ident<'a>,
 ) -> Result<Path<'a>, AllocError>
-    ensures { IfOk result (λ p. path_view p ≡ heads.plain_path (first.entry ∷ second.entry ∷ [])) }
+    ensures { IfOk result (λ p. path_view p ≡ implementors.plain_path (first.entry ∷ second.entry ∷ [])) }
 {
     Ok(Path {
         leading_colon: false,
@@ -79,7 +80,7 @@ pub(crate) fn path_of_two<'a>(
 }
 
 fn segments<'a>(alloc: Global, names: &[&'a str]) -> Result<Seq<PathSegment<'a>>, AllocError>
-    ensures { IfOk result (λ ss. segments_of (map segment_view ss) ≡ heads.segments (heads.words (map (λ s. s.now) names.now))) }
+    ensures { IfOk result (λ ss. segments_of (map segment_view ss) ≡ implementors.segments (heads.words (map (λ s. s.now) names.now))) }
 {
     let mut out = Seq::with_capacity(alloc, names.len())?;
     for name in names {
@@ -91,7 +92,7 @@ fn segments<'a>(alloc: Global, names: &[&'a str]) -> Result<Seq<PathSegment<'a>>
 
 /// A path of these names.
 pub(crate) fn path_of<'a>(alloc: Global, names: &[&'a str]) -> Result<Path<'a>, AllocError>
-    ensures { IfOk result (λ p. path_view p ≡ heads.plain_path (heads.words (map (λ s. s.now) names.now))) }
+    ensures { IfOk result (λ p. path_view p ≡ implementors.plain_path (heads.words (map (λ s. s.now) names.now))) }
 {
     Ok(Path {
         leading_colon: false,
@@ -107,7 +108,7 @@ pub(crate) fn boxed<'a>(alloc: Global, e: Expr<'a>) -> Result<Box<Expr<'a>>, All
 
 /// An identifier as an expression.
 pub(crate) fn name(alloc: Global, ident: Ident<'_>) -> Result<Expr<'_>, AllocError>
-    ensures { IfOk result (λ e. expr_view e ≡ path_expr no_self (heads.plain_path (ident.entry ∷ []))) }
+    ensures { IfOk result (λ e. expr_view e ≡ path_expr no_self (implementors.plain_path (ident.entry ∷ []))) }
 {
     Ok(Expr::Path(PathExpr {
         qself: None,

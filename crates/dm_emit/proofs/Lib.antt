@@ -1,3 +1,4 @@
 pub mod View
 pub mod Laying
 pub mod Lines
+pub mod Copies

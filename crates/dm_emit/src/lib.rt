@@ -1,6 +1,9 @@
 //! The output language: implementations as trees, what their methods give, and their text.
 #![tactic(auto)]
 
+mod copy_expr;
+mod copy_item;
+mod copy_pattern;
 mod expr;
 mod item;
 mod pattern;

@@ -2,8 +2,8 @@ use super::print::expr::{arms, expr};
 use super::print::item::{head, signature};
 use super::print::token;
 use super::{
-    Arm, ArmBody, Block, Expansion, Expr, Item, ItemAttr, Method, MethodParam, Pattern, Receiver,
-    print_items, with_text,
+    Arm, ArmBody, Assoc, Binding, Block, Expansion, Expr, Item, ItemAttr, Method, MethodParam,
+    NamedPattern, PathExpr, Pattern, Receiver, Stmt, print_items, with_text,
 };
 use dm_syntax::{Path, PathArguments, PathSegment, Ty, TyNode};
 use dm_tokens::{Delim, Ident, Layout, Seq, Span, Text};
@@ -76,11 +76,10 @@ fn body(alloc: Global) -> Result<Block<'static>, AllocError> {
     })
 }
 
-fn method(alloc: Global) -> Result<Method<'static>, AllocError> {
+fn method(alloc: Global, body: Block<'static>) -> Result<Method<'static>, AllocError> {
     let attrs = one(alloc, ItemAttr::Inline)?;
     let param = param(alloc)?;
     let output = ty(alloc, "bool")?;
-    let body = body(alloc)?;
     Ok(Method {
         attrs,
         is_const: false,
@@ -100,24 +99,33 @@ fn attrs(alloc: Global) -> Result<Seq<ItemAttr>, AllocError> {
     )
 }
 
-fn item(alloc: Global) -> Result<Item<'static>, AllocError> {
+fn item(
+    alloc: Global,
+    assocs: Seq<Assoc<'static>>,
+    body: Block<'static>,
+) -> Result<Item<'static>, AllocError> {
     let attrs = attrs(alloc)?;
     let trait_path = path(alloc, &["derive_more", "core", "cmp", "PartialEq"])?;
     let ty = ty(alloc, "P")?;
-    let methods = one(alloc, method(alloc)?)?;
+    let methods = one(alloc, method(alloc, body)?)?;
     Ok(Item {
         attrs,
         params: Seq::new(alloc),
         trait_path: Some(trait_path),
         ty,
         predicates: Seq::new(alloc),
-        assocs: Seq::new(alloc),
+        assocs,
         methods,
     })
 }
 
+fn plain_item(alloc: Global) -> Result<Item<'static>, AllocError> {
+    let body = body(alloc)?;
+    item(alloc, Seq::new(alloc), body)
+}
+
 fn written(alloc: Global) -> Result<Expansion<'static>, AllocError> {
-    let items = one(alloc, item(alloc)?)?;
+    let items = one(alloc, plain_item(alloc)?)?;
     with_text(alloc, items)
 }
 
@@ -142,7 +150,7 @@ fn nothing(rt: HostRuntime) -> Result<(), AllocError> {
 #[test]
 fn heads(rt: HostRuntime) -> Result<(), AllocError> {
     let alloc = rt.alloc();
-    let item = item(alloc)?;
+    let item = plain_item(alloc)?;
     let mut out = Layout::new(alloc);
     head(alloc, &mut out, &item)?;
     assert!(rt;
@@ -155,7 +163,8 @@ fn heads(rt: HostRuntime) -> Result<(), AllocError> {
 #[test]
 fn signatures(rt: HostRuntime) -> Result<(), AllocError> {
     let alloc = rt.alloc();
-    let method = method(alloc)?;
+    let body = body(alloc)?;
+    let method = method(alloc, body)?;
     let mut out = Layout::new(alloc);
     signature(alloc, &mut out, &method)?;
     assert!(rt;
@@ -199,5 +208,107 @@ fn expressions(rt: HostRuntime) -> Result<(), AllocError> {
     arms(alloc, &mut out, all.as_slice())?;
     token::close(&mut out, Delim::Brace)?;
     assert!(rt; out.into_string().as_str() == "match (true , false) { _ => false , }");
+    Ok(())
+}
+
+fn named(alloc: Global, name: &'static str) -> Result<PathExpr<'static>, AllocError> {
+    Ok(PathExpr {
+        qself: None,
+        path: path(alloc, &[name])?,
+    })
+}
+
+/// `let x = * y ; f (x) ;`.
+fn statements(alloc: Global) -> Result<Seq<Stmt<'static>>, AllocError> {
+    let inner = Box::new(alloc, Expr::Path(named(alloc, "y")?))?;
+    let arguments = one(alloc, Expr::Path(named(alloc, "x")?))?;
+    let call = Expr::Call(named(alloc, "f")?, arguments);
+    two(
+        alloc,
+        Stmt::Let(ident("x"), Expr::Deref(inner)),
+        Stmt::Expr(call),
+    )
+}
+
+/// `(P (ref x ,) , _)`.
+fn pair(alloc: Global) -> Result<Pattern<'static>, AllocError> {
+    let inside = one(alloc, Pattern::Bind(Binding::Ref, ident("x")))?;
+    let left = Box::new(alloc, Pattern::Tuple(path(alloc, &["P"])?, inside))?;
+    let right = Box::new(alloc, Pattern::Wild)?;
+    Ok(Pattern::Pair(left, right))
+}
+
+/// `P { x : _ , .. }`.
+fn open_braces(alloc: Global) -> Result<Pattern<'static>, AllocError> {
+    let field = NamedPattern {
+        name: ident("x"),
+        pattern: Pattern::Wild,
+    };
+    let inside = one(alloc, field)?;
+    Ok(Pattern::Named(path(alloc, &["P"])?, inside, true))
+}
+
+/// `(P (ref x ,) , _) | P { x : _ , .. } if true || false => { true }`.
+fn guarded_arm(alloc: Global) -> Result<Arm<'static>, AllocError> {
+    let pair = pair(alloc)?;
+    let patterns = two(alloc, pair, open_braces(alloc)?)?;
+    let test = Expr::Or(two(alloc, Expr::Bool(true), Expr::Bool(false))?);
+    Ok(Arm {
+        patterns,
+        guard: Some(test),
+        body: ArmBody::Block(body(alloc)?),
+    })
+}
+
+/// `_ => unsafe { true == false && false != true }`.
+fn unsafe_arm(alloc: Global) -> Result<Arm<'static>, AllocError> {
+    let yes = Box::new(alloc, Expr::Bool(true))?;
+    let no = Box::new(alloc, Expr::Bool(false))?;
+    let equal = Expr::Equal(yes, no);
+    let yes = Box::new(alloc, Expr::Bool(true))?;
+    let no = Box::new(alloc, Expr::Bool(false))?;
+    let both = Expr::And(two(alloc, equal, Expr::Unequal(no, yes))?);
+    Ok(Arm {
+        patterns: one(alloc, Pattern::Wild)?,
+        guard: None,
+        body: ArmBody::Expr(Expr::Unsafe(Box::new(alloc, both)?)),
+    })
+}
+
+/// A block with expressions of each form.
+fn every_form(alloc: Global) -> Result<Block<'static>, AllocError> {
+    let stmts = statements(alloc)?;
+    let subject = Expr::Tuple(two(alloc, Expr::Bool(true), Expr::Bool(false))?);
+    let subject = Box::new(alloc, subject)?;
+    let first = guarded_arm(alloc)?;
+    let arms = two(alloc, first, unsafe_arm(alloc)?)?;
+    let last = Box::new(alloc, Expr::Match(subject, arms))?;
+    Ok(Block {
+        stmts,
+        last: Some(last),
+    })
+}
+
+/// An implementation with parts of each kind.
+fn every_part(alloc: Global) -> Result<Item<'static>, AllocError> {
+    let output = Assoc {
+        name: ident("Output"),
+        ty: ty(alloc, "P")?,
+    };
+    let assocs = one(alloc, output)?;
+    let body = every_form(alloc)?;
+    item(alloc, assocs, body)
+}
+
+#[test]
+fn copies(rt: HostRuntime) -> Result<(), AllocError> {
+    let alloc = rt.alloc();
+    let items = one(alloc, every_part(alloc)?)?;
+    let copy = with_text(alloc, items)?.clone_in(alloc)?;
+    assert!(rt; print_items(alloc, copy.items.as_slice())?.as_str() == copy.text.as_str());
+    assert!(rt;
+        copy.text.as_str()
+            == "# [allow (private_bounds)] # [automatically_derived] impl derive_more :: core :: cmp :: PartialEq for P { type Output = P ; # [inline] fn eq (& self , __other : & Self) -> bool { let x = * y ; f (x) ; match (true , false) { (P (ref x ,) , _) | P { x : _ , .. } if true || false => { true } , _ => unsafe { true == false && false != true } , } } }\n"
+    );
     Ok(())
 }

@@ -33,3 +33,4 @@ pub mod BareTokens
 pub mod SameTypes
 pub mod Shapes
 pub mod WrittenBack
+pub mod Implementors

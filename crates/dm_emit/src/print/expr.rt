@@ -1,7 +1,9 @@
 //! Expressions, blocks and arms.
 #![tactic(auto, using(crate::proofs::Laying::print_steps))]
 
-ghost use Rattle.std.specs.Prelude.{◌≡◌, map, OnOk, true, option_map};
+ghost use Rattle.std.specs.Prelude.{◌≡◌, map, codes, OnOk, true, option_map};
+ghost use Rattle.dm_tokens.specs.Trees.{join};
+ghost use Rattle.dm_tokens.specs.declared.tokens.Delim.TheVariants.{Paren, Brace};
 ghost use Rattle.dm_syntax.specs.TypeTokens as syntax;
 ghost use Rattle.dm_emit.specs.Output.{expr_view, arm_view, body_view, block_view, stmt_view, statements, exprs_of, arms_of, maybe_expr};
 ghost use Rattle.dm_emit.specs.Tokens as spec;
@@ -39,15 +41,9 @@ pub fn expr(alloc: Global, out: &mut Layout, tree: &Expr<'_>) -> Result<(), Allo
         Expr::Path(path) => path_expr(alloc, out, path),
         Expr::Call(path, arguments) => {
             path_expr(alloc, out, path)?;
-            open(out, Delim::Paren)?;
-            list(alloc, out, arguments.as_slice())?;
-            close(out, Delim::Paren)
+            in_parens(alloc, out, arguments.as_slice())
         }
-        Expr::Tuple(parts) => {
-            open(out, Delim::Paren)?;
-            list(alloc, out, parts.as_slice())?;
-            close(out, Delim::Paren)
-        }
+        Expr::Tuple(parts) => in_parens(alloc, out, parts.as_slice()),
         Expr::Bool(true) => word(out, "true"),
         Expr::Bool(false) => word(out, "false"),
         Expr::Match(subject, all) => {
@@ -57,12 +53,7 @@ pub fn expr(alloc: Global, out: &mut Layout, tree: &Expr<'_>) -> Result<(), Allo
             arms(alloc, out, all.as_slice())?;
             close(out, Delim::Brace)
         }
-        Expr::Unsafe(inner) => {
-            word(out, "unsafe")?;
-            open(out, Delim::Brace)?;
-            expr(alloc, out, inner)?;
-            close(out, Delim::Brace)
-        }
+        Expr::Unsafe(inner) => unsafe_block(alloc, out, inner),
     }
 }
 
@@ -92,6 +83,27 @@ fn list(alloc: Global, out: &mut Layout, all: &[Expr<'_>]) -> Result<(), AllocEr
         expr(alloc, out, one)?;
     }
     Ok(())
+}
+
+/// The same in parentheses.
+#[cycle(print)]
+fn in_parens(alloc: Global, out: &mut Layout, all: &[Expr<'_>]) -> Result<(), AllocError>
+    ensures { OnOk result (out.new ≡ lay out.old (spec.enclosed Paren (syntax.spaced spec.comma true (spec.each_expr (exprs_of (map expr_view all.now)))))) }
+{
+    open(out, Delim::Paren)?;
+    list(alloc, out, all)?;
+    close(out, Delim::Paren)
+}
+
+/// Adds `unsafe`, and the expression in braces.
+#[cycle(print)]
+fn unsafe_block(alloc: Global, out: &mut Layout, inner: &Expr<'_>) -> Result<(), AllocError>
+    ensures { OnOk result (out.new ≡ lay out.old (join (spec.word (codes "unsafe")) (spec.enclosed Brace (spec.expr_trees (expr_view inner.now))))) }
+{
+    word(out, "unsafe")?;
+    open(out, Delim::Brace)?;
+    expr(alloc, out, inner)?;
+    close(out, Delim::Brace)
 }
 
 /// Adds the arms of a match.
