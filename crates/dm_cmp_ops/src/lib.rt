@@ -6,13 +6,9 @@ mod cases;
 mod checks;
 mod comparing;
 mod generics;
-#[cfg(test)]
-mod head_tests;
 mod heads;
 mod names;
 pub mod partial_eq;
 mod printing;
 mod sides;
 mod skips;
-#[cfg(test)]
-mod tests;

@@ -1,4 +1,5 @@
 use super::derive_text;
+use dm_emit::print_items;
 use dm_tokens::{Error, Kind};
 use std::alloc::{AllocError, Global};
 
@@ -102,13 +103,23 @@ const UNDERIVED: &[(&str, Kind, usize, usize)] = &[
         12,
         25,
     ),
+    (
+        "#[eq(skip)] #[eq{skip}] #[eq(x)] struct S;",
+        Kind::AttrRepeated,
+        12,
+        23,
+    ),
+    ("#[eq(skip, skip)] struct S;", Kind::AttrSyntax, 0, 17),
     ("#[eq(skip)] #[eq] struct S;", Kind::AttrSyntax, 12, 17),
     ("#[eq] #[eq(skip)] struct S;", Kind::AttrSyntax, 0, 5),
+    ("#[eq] struct S(#[eq] u8);", Kind::AttrSyntax, 0, 5),
     ("struct S(#[eq] u8);", Kind::AttrSyntax, 9, 14),
     ("struct S(#[eq = skip] u8);", Kind::AttrSyntax, 9, 21),
     ("struct S(#[eq(skip,)] u8);", Kind::AttrSyntax, 9, 21),
     ("struct S(#[eq(r#skip)] u8);", Kind::AttrSyntax, 9, 22),
     ("struct S(#[partial_eq()] u8);", Kind::AttrSyntax, 9, 24),
+    ("#[eq] enum E { #[eq] A(#[eq] u8) }", Kind::AttrSyntax, 15, 20),
+    ("#[eq] enum E { A(#[eq] u8) }", Kind::AttrSyntax, 17, 22),
     (
         "enum E { A(#[eq(x)] u8), #[eq(y)] B }",
         Kind::AttrSyntax,
@@ -166,12 +177,43 @@ const NAMED: &[&str] = &[
     "struct S<T>([u8; { m!() }], a<{ m!() }>);",
 ];
 
-#[test]
-fn named(rt: HostRuntime) -> Result<(), Error> {
-    for text in NAMED.iter().copied() {
-        let made = derive_text(rt.alloc(), "PartialEq", text)?;
-        assert!(rt; made.items.len() == 1);
+/// Declarations with attributes that would be refused where one looked at them.
+const UNEXAMINED: &[&str] = &[
+    "#[partial_eq(ignore)] #[eq(x)] struct S;",
+    "#[eq] #[partial_eq[ignore]] struct S;",
+    "#[Eq] struct S;",
+    "#[eq(skip)] struct S(#[eq] u8);",
+    "#[eq] enum E { A }",
+    "#[eq] enum E { #[eq(skip)] A(#[eq] u8), B(u8) }",
+];
+
+/// The first text of which not one implementation is made, counted from 0, or the number of texts.
+fn first_underived(alloc: Global, texts: &[&str]) -> Result<usize, Error> {
+    let mut count = 0;
+    for text in texts.iter().copied() {
+        if derive_text(alloc, "PartialEq", text)?.items.len() != 1 {
+            return Ok(count);
+        }
+        count = count.saturating_add(1);
     }
+    Ok(count)
+}
+
+#[test]
+fn derived(rt: HostRuntime) -> Result<(), Error> {
+    assert!(rt; first_underived(rt.alloc(), NAMED)? == NAMED.len());
+    assert!(rt; first_underived(rt.alloc(), UNEXAMINED)? == UNEXAMINED.len());
+    Ok(())
+}
+
+#[test]
+fn copies(rt: HostRuntime) -> Result<(), Error> {
+    let alloc = rt.alloc();
+    let text = "enum E<'a, T> where T: A { A(&'a T, T), B { t: T }, C }";
+    let made = derive_text(alloc, "PartialEq", text)?;
+    let copy = made.clone_in(alloc)?;
+    assert!(rt; copy.text.as_str() == made.text.as_str());
+    assert!(rt; print_items(alloc, copy.items.as_slice())?.as_str() == copy.text.as_str());
     Ok(())
 }
 

@@ -13,6 +13,3 @@ pub use expr::{Arm, ArmBody, Block, Expr, PathExpr, Stmt};
 pub use item::{Assoc, Item, ItemAttr, Method, MethodParam, Receiver};
 pub use pattern::{Binding, NamedPattern, Pattern};
 pub use print::{Expansion, print_items, with_text};
-
-#[cfg(test)]
-mod tests;

@@ -1,6 +1,6 @@
 ghost use Rattle.dm_tokens.specs.Cursors.{sound};
 
-use dm_syntax::{Path, parse_path, parse_predicates, parse_type, type_eq};
+use dm_syntax::{Path, Ty, parse_path, parse_predicates, parse_type, type_eq};
 use dm_tokens::{Cursor, Error, Kind, ToTokens, TokenStream, lex, print};
 use std::alloc::{AllocError, Global};
 
@@ -29,6 +29,20 @@ pub(crate) fn refusal_of(error: Error) -> Option<(Kind, usize, usize)> {
     }
 }
 
+/// The longest type that a text begins with.
+fn ty<'a>(alloc: Global, text: &'a str) -> Result<Ty<'a>, Error> {
+    let stream = lex(alloc, text)?;
+    let (ty, _) = parse_type(alloc, stream.cursor())?;
+    Ok(ty)
+}
+
+/// The text of what that type leaves.
+fn behind_type(alloc: Global, text: &str) -> Result<String, Error> {
+    let stream = lex(alloc, text)?;
+    let (_, rest) = parse_type(alloc, stream.cursor())?;
+    Ok(left(alloc, rest)?)
+}
+
 /// Texts, the longest type that each begins with, and what is left.
 const TYPES: &[(&str, &str, &str)] = &[
     ("Vec<T>, x", "Vec < T >", ", x"),
@@ -45,28 +59,29 @@ const TYPES: &[(&str, &str, &str)] = &[
 fn types(rt: HostRuntime) -> Result<(), Error> {
     let alloc = rt.alloc();
     for (text, front, others) in TYPES.iter().copied() {
-        let stream = lex(alloc, text)?;
-        let (ty, rest) = parse_type(alloc, stream.cursor())?;
+        let ty = ty(alloc, text)?;
         assert!(rt; printed(alloc, &ty)?.as_str() == front);
-        assert!(rt; left(alloc, rest)?.as_str() == others);
+        assert!(rt; behind_type(alloc, text)?.as_str() == others);
     }
     Ok(())
+}
+
+/// The kind and the range of the refusal of a text that begins with no type.
+fn refused_type(alloc: Global, text: &str) -> Option<(Kind, usize, usize)> {
+    match ty(alloc, text) {
+        Ok(_) => None,
+        Err(error) => refusal_of(error),
+    }
 }
 
 /// Texts that begin with no type, and the range of the refusal.
 const NO_TYPES: &[(&str, usize, usize)] = &[("", 0, 0), (", x", 0, 1), ("3", 0, 1), ("{}", 0, 1)];
 
 #[test]
-fn no_types(rt: HostRuntime) -> Result<(), Error> {
-    let alloc = rt.alloc();
+fn no_types(rt: HostRuntime) {
     for (text, start, end) in NO_TYPES.iter().copied() {
-        let stream = lex(alloc, text)?;
-        match parse_type(alloc, stream.cursor()) {
-            Ok(_) => assert!(rt; false),
-            Err(error) => assert!(rt; refusal_of(error) == Some((Kind::Syntax, start, end))),
-        }
+        assert!(rt; refused_type(rt.alloc(), text) == Some((Kind::Syntax, start, end)));
     }
-    Ok(())
 }
 
 /// So many of a part that opens, `u8`, and so many of one that closes.
@@ -88,49 +103,12 @@ pub(crate) fn nested(
 }
 
 #[test]
-fn levels(rt: HostRuntime) -> Result<(), Error> {
+fn levels(rt: HostRuntime) -> Result<(), AllocError> {
     let alloc = rt.alloc();
     let text = nested(alloc, "&", "", 128)?;
-    let stream = lex(alloc, text.as_str())?;
-    assert!(rt; parse_type(alloc, stream.cursor()).is_ok());
+    assert!(rt; ty(alloc, text.as_str()).is_ok());
     let deep = nested(alloc, "&", "", 129)?;
-    let stream = lex(alloc, deep.as_str())?;
-    match parse_type(alloc, stream.cursor()) {
-        Ok(_) => assert!(rt; false),
-        Err(error) => assert!(rt; refusal_of(error) == Some((Kind::TooDeep, 129, 131))),
-    }
-    Ok(())
-}
-
-#[test]
-fn path_levels(rt: HostRuntime) -> Result<(), Error> {
-    let alloc = rt.alloc();
-    let text = nested(alloc, "a<", ">", 128)?;
-    let stream = lex(alloc, text.as_str())?;
-    assert!(rt; parse_path(alloc, stream.cursor()).is_ok());
-    let deep = nested(alloc, "a<", ">", 129)?;
-    let stream = lex(alloc, deep.as_str())?;
-    match parse_path(alloc, stream.cursor()) {
-        Ok(_) => assert!(rt; false),
-        Err(error) => assert!(rt; refusal_of(error) == Some((Kind::TooDeep, 258, 260))),
-    }
-    Ok(())
-}
-
-#[test]
-fn predicate_levels(rt: HostRuntime) -> Result<(), Error> {
-    let alloc = rt.alloc();
-    let mut text = nested(alloc, "&", "", 128)?;
-    text.push_str(": A")?;
-    let stream = lex(alloc, text.as_str())?;
-    assert!(rt; parse_predicates(alloc, stream.cursor()).is_ok());
-    let mut deep = nested(alloc, "&", "", 129)?;
-    deep.push_str(": A")?;
-    let stream = lex(alloc, deep.as_str())?;
-    match parse_predicates(alloc, stream.cursor()) {
-        Ok(_) => assert!(rt; false),
-        Err(error) => assert!(rt; refusal_of(error) == Some((Kind::TooDeep, 129, 131))),
-    }
+    assert!(rt; refused_type(alloc, deep.as_str()) == Some((Kind::TooDeep, 129, 131)));
     Ok(())
 }
 
@@ -146,6 +124,24 @@ fn behind_path(alloc: Global, text: &str) -> Result<String, Error> {
     let stream = lex(alloc, text)?;
     let (_, rest) = parse_path(alloc, stream.cursor())?;
     Ok(left(alloc, rest)?)
+}
+
+/// The kind and the range of the refusal of a text that begins with no path.
+fn refused_path(alloc: Global, text: &str) -> Option<(Kind, usize, usize)> {
+    match path(alloc, text) {
+        Ok(_) => None,
+        Err(error) => refusal_of(error),
+    }
+}
+
+#[test]
+fn path_levels(rt: HostRuntime) -> Result<(), AllocError> {
+    let alloc = rt.alloc();
+    let text = nested(alloc, "a<", ">", 128)?;
+    assert!(rt; path(alloc, text.as_str()).is_ok());
+    let deep = nested(alloc, "a<", ">", 129)?;
+    assert!(rt; refused_path(alloc, deep.as_str()) == Some((Kind::TooDeep, 258, 260)));
+    Ok(())
 }
 
 /// Texts, the number of segments of the longest path that each begins with, its tokens, and what is left.
@@ -170,43 +166,65 @@ fn paths(rt: HostRuntime) -> Result<(), Error> {
 }
 
 #[test]
-fn no_path(rt: HostRuntime) -> Result<(), Error> {
-    let alloc = rt.alloc();
-    let stream = lex(alloc, "fn a")?;
-    match parse_path(alloc, stream.cursor()) {
-        Ok(_) => assert!(rt; false),
-        Err(error) => assert!(rt; refusal_of(error) == Some((Kind::Syntax, 0, 2))),
-    }
-    Ok(())
+fn no_path(rt: HostRuntime) {
+    assert!(rt; refused_path(rt.alloc(), "fn a") == Some((Kind::Syntax, 0, 2)));
 }
 
-/// Texts, and how many predicates each is.
-const PREDICATES: &[(&str, Option<usize>)] = &[
-    ("T: X, 'a: 'b", Some(2)),
-    ("", Some(0)),
-    ("T: X,", Some(1)),
-    ("for<'a> T: X<'a> + 'a", Some(1)),
-    (",", None),
-    ("T: X = 1", None),
-    ("T X", None),
+/// How many predicates a text is.
+fn predicates_of(alloc: Global, text: &str) -> Result<usize, Error> {
+    let stream = lex(alloc, text)?;
+    let found = parse_predicates(alloc, stream.cursor())?;
+    Ok(found.items.len())
+}
+
+/// The kind and the range of the refusal of a text that is no predicates.
+fn refused_predicates(alloc: Global, text: &str) -> Option<(Kind, usize, usize)> {
+    match predicates_of(alloc, text) {
+        Ok(_) => None,
+        Err(error) => refusal_of(error),
+    }
+}
+
+/// Predicates, and how many each text has.
+const PREDICATES: &[(&str, usize)] = &[
+    ("T: X, 'a: 'b", 2),
+    ("", 0),
+    ("T: X,", 1),
+    ("for<'a> T: X<'a> + 'a", 1),
 ];
 
 #[test]
 fn predicates(rt: HostRuntime) -> Result<(), Error> {
-    let alloc = rt.alloc();
     for (text, want) in PREDICATES.iter().copied() {
-        let stream = lex(alloc, text)?;
-        match parse_predicates(alloc, stream.cursor()) {
-            Ok(found) => assert!(rt; want == Some(found.items.len())),
-            Err(error) => {
-                assert!(rt; want.is_none());
-                match refusal_of(error) {
-                    Some((kind, _, _)) => assert!(rt; kind == Kind::Syntax),
-                    None => assert!(rt; false),
-                }
-            }
+        assert!(rt; predicates_of(rt.alloc(), text)? == want);
+    }
+    Ok(())
+}
+
+#[test]
+fn no_predicates(rt: HostRuntime) {
+    for text in [",", "T: X = 1", "T X"] {
+        match refused_predicates(rt.alloc(), text) {
+            Some((kind, _, _)) => assert!(rt; kind == Kind::Syntax),
+            None => assert!(rt; false),
         }
     }
+}
+
+/// A predicate of a type behind so many `&`.
+fn referred(alloc: Global, times: usize) -> Result<String, AllocError> {
+    let mut text = nested(alloc, "&", "", times)?;
+    text.push_str(": A")?;
+    Ok(text)
+}
+
+#[test]
+fn predicate_levels(rt: HostRuntime) -> Result<(), AllocError> {
+    let alloc = rt.alloc();
+    let text = referred(alloc, 128)?;
+    assert!(rt; predicates_of(alloc, text.as_str()).is_ok());
+    let deep = referred(alloc, 129)?;
+    assert!(rt; refused_predicates(alloc, deep.as_str()) == Some((Kind::TooDeep, 129, 131)));
     Ok(())
 }
 
@@ -244,10 +262,8 @@ const PAIRS: &[(&str, &str, bool)] = &[
 fn pairs(rt: HostRuntime) -> Result<(), Error> {
     let alloc = rt.alloc();
     for (one, other, want) in PAIRS.iter().copied() {
-        let first = lex(alloc, one)?;
-        let second = lex(alloc, other)?;
-        let (a, _) = parse_type(alloc, first.cursor())?;
-        let (b, _) = parse_type(alloc, second.cursor())?;
+        let a = ty(alloc, one)?;
+        let b = ty(alloc, other)?;
         assert!(rt; type_eq(&a, &b) == want);
         assert!(rt; type_eq(&b, &a) == want);
         assert!(rt; type_eq(&a, &a));

@@ -99,22 +99,47 @@ fn nested(rt: HostRuntime) -> Result<(), Error> {
     Ok(())
 }
 
-/// Texts with which no list, and none of the others, begins.
-#[test]
-fn none(rt: HostRuntime) -> Result<(), Error> {
-    let alloc = rt.alloc();
-    for (text, start, end) in [("", 0, 0), ("a, b", 0, 1), ("(a)", 0, 3)] {
-        let stream = lex(alloc, text)?;
-        match MetaList::parse(alloc, stream.cursor()) {
-            Ok(_) => assert!(rt; false),
-            Err(error) => assert!(rt; refusal_of(error) == Some((Kind::Syntax, start, end))),
-        }
+/// What may stand at the front of a text.
+#[derive(Clone, Copy)]
+enum Front {
+    Word,
+    List,
+    Meta,
+    Nested,
+}
+
+/// Reads it, and no more than whether it is there.
+fn read(alloc: Global, front: Front, text: &str) -> Result<(), Error> {
+    let stream = lex(alloc, text)?;
+    let c = stream.cursor();
+    match front {
+        Front::Word => PathOrKeyword::parse(alloc, c).map(drop),
+        Front::List => MetaList::parse(alloc, c).map(drop),
+        Front::Meta => Meta::parse(alloc, c).map(drop),
+        Front::Nested => NestedMeta::parse(alloc, c).map(drop),
     }
-    let stream = lex(alloc, ",")?;
-    assert!(rt; PathOrKeyword::parse(alloc, stream.cursor()).is_err());
-    assert!(rt; Meta::parse(alloc, stream.cursor()).is_err());
-    assert!(rt; NestedMeta::parse(alloc, stream.cursor()).is_err());
-    Ok(())
+}
+
+/// The kind and the range of the refusal where it isn't there.
+fn refused(alloc: Global, front: Front, text: &str) -> Option<(Kind, usize, usize)> {
+    match read(alloc, front, text) {
+        Ok(()) => None,
+        Err(error) => refusal_of(error),
+    }
+}
+
+#[test]
+fn none(rt: HostRuntime) {
+    for (front, text, start, end) in [
+        (Front::List, "", 0, 0),
+        (Front::List, "a, b", 0, 1),
+        (Front::List, "(a)", 0, 3),
+        (Front::Word, ",", 0, 1),
+        (Front::Meta, ",", 0, 1),
+        (Front::Nested, ",", 0, 1),
+    ] {
+        assert!(rt; refused(rt.alloc(), front, text) == Some((Kind::Syntax, start, end)));
+    }
 }
 
 /// A path at this depth, with a list of metas behind it.
@@ -124,56 +149,44 @@ fn list_behind(alloc: Global, times: usize) -> Result<String, AllocError> {
     Ok(text)
 }
 
+const FRONTS: &[Front] = &[Front::Word, Front::List, Front::Meta, Front::Nested];
+
 #[test]
-fn levels(rt: HostRuntime) -> Result<(), Error> {
-    let alloc = rt.alloc();
-    let text = list_behind(alloc, 128)?;
-    let stream = lex(alloc, text.as_str())?;
-    assert!(rt; PathOrKeyword::parse(alloc, stream.cursor()).is_ok());
-    assert!(rt; MetaList::parse(alloc, stream.cursor()).is_ok());
-    assert!(rt; Meta::parse(alloc, stream.cursor()).is_ok());
-    assert!(rt; NestedMeta::parse(alloc, stream.cursor()).is_ok());
+fn levels(rt: HostRuntime) -> Result<(), AllocError> {
+    let text = list_behind(rt.alloc(), 128)?;
+    for front in FRONTS {
+        assert!(rt; read(rt.alloc(), *front, text.as_str()).is_ok());
+    }
     Ok(())
 }
 
 #[test]
-fn too_deep(rt: HostRuntime) -> Result<(), Error> {
-    let alloc = rt.alloc();
+fn too_deep(rt: HostRuntime) -> Result<(), AllocError> {
+    let text = list_behind(rt.alloc(), 129)?;
     let place = Some((Kind::TooDeep, 258, 260));
-    let text = list_behind(alloc, 129)?;
-    let stream = lex(alloc, text.as_str())?;
-    match PathOrKeyword::parse(alloc, stream.cursor()) {
-        Ok(_) => assert!(rt; false),
-        Err(error) => assert!(rt; refusal_of(error) == place),
-    }
-    match MetaList::parse(alloc, stream.cursor()) {
-        Ok(_) => assert!(rt; false),
-        Err(error) => assert!(rt; refusal_of(error) == place),
-    }
-    match Meta::parse(alloc, stream.cursor()) {
-        Ok(_) => assert!(rt; false),
-        Err(error) => assert!(rt; refusal_of(error) == place),
-    }
-    match NestedMeta::parse(alloc, stream.cursor()) {
-        Ok(_) => assert!(rt; false),
-        Err(error) => assert!(rt; refusal_of(error) == place),
+    for front in FRONTS {
+        assert!(rt; refused(rt.alloc(), *front, text.as_str()) == place);
     }
     Ok(())
+}
+
+/// A text, and a type that is too deep behind it.
+fn deep_behind(alloc: Global, front: &str) -> Result<String, AllocError> {
+    let mut text = String::new(alloc);
+    text.push_str(front)?;
+    let deep = deep_path(alloc, "&", "", 129)?;
+    text.push_str(deep.as_str())?;
+    Ok(text)
 }
 
 /// What stands behind a meta isn't read, however deep it is.
 #[test]
-fn ends_at_comma(rt: HostRuntime) -> Result<(), Error> {
-    let alloc = rt.alloc();
-    for front in ["fn, ", "a, ", "fn(b), "] {
-        let mut text = String::new(alloc);
-        text.push_str(front)?;
-        let deep = deep_path(alloc, "&", "", 129)?;
-        text.push_str(deep.as_str())?;
-        let stream = lex(alloc, text.as_str())?;
-        assert!(rt; PathOrKeyword::parse(alloc, stream.cursor()).is_ok());
-        assert!(rt; Meta::parse(alloc, stream.cursor()).is_ok());
-        assert!(rt; NestedMeta::parse(alloc, stream.cursor()).is_ok());
+fn ends_at_comma(rt: HostRuntime) -> Result<(), AllocError> {
+    for text in ["fn, ", "a, ", "fn(b), "] {
+        let text = deep_behind(rt.alloc(), text)?;
+        assert!(rt; read(rt.alloc(), Front::Word, text.as_str()).is_ok());
+        assert!(rt; read(rt.alloc(), Front::Meta, text.as_str()).is_ok());
+        assert!(rt; read(rt.alloc(), Front::Nested, text.as_str()).is_ok());
     }
     Ok(())
 }
