@@ -118,7 +118,12 @@ const UNDERIVED: &[(&str, Kind, usize, usize)] = &[
     ("struct S(#[eq(skip,)] u8);", Kind::AttrSyntax, 9, 21),
     ("struct S(#[eq(r#skip)] u8);", Kind::AttrSyntax, 9, 22),
     ("struct S(#[partial_eq()] u8);", Kind::AttrSyntax, 9, 24),
-    ("#[eq] enum E { #[eq] A(#[eq] u8) }", Kind::AttrSyntax, 15, 20),
+    (
+        "#[eq] enum E { #[eq] A(#[eq] u8) }",
+        Kind::AttrSyntax,
+        15,
+        20,
+    ),
     ("#[eq] enum E { A(#[eq] u8) }", Kind::AttrSyntax, 17, 22),
     (
         "enum E { A(#[eq(x)] u8), #[eq(y)] B }",

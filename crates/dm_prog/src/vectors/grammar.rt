@@ -14,12 +14,12 @@ fn written(alloc: Global, input: &DeriveInput<'_>) -> Result<String, AllocError>
     print(alloc, &out)
 }
 
-/// Whether the text is read, and its declaration has the text's tokens.
+/// Whether the text is read, and a copy of its declaration has the text's tokens.
 fn is_read(alloc: Global, text: &str) -> Result<bool, Error> {
-    let stream = lex(alloc, text)?;
-    let input = parse_decl(alloc, &stream)?;
-    let found = written(alloc, &input)?;
-    Ok(found.as_str() == print(alloc, &stream)?.as_str())
+    let input = read(alloc, text)?;
+    let copy = input.clone_in(alloc)?;
+    let found = written(alloc, &copy)?;
+    Ok(found.as_str() == text)
 }
 
 /// The kind and the range of the refusal of a text.

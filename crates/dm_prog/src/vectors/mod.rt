@@ -1,6 +1,5 @@
 //! Texts and what the libraries answer on them.
 
-mod copies;
 mod fronts;
 mod grammar;
 mod metas;

@@ -1,52 +1,82 @@
-use crate::vectors::copies::{lifetime, named, path, predicates, segment, type_param};
 use crate::vectors::fronts::printed;
-use dm_syntax::{Bound, Opaque, PathArguments, parse_decl};
+use dm_syntax::{Bound, DeriveInput, GenericParam, Opaque, WherePredicate, parse_decl};
 use dm_tokens::{Error, lex};
-use std::alloc::{AllocError, Global};
+use std::alloc::Global;
 
-#[test]
-fn types(rt: HostRuntime) -> Result<(), AllocError> {
-    let alloc = rt.alloc();
-    let of = named(alloc, "T")?;
-    assert!(rt; printed(alloc, &of)?.as_str() == ":: T");
-    let path = path(alloc, segment("S", PathArguments::Absent))?;
-    assert!(rt; printed(alloc, &path)?.as_str() == ":: S");
-    let bound = Bound::Lifetime(lifetime("a"));
-    assert!(rt; printed(alloc, &bound)?.as_str() == "'a");
-    Ok(())
+fn read<'a>(alloc: Global, text: &'a str) -> Result<DeriveInput<'a>, Error> {
+    let stream = lex(alloc, text)?;
+    parse_decl(alloc, &stream)
 }
 
-#[test]
-fn parameters(rt: HostRuntime) -> Result<(), AllocError> {
-    let alloc = rt.alloc();
-    let param = type_param(alloc)?;
-    assert!(rt; printed(alloc, &param)?.as_str() == "T = :: U");
-    Ok(())
+/// The first parameter.
+fn param<'x, 'a>(input: &'x DeriveInput<'a>) -> Option<&'x GenericParam<'a>> {
+    input.generics.params.items.as_slice().first()
 }
 
-/// The text of the first predicate.
-fn first_printed(alloc: Global) -> Result<String, AllocError> {
-    let all = predicates(alloc)?;
-    match all.items.as_slice().first() {
-        None => Err(AllocError),
-        Some(first) => printed(alloc, first),
+/// Its first bound.
+fn bound<'x, 'a>(input: &'x DeriveInput<'a>) -> Option<&'x Bound<'a>> {
+    match param(input)? {
+        GenericParam::Ty(param) => param.bounds.as_ref()?.items.as_slice().first(),
+        GenericParam::Lifetime(_) | GenericParam::Const(_) => None,
     }
 }
 
+/// The first predicate.
+fn predicate<'x, 'a>(input: &'x DeriveInput<'a>) -> Option<&'x WherePredicate<'a>> {
+    input
+        .generics
+        .where_clause
+        .as_ref()?
+        .items
+        .as_slice()
+        .first()
+}
+
+const TEXT: &str = "struct P<T: ?::S<u8> + 'a = U>(T,) where T: 'a;";
+
 #[test]
-fn where_clauses(rt: HostRuntime) -> Result<(), AllocError> {
-    let text = first_printed(rt.alloc())?;
-    assert!(rt; text.as_str() == ":: T : 'a");
+fn parameters(rt: HostRuntime) -> Result<(), Error> {
+    let input = read(rt.alloc(), TEXT)?;
+    match param(&input) {
+        Some(found) => {
+            assert!(rt; printed(rt.alloc(), found)?.as_str() == "T : ? :: S < u8 > + 'a = U");
+        }
+        None => assert!(rt; false),
+    }
+    Ok(())
+}
+
+#[test]
+fn bounds(rt: HostRuntime) -> Result<(), Error> {
+    let input = read(rt.alloc(), TEXT)?;
+    match bound(&input) {
+        Some(found) => assert!(rt; printed(rt.alloc(), found)?.as_str() == "? :: S < u8 >"),
+        None => assert!(rt; false),
+    }
+    Ok(())
+}
+
+#[test]
+fn predicates(rt: HostRuntime) -> Result<(), Error> {
+    let input = read(rt.alloc(), TEXT)?;
+    match predicate(&input) {
+        Some(found) => assert!(rt; printed(rt.alloc(), found)?.as_str() == "T : 'a"),
+        None => assert!(rt; false),
+    }
     Ok(())
 }
 
 #[test]
 fn declarations(rt: HostRuntime) -> Result<(), Error> {
-    let alloc = rt.alloc();
-    let stream = lex(alloc, "struct P(T, U2,);")?;
-    let read = parse_decl(alloc, &stream)?;
-    assert!(rt; printed(alloc, &read)?.as_str() == "struct P (T , U2 ,) ;");
-    let kept = Opaque { tokens: stream };
-    assert!(rt; printed(alloc, &kept)?.as_str() == "struct P (T , U2 ,) ;");
+    let input = read(rt.alloc(), TEXT)?;
+    let text = printed(rt.alloc(), &input)?;
+    assert!(rt; text.as_str() == "struct P < T : ? :: S < u8 > + 'a = U > (T ,) where T : 'a ;");
+    Ok(())
+}
+
+#[test]
+fn unread(rt: HostRuntime) -> Result<(), Error> {
+    let tokens = lex(rt.alloc(), "1 + f(2)")?;
+    assert!(rt; printed(rt.alloc(), &Opaque { tokens })?.as_str() == "1 + f (2)");
     Ok(())
 }
