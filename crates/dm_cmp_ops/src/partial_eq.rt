@@ -285,18 +285,18 @@ pub(crate) fn with_methods<'a>(
 ) -> Result<Item<'a>, AllocError>
     ensures { IfOk result (λ i. item_view i ≡ spec.with_methods (declaration_view input.now) (map method_view methods.entry)) }
 {
+    let private = ItemAttr::AllowPrivateBounds;
+    let attrs = two(alloc, private, ItemAttr::AutomaticallyDerived)?;
     let params = params(alloc, input)?;
+    let path = partial_eq_path(alloc)?;
+    let predicates = predicates(alloc, input)?;
     let ty = implementor(alloc, input, params.as_slice())?;
     Ok(Item {
-        attrs: two(
-            alloc,
-            ItemAttr::AllowPrivateBounds,
-            ItemAttr::AutomaticallyDerived,
-        )?,
+        attrs,
         params,
-        trait_path: Some(partial_eq_path(alloc)?),
+        trait_path: Some(path),
         ty,
-        predicates: predicates(alloc, input)?,
+        predicates,
         assocs: Seq::new(alloc),
         methods,
     })

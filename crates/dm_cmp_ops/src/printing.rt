@@ -5,6 +5,7 @@
 
 ghost use Rattle.std.specs.Prelude.{◌≡◌, ◌∷◌, [], map, IfOk, OnOk, string_bytes};
 ghost use Rattle.dm_syntax.specs.Declarations.{declaration_view};
+ghost use Rattle.dm_emit.specs.Output.{last_expr, no_expr};
 ghost use Rattle.dm_emit.specs.Tokens as tokens;
 ghost use Rattle.dm_emit.specs.Laying.{lay};
 ghost use Rattle.dm_cmp_ops.specs.Emitted as spec;
@@ -27,6 +28,14 @@ use dm_syntax::DeriveInput;
 use dm_tokens::{Delim, Layout, Seq};
 use std::alloc::{AllocError, Global};
 
+/// Adds the pair of the operands.
+fn subject(alloc: Global, out: &mut Layout) -> Result<(), AllocError>
+    ensures { OnOk result (out.new ≡ lay out.old (tokens.expr_trees spec.both)) }
+{
+    let operands = both_expr(alloc)?;
+    expr(alloc, out, &operands)
+}
+
 fn matching<'a>(
     alloc: Global,
     out: &mut Layout,
@@ -37,15 +46,25 @@ fn matching<'a>(
     requires { IsCasesOf input.now cases.now }
     ensures { OnOk result (out.new ≡ lay out.old (tokens.expr_trees (spec.matching comparing (declaration_view input.now)))) }
 {
-    let operands = both_expr(alloc)?;
     word(out, "match")?;
-    expr(alloc, out, &operands)?;
+    subject(alloc, out)?;
     open(out, Delim::Brace)?;
     arms(alloc, out, comparing, input, cases)?;
     close(out, Delim::Brace)
 }
 
-/// The tests of the discriminants, where they are wanted, and what joins them to the match.
+fn discriminant_tests(
+    alloc: Global,
+    out: &mut Layout,
+    comparing: Comparing,
+) -> Result<(), AllocError>
+    ensures { OnOk result (out.new ≡ lay out.old (tokens.expr_trees (spec.discriminants comparing))) }
+{
+    let tests = discriminants(alloc, comparing)?;
+    expr(alloc, out, &tests)
+}
+
+/// Adds the tests of the discriminants, where they are wanted, and what joins them to the match.
 fn discriminants_part(
     alloc: Global,
     out: &mut Layout,
@@ -55,8 +74,7 @@ fn discriminants_part(
     ensures { OnOk result (out.new ≡ lay out.old (printed.discriminants_trees comparing wanted)) }
 {
     if wanted {
-        let tests = discriminants(alloc, comparing)?;
-        expr(alloc, out, &tests)?;
+        discriminant_tests(alloc, out, comparing)?;
         join(out, comparing)?;
     }
     Ok(())
@@ -93,6 +111,18 @@ fn body<'a>(
     expr(alloc, out, &small)
 }
 
+/// Adds what stands in front of a method's body.
+fn method_head(alloc: Global, out: &mut Layout, comparing: Comparing) -> Result<(), AllocError>
+    ensures { OnOk result (out.new ≡ lay out.old (tokens.signature_trees (spec.method_with comparing (last_expr no_expr)))) }
+{
+    let empty = Block {
+        stmts: Seq::new(alloc),
+        last: None,
+    };
+    let bodiless = method_with(alloc, comparing, empty)?;
+    signature(alloc, out, &bodiless)
+}
+
 fn method<'a>(
     alloc: Global,
     out: &mut Layout,
@@ -103,15 +133,7 @@ fn method<'a>(
     requires { IsCasesOf input.now cases.now }
     ensures { OnOk result (out.new ≡ lay out.old (tokens.method_trees (spec.method comparing (declaration_view input.now)))) }
 {
-    let bodiless = method_with(
-        alloc,
-        comparing,
-        Block {
-            stmts: Seq::new(alloc),
-            last: None,
-        },
-    )?;
-    signature(alloc, out, &bodiless)?;
+    method_head(alloc, out, comparing)?;
     open(out, Delim::Brace)?;
     body(alloc, out, comparing, input, cases)?;
     close(out, Delim::Brace)
@@ -133,6 +155,14 @@ fn methods<'a>(
     Ok(())
 }
 
+/// Adds what stands in front of the implementation's methods.
+fn item_head(alloc: Global, out: &mut Layout, input: &DeriveInput<'_>) -> Result<(), AllocError>
+    ensures { OnOk result (out.new ≡ lay out.old (tokens.head_trees (spec.with_methods (declaration_view input.now) []))) }
+{
+    let empty = with_methods(alloc, input, Seq::new(alloc))?;
+    head(alloc, out, &empty)
+}
+
 fn item<'a>(
     alloc: Global,
     out: &mut Layout,
@@ -142,8 +172,7 @@ fn item<'a>(
     requires { IsCasesOf input.now cases.now }
     ensures { OnOk result (out.new ≡ lay out.old (tokens.item_trees (spec.item (declaration_view input.now)))) }
 {
-    let empty = with_methods(alloc, input, Seq::new(alloc))?;
-    head(alloc, out, &empty)?;
+    item_head(alloc, out, input)?;
     open(out, Delim::Brace)?;
     methods(alloc, out, input, cases)?;
     close(out, Delim::Brace)

@@ -1,7 +1,7 @@
 //! Copies of expressions, blocks and arms.
 #![tactic(auto, using(crate::proofs::Copies::copy_steps))]
 
-ghost use Rattle.std.specs.Prelude.{◌≡◌, IfOk, map};
+ghost use Rattle.std.specs.Prelude.{◌≡◌, IfOk, map, option_map};
 ghost use Rattle.dm_syntax.specs.Tree.{path_view, maybe_self_view};
 ghost use Rattle.dm_emit.specs.Output.{expr_view, block_view, stmt_view, arm_view, body_view};
 
@@ -110,16 +110,23 @@ impl<'a> Arm<'a> {
         ensures { IfOk result (λ r. arm_view r ≡ arm_view self.now) }
     {
         let patterns = copy_patterns(alloc, self.patterns.as_slice())?;
-        let guard = match &self.guard {
-            None => None,
-            Some(test) => Some(test.clone_in(alloc)?),
-        };
+        let guard = copy_guard(alloc, &self.guard)?;
         let body = self.body.clone_in(alloc)?;
         Ok(Arm {
             patterns,
             guard,
             body,
         })
+    }
+}
+
+#[cycle(copy_expr)]
+fn copy_guard<'a>(alloc: Global, guard: &Option<Expr<'a>>) -> Result<Option<Expr<'a>>, AllocError>
+    ensures { IfOk result (λ r. option_map expr_view r ≡ option_map expr_view guard.now) }
+{
+    match guard {
+        None => Ok(None),
+        Some(test) => Ok(Some(test.clone_in(alloc)?)),
     }
 }
 

@@ -32,10 +32,10 @@ impl<'a> Item<'a> {
         let attrs = copy_attrs(alloc, self.attrs.as_slice())?;
         let params = copy_params(alloc, self.params.as_slice())?;
         let trait_path = copy_maybe_path(alloc, &self.trait_path)?;
-        let ty = self.ty.clone_in(alloc)?;
         let predicates = copy_predicates(alloc, self.predicates.as_slice())?;
         let assocs = copy_assocs(alloc, self.assocs.as_slice())?;
         let methods = copy_methods(alloc, self.methods.as_slice())?;
+        let ty = self.ty.clone_in(alloc)?;
         Ok(Item {
             attrs,
             params,
@@ -66,9 +66,9 @@ impl<'a> Method<'a> {
     {
         let attrs = copy_attrs(alloc, self.attrs.as_slice())?;
         let name = self.name.clone_in(alloc)?;
+        let body = self.body.clone_in(alloc)?;
         let param = copy_maybe_param(alloc, &self.param)?;
         let output = copy_maybe_ty(alloc, &self.output)?;
-        let body = self.body.clone_in(alloc)?;
         Ok(Method {
             attrs,
             is_const: self.is_const,

@@ -33,11 +33,11 @@ impl<'a> DeriveInput<'a> {
     pub fn clone_in(&self, alloc: Global) -> Result<DeriveInput<'a>, AllocError>
         ensures { IfOk result (λ r. declaration_view r ≡ declaration_view self.now) }
     {
-        let shape = self.shape.clone_in(alloc)?;
-        let generics = self.generics.clone_in(alloc)?;
         let attrs = copy_attributes(alloc, self.attrs.as_slice())?;
-        let vis = copy_maybe_vis(alloc, &self.vis)?;
         let ident = self.ident.clone_in(alloc)?;
+        let generics = self.generics.clone_in(alloc)?;
+        let vis = copy_maybe_vis(alloc, &self.vis)?;
+        let shape = self.shape.clone_in(alloc)?;
         Ok(DeriveInput {
             attrs,
             vis,
@@ -121,10 +121,10 @@ impl<'a> Field<'a> {
     pub fn clone_in(&self, alloc: Global) -> Result<Field<'a>, AllocError>
         ensures { IfOk result (λ r. field_view r ≡ field_view self.now) }
     {
-        let ty = self.ty.clone_in(alloc)?;
         let attrs = copy_attributes(alloc, self.attrs.as_slice())?;
-        let vis = copy_maybe_vis(alloc, &self.vis)?;
         let ident = copy_maybe_name(alloc, &self.ident)?;
+        let vis = copy_maybe_vis(alloc, &self.vis)?;
+        let ty = self.ty.clone_in(alloc)?;
         Ok(Field {
             attrs,
             vis,
@@ -140,11 +140,11 @@ impl<'a> Variant<'a> {
     pub fn clone_in(&self, alloc: Global) -> Result<Variant<'a>, AllocError>
         ensures { IfOk result (λ r. variant_view r ≡ variant_view self.now) }
     {
-        let fields = self.fields.clone_in(alloc)?;
         let attrs = copy_attributes(alloc, self.attrs.as_slice())?;
-        let vis = copy_maybe_vis(alloc, &self.vis)?;
         let ident = self.ident.clone_in(alloc)?;
         let discriminant = copy_maybe_opaque(alloc, &self.discriminant)?;
+        let vis = copy_maybe_vis(alloc, &self.vis)?;
+        let fields = self.fields.clone_in(alloc)?;
         Ok(Variant {
             attrs,
             vis,
@@ -208,10 +208,10 @@ impl<'a> TyParam<'a> {
         ensures bounds { IfOk result (λ r. option_map (listed bound_view) r.bounds ≡ option_map (listed bound_view) self.now.bounds) }
         ensures default_ty { IfOk result (λ r. option_map ty_view r.default_ty ≡ option_map ty_view self.now.default_ty) }
     {
-        let bounds = copy_maybe_bounds(alloc, &self.bounds)?;
-        let default_ty = copy_maybe_ty(alloc, &self.default_ty)?;
         let attrs = copy_attributes(alloc, self.attrs.as_slice())?;
         let ident = self.ident.clone_in(alloc)?;
+        let bounds = copy_maybe_bounds(alloc, &self.bounds)?;
+        let default_ty = copy_maybe_ty(alloc, &self.default_ty)?;
         Ok(TyParam {
             attrs,
             ident,
@@ -229,10 +229,10 @@ impl<'a> ConstParam<'a> {
         ensures ty { IfOk result (λ r. ty_view r.ty ≡ ty_view self.now.ty) }
         ensures default_value { IfOk result (λ r. r.default_value ≡ self.now.default_value) }
     {
-        let ty = self.ty.clone_in(alloc)?;
         let attrs = copy_attributes(alloc, self.attrs.as_slice())?;
         let ident = self.ident.clone_in(alloc)?;
         let default_value = copy_maybe_const(alloc, &self.default_value)?;
+        let ty = self.ty.clone_in(alloc)?;
         Ok(ConstParam {
             attrs,
             ident,
@@ -253,10 +253,9 @@ impl<'a> WherePredicate<'a> {
                 Ok(WherePredicate::Lifetime(lifetime, copy_lifetimes(alloc, bounds)?))
             }
             WherePredicate::Ty(lifetimes, ty, bounds) => {
-                let ty = ty.clone_in(alloc)?;
-                let bounds = copy_bounds(alloc, bounds.items.as_slice(), bounds.trailing)?;
                 let lifetimes = copy_maybe_lifetimes(alloc, lifetimes)?;
-                Ok(WherePredicate::Ty(lifetimes, ty, bounds))
+                let bounds = copy_bounds(alloc, bounds.items.as_slice(), bounds.trailing)?;
+                Ok(WherePredicate::Ty(lifetimes, ty.clone_in(alloc)?, bounds))
             }
         }
     }

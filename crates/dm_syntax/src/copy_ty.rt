@@ -3,6 +3,8 @@
 
 ghost use Rattle.std.specs.Prelude.{◌≡◌, IfOk, map};
 ghost use Rattle.dm_syntax.specs.Tree.{
+  array,
+  macro_type,
   ty_view,
   node_view,
   bound_view,
@@ -19,11 +21,12 @@ ghost use Rattle.dm_syntax.specs.Tree.{
 use crate::copy_plain::{
     copy_abi, copy_attributes, copy_maybe_lifetime, copy_maybe_lifetimes, copy_maybe_name,
 };
+use crate::plain::{Opaque, PlainPath};
 use crate::ty::{
     BareFn, Bound, FnArg, GenericArgument, Path, PathArguments, PathSegment, QSelf, TraitBound, Ty,
     TyNode,
 };
-use dm_tokens::{Punctuated, Seq};
+use dm_tokens::{Delim, Punctuated, Seq, TokenStream};
 use std::alloc::{AllocError, Global};
 
 impl<'a> Ty<'a> {
@@ -53,10 +56,7 @@ impl<'a> TyNode<'a> {
                 Ok(TyNode::Tuple(all))
             }
             TyNode::Slice(inner) => Ok(TyNode::Slice(copy_box(alloc, inner)?)),
-            TyNode::Array(inner, size) => {
-                let inner = copy_box(alloc, inner)?;
-                Ok(TyNode::Array(inner, size.clone_in(alloc)?))
-            }
+            TyNode::Array(inner, size) => copy_array(alloc, inner, size),
             TyNode::Reference(name, is_mut, inner) => {
                 let inner = copy_box(alloc, inner)?;
                 let name = copy_maybe_lifetime(alloc, name)?;
@@ -81,12 +81,29 @@ impl<'a> TyNode<'a> {
                     Ok(TyNode::Path(Some(qself), path.clone_in(alloc)?))
                 }
             },
-            TyNode::Macro(path, delim, tokens) => {
-                let path = path.clone_in(alloc)?;
-                Ok(TyNode::Macro(path, *delim, tokens.clone_in(alloc)?))
-            }
+            TyNode::Macro(path, delim, tokens) => copy_macro(alloc, path, *delim, tokens),
         }
     }
+}
+
+#[cycle(copy)]
+fn copy_array<'a>(alloc: Global, ty: &Ty<'a>, size: &Opaque<'a>) -> Result<TyNode<'a>, AllocError>
+    ensures { IfOk result (λ r. node_view r ≡ array (ty_view ty.now) size.now) }
+{
+    let inner = copy_box(alloc, ty)?;
+    Ok(TyNode::Array(inner, size.clone_in(alloc)?))
+}
+
+fn copy_macro<'a>(
+    alloc: Global,
+    path: &PlainPath<'a>,
+    delim: Delim,
+    tokens: &TokenStream<'a>,
+) -> Result<TyNode<'a>, AllocError>
+    ensures { IfOk result (λ r. node_view r ≡ macro_type path.now delim tokens.now) }
+{
+    let path = path.clone_in(alloc)?;
+    Ok(TyNode::Macro(path, delim, tokens.clone_in(alloc)?))
 }
 
 impl<'a> Bound<'a> {

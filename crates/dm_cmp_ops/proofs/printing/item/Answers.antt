@@ -3,8 +3,7 @@ use Rattle.dm_tokens.specs.declared.tokens.Delim.TheVariants.{Brace}
 use Rattle.dm_tokens.specs.Layout.{Laid}
 use Rattle.dm_syntax.specs.Declarations.{declaration_view}
 use Rattle.dm_emit.specs.Laying.{lay, begun, done}
-use Rattle.dm_emit.specs.Output.{ItemTree}
-use Rattle.dm_emit.specs.Tokens.{head_trees, in_turn, method_trees}
+use Rattle.dm_emit.specs.Tokens.{in_turn, method_trees}
 use Rattle.dm_cmp_ops.specs.Emitted.{methods}
 use Rattle.dm_cmp_ops.proofs.PrintLaws.{on-ok, item-laid}
 use Rattle.dm_cmp_ops.proofs.printing.item.Goals as goal
@@ -12,6 +11,5 @@ use Rattle.dm_cmp_ops.proofs.printing.item.Goals as goal
 pub returns : goal.returns
 returns c =
     let d = declaration_view c.args.input.now in
-    let front = c.in_ok-head.ensures ∙ ap (λ (i : ItemTree). lay c.args.out.now (head_trees i)) c.in_ok-empty.ensures in
-    let inside = c.in_ok-methods.ensures ∙ ap (λ (l : Laid). lay l (in_turn (map method_trees (methods d)))) (c.in_ok-open.ensures ∙ ap (λ (l : Laid). begun l Brace) front) in
+    let inside = c.in_ok-methods.ensures ∙ ap (λ (l : Laid). lay l (in_turn (map method_trees (methods d)))) (c.in_ok-open.ensures ∙ ap (λ (l : Laid). begun l Brace) c.in_ok-item_head.ensures) in
     on-ok c.close.result (λ e. e ∙ ap (λ (l : Laid). done l Brace) inside ∙ item-laid c.args.out.now d) c.close.ensures

@@ -3,7 +3,7 @@ use Rattle.dm_tokens.specs.declared.tokens.Delim.TheVariants.{Brace}
 use Rattle.dm_tokens.specs.Layout.{Laid}
 use Rattle.dm_syntax.specs.Declarations.{declaration_view}
 use Rattle.dm_emit.specs.Laying.{lay, begun, done}
-use Rattle.dm_emit.specs.Output.{ExprTree, arms_of}
+use Rattle.dm_emit.specs.Output.{arms_of}
 use Rattle.dm_emit.specs.Tokens.{expr_trees, arms_trees}
 use Rattle.dm_emit.specs.Values.{Case, cases}
 use Rattle.dm_cmp_ops.specs.Emitted.{arms, both, rest}
@@ -13,6 +13,6 @@ use Rattle.dm_cmp_ops.proofs.printing.matching.Goals as goal
 pub returns : goal.returns
 returns c =
     let all = λ (vs : List Case). arms_trees (arms_of (arms c.args.comparing (declaration_view c.args.input.now) vs (rest c.args.comparing vs))) in
-    let operands = c.in_ok-expr.ensures ∙ ap (λ (e : ExprTree). lay c.word.new.out (expr_trees e)) c.in_ok-operands.ensures ∙ ap (λ (l : Laid). lay l (expr_trees both)) c.in_ok-word.ensures in
+    let operands = c.in_ok-subject.ensures ∙ ap (λ (l : Laid). lay l (expr_trees both)) c.in_ok-word.ensures in
     let inside = c.in_ok-arms.ensures ∙ ap (λ (vs : List Case). lay c.open.new.out (all vs)) c.requires ∙ ap (λ (l : Laid). lay l (all (cases (declaration_view c.args.input.now)))) (c.in_ok-open.ensures ∙ ap (λ (l : Laid). begun l Brace) operands) in
     on-ok c.close.result (λ e. e ∙ ap (λ (l : Laid). done l Brace) inside) c.close.ensures

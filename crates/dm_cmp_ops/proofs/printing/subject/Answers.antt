@@ -1,0 +1,10 @@
+use Rattle.std.proofs.Common.{ap, ◌∙◌}
+use Rattle.dm_emit.specs.Laying.{lay}
+use Rattle.dm_emit.specs.Output.{ExprTree}
+use Rattle.dm_emit.specs.Tokens.{expr_trees}
+use Rattle.dm_cmp_ops.proofs.PrintLaws.{on-ok}
+use Rattle.dm_cmp_ops.proofs.printing.subject.Goals as goal
+
+pub returns : goal.returns
+returns c =
+    on-ok c.expr.result (λ e. e ∙ ap (λ (x : ExprTree). lay c.args.out.now (expr_trees x)) c.in_ok-operands.ensures) c.expr.ensures
