@@ -1,7 +1,7 @@
 -- What the arms for two operands of one variant give at two values of one variant, whichever variants have an arm and whatever it gives.
 use Rattle.std.proofs.Common.{◌≡◌, ◌≢◌, ℕ, zero, suc, ◌+◌, ◌<◌, ◌^◌, List, [], ◌∷◌, length, Bool, true, false, cond, Option, Some, slice_get, refl, sym, ap, ◌∙◌, arith}
 use Rattle.std.specs.Prelude.{option_and_then}
-use Rattle.dm_syntax.specs.Declarations.{FieldTree}
+use Rattle.dm_ast.specs.Declarations.{FieldTree}
 use Rattle.dm_emit.specs.Output.{ArmTree, arms_of}
 use Rattle.dm_emit.specs.Values.{Value, mine, theirs, Thing, value, pair, Case, cases, field_list}
 use Rattle.dm_emit.specs.Run.{Env, Setting, run, run_arms, brace_fields}

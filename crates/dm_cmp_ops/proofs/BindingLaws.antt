@@ -2,8 +2,8 @@
 use Rattle.std.proofs.Common.{◌≡◌, ◌≢◌, ℕ, suc, ◌+◌, ◌<◌, ◌≤◌, ◌^◌, List, [], ◌∷◌, length, true, false, cond, ◌||◌, eqb, Option, Some, None, slice_get, refl, ap, ◌∙◌, arith}
 use Rattle.std.specs.Prelude.{option_and_then}
 use Rattle.std.specs.Str.{bytes_eq}
-use Rattle.dm_syntax.specs.Tree.{PathTree}
-use Rattle.dm_syntax.specs.Declarations.{Declaration, Listed, FieldTree, FieldsTree, named, unnamed, unit}
+use Rattle.dm_ast.specs.Tree.{PathTree}
+use Rattle.dm_ast.specs.Declarations.{Declaration, Listed, FieldTree, FieldsTree, named, unnamed, unit}
 use Rattle.dm_emit.specs.declared.pattern.Binding.TheVariants.{Plain}
 use Rattle.dm_emit.specs.Output.{bind, patterns_of, pattern_then, named_of}
 use Rattle.dm_emit.specs.Values.{Text, Value, Side, value, place, field_list}

@@ -1,7 +1,7 @@
 -- Steps that the builders of emitted code take.
 use Rattle.std.proofs.Common.{◌≡◌, List, [], ◌∷◌, ◌++◌, Bool, true, false, refl, ap}
-use Rattle.dm_syntax.specs.Tree.{SegmentTree, segment, absent, segments_of, segment_then}
-use Rattle.dm_syntax.specs.Implementors.{segments}
+use Rattle.dm_ast.specs.Tree.{SegmentTree, segment, absent, segments_of, segment_then}
+use Rattle.dm_ast.specs.Implementors.{segments}
 use Rattle.dm_emit.specs.Values.{Text}
 use Rattle.dm_emit.proofs.View.{view_steps}
 use Rattle.dm_emit.specs.Output.{ExprTree}

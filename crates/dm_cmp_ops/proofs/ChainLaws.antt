@@ -1,6 +1,6 @@
 -- What a chain of tests gives.
 use Rattle.std.proofs.Common.{◌≡◌, ℕ, zero, suc, ◌+◌, List, [], ◌∷◌, length, Bool, true, false, cond, ◌&&◌, ◌||◌, Option, Some, None, slice_get, refl, ap, ◌∙◌, arith}
-use Rattle.dm_syntax.specs.Declarations.{Declaration, FieldTree}
+use Rattle.dm_ast.specs.Declarations.{Declaration, FieldTree}
 use Rattle.dm_emit.specs.Output.{ExprTree, exprs_of}
 use Rattle.dm_emit.specs.Values.{mine, theirs, Thing, truth, value, pair, place, discriminant, term}
 use Rattle.dm_emit.specs.Run.{Env, Setting, bound, run, if_truth}

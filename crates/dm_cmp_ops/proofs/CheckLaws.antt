@@ -3,10 +3,10 @@ use Rattle.std.proofs.Common.{◌≡◌, ◌≢◌, ℕ, zero, suc, ◌<◌, Lis
 use Rattle.std.specs.Option.{option_or}
 use Rattle.std.specs.Prelude.{◌↔◌, All, flat_map, slice_index_or}
 use Rattle.std.proofs.lemmas.List.Concat.{flat_map_single}
-use Rattle.dm_tokens.specs.declared.error.Kind.TheVariants.{AttrSyntax}
-use Rattle.dm_tokens.specs.declared.error.Refusal.{Refusal}
-use Rattle.dm_syntax.specs.declared.plain.Attribute.{Attribute}
-use Rattle.dm_syntax.specs.Declarations.{Declaration, FieldTree, ShapeTree, struct_shape, enum_shape, union_shape}
+use Rattle.dm_stream.specs.declared.error.Kind.TheVariants.{AttrSyntax}
+use Rattle.dm_stream.specs.declared.error.Refusal.{Refusal}
+use Rattle.dm_ast.specs.declared.plain.Attribute.{Attribute}
+use Rattle.dm_ast.specs.Declarations.{Declaration, FieldTree, ShapeTree, struct_shape, enum_shape, union_shape}
 use Rattle.dm_emit.specs.Values.{Text, Case, cases, field_list}
 use Rattle.dm_cmp_ops.specs.Skips.{Skipping, no, yes, bad, reads_skip, is_examined, skip_among, skip, or_else, is_skipped}
 use Rattle.dm_cmp_ops.specs.Checks.{refusal_at, repeated, refusal_among, or_those, place_refusal, attrs_of, places, first_refusal, refusal_of_shape, refusal, IsGood, IsGoodCase, IsNoUnion, IsValid}

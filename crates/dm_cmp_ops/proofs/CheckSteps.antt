@@ -2,8 +2,8 @@
 use Rattle.std.proofs.Common.{◌≡◌, List, [], ◌∷◌, ◌++◌, cond, map, Option, Some, None, refl}
 use Rattle.std.specs.Option.{option_or}
 use Rattle.std.proofs.lemmas.Grind.{common_steps}
-use Rattle.dm_tokens.specs.declared.error.Refusal.{Refusal}
-use Rattle.dm_syntax.specs.declared.plain.Attribute.{Attribute}
+use Rattle.dm_stream.specs.declared.error.Refusal.{Refusal}
+use Rattle.dm_ast.specs.declared.plain.Attribute.{Attribute}
 use Rattle.dm_emit.specs.Values.{Case, field_list}
 use Rattle.dm_cmp_ops.specs.Skips.{Skipping, no, yes, bad, partial_eq_skip, is_yes, is_skipped}
 use Rattle.dm_cmp_ops.specs.Checks.{place_refusal, attrs_of, places, first_refusal}

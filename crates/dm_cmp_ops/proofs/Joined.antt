@@ -2,12 +2,12 @@
 use Rattle.std.proofs.Common.{◌≡◌, List, [], ◌∷◌, ◌++◌, Bool, true, false, cond, append_assoc, map, None, ap, ◌∙◌}
 use Rattle.std.specs.declared.boxed.Box.{Box}
 use Rattle.std.specs.declared.alloc.Global.{Global}
-use Rattle.dm_tokens.specs.declared.tokens.Span.{Span}
-use Rattle.dm_syntax.specs.declared.ty.Ty.{Ty}
-use Rattle.dm_syntax.specs.declared.ty.Path.{Path}
-use Rattle.dm_syntax.specs.declared.ty.TyNode.TheVariants as nodes
-use Rattle.dm_syntax.specs.Tree.{ty_view, path_view, type_tree, path, reference, no_self}
-use Rattle.dm_syntax.proofs.View.{view-Ty, view_TyNode-Path, view_TyNode-Reference}
+use Rattle.dm_stream.specs.declared.tokens.Span.{Span}
+use Rattle.dm_ast.specs.declared.ty.Ty.{Ty}
+use Rattle.dm_ast.specs.declared.ty.Path.{Path}
+use Rattle.dm_ast.specs.declared.ty.TyNode.TheVariants as nodes
+use Rattle.dm_ast.specs.Tree.{ty_view, path_view, type_tree, path, reference, no_self}
+use Rattle.dm_ast.proofs.View.{view-Ty, view_TyNode-Path, view_TyNode-Reference}
 use Rattle.dm_emit.specs.declared.expr.Expr.{Expr}
 use Rattle.dm_emit.specs.declared.expr.Expr.TheVariants as exprs
 use Rattle.dm_emit.specs.Output.{ExprTree, expr_view, exprs_of, call}

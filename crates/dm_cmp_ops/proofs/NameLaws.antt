@@ -4,9 +4,9 @@ use Rattle.std.specs.Fmt.{decimal}
 use Rattle.std.specs.Str.{bytes_eq}
 use Rattle.std.proofs.lemmas.Fmt.{decimal_injective}
 use Rattle.std.proofs.lemmas.Slice.Eq.{bytes_eq-Decides}
-use Rattle.dm_tokens.specs.declared.tokens.Ident.{Ident}
-use Rattle.dm_syntax.specs.Declarations.{Declaration, FieldTree, ShapeTree, struct_shape, enum_shape, union_shape}
-use Rattle.dm_syntax.specs.Implementors.{plain_path}
+use Rattle.dm_stream.specs.declared.tokens.Ident.{Ident}
+use Rattle.dm_ast.specs.Declarations.{Declaration, FieldTree, ShapeTree, struct_shape, enum_shape, union_shape}
+use Rattle.dm_ast.specs.Implementors.{plain_path}
 use Rattle.dm_emit.specs.Values.{Text, Case, cases, cases_of_shape, is_enum, is_enum_shape}
 use Rattle.dm_emit.specs.Run.{case_named, path_case, field_named, same_name}
 use Rattle.dm_cmp_ops.specs.Heads.{word}

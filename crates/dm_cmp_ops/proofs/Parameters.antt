@@ -1,12 +1,12 @@
 -- Steps that the builders of parameters and arguments take.
 use Rattle.std.proofs.Common.{◌≡◌, ◌==◌, List, [], ◌∷◌, ◌++◌, map, length, Bool, true, false, cond, append_assoc, ap, ◌∙◌}
-use Rattle.dm_syntax.specs.declared.ty.GenericArgument.{GenericArgument}
-use Rattle.dm_syntax.specs.declared.ty.PathArguments.TheVariants as a
-use Rattle.dm_syntax.specs.declared.decl.GenericParam.{GenericParam}
-use Rattle.dm_syntax.specs.Tree.{angle, arguments_of, arguments_view, argument_view}
-use Rattle.dm_syntax.specs.Declarations.{ParamTree, param_view}
-use Rattle.dm_syntax.specs.Implementors.{bare, argument, arguments}
-use Rattle.dm_syntax.proofs.View.{view_PathArguments-Angle}
+use Rattle.dm_ast.specs.declared.ty.GenericArgument.{GenericArgument}
+use Rattle.dm_ast.specs.declared.ty.PathArguments.TheVariants as a
+use Rattle.dm_ast.specs.declared.decl.GenericParam.{GenericParam}
+use Rattle.dm_ast.specs.Tree.{angle, arguments_of, arguments_view, argument_view}
+use Rattle.dm_ast.specs.Declarations.{ParamTree, param_view}
+use Rattle.dm_ast.specs.Implementors.{bare, argument, arguments}
+use Rattle.dm_ast.proofs.View.{view_PathArguments-Angle}
 use Rattle.dm_cmp_ops.proofs.Builders.{builder_steps}
 
 -- a parameter that is added where it is wanted stands before the rest

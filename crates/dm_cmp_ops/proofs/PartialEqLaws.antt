@@ -1,7 +1,7 @@
 -- The bodies that are emitted for `eq` and `ne` give what `eq` and `ne` mean.
 use Rattle.std.proofs.Common.{◌≡◌, ℕ, zero, suc, ◌<◌, ◌^◌, List, [], ◌∷◌, length, Bool, true, false, not, cond, ◌&&◌, ◌||◌, eqb, nat_lt, Option, Some, None, codes, slice_get, refl, sym, ap, ◌∙◌, arith}
 use Rattle.std.proofs.lemmas.Bool.{eqb-true}
-use Rattle.dm_syntax.specs.Declarations.{Declaration, FieldTree, FieldsTree, named, unnamed, unit}
+use Rattle.dm_ast.specs.Declarations.{Declaration, FieldTree, FieldsTree, named, unnamed, unit}
 use Rattle.dm_emit.specs.Output.{exprs_of, arms_of, MethodTree}
 use Rattle.dm_emit.specs.Values.{Value, mine, theirs, truth, value, Case, cases, is_enum, field_list, fits_case, IsValue}
 use Rattle.dm_emit.specs.Run.{Env, run, run_arms, run_block}

@@ -1,10 +1,10 @@
 -- Steps of what is printed without its trees.
 use Rattle.std.proofs.Common.{◌≡◌, ℕ, ◌+◌, List, [], ◌∷◌, map, Bool, true, false, cond, Result, Ok, Err, refl, sym}
 use Rattle.std.specs.Prelude.{not, ◌&&◌, ◌||◌, OnOk}
-use Rattle.dm_tokens.specs.declared.tokens.Delim.TheVariants.{Brace}
-use Rattle.dm_tokens.specs.Trees.{Trees, no_trees}
-use Rattle.dm_tokens.specs.Layout.{Laid, laid_start, layout}
-use Rattle.dm_syntax.specs.Declarations.{Declaration, FieldTree}
+use Rattle.dm_stream.specs.declared.tokens.Delim.TheVariants.{Brace}
+use Rattle.dm_stream.specs.Trees.{Trees, no_trees}
+use Rattle.dm_stream.specs.Layout.{Laid, laid_start, layout}
+use Rattle.dm_ast.specs.Declarations.{Declaration, FieldTree}
 use Rattle.dm_emit.specs.Laying.{lay, begun, done}
 use Rattle.dm_emit.specs.Output.{ExprTree}
 use Rattle.dm_emit.specs.Tokens.{expr_trees, word, enclosed, in_turn, method_trees, head_trees, item_trees}

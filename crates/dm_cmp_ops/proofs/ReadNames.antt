@@ -3,15 +3,15 @@ use Rattle.std.proofs.Common.{◌≡◌, ℕ, zero, suc, ◌+◌, List, [], ◌�
 use Rattle.std.specs.Prelude.{All, AllPairs, flat_map}
 use Rattle.std.specs.Str.{bytes_eq}
 use Rattle.std.proofs.lemmas.Slice.Eq.{bytes_eq-Decides}
-use Rattle.dm_tokens.specs.declared.tokens.Ident.{Ident}
-use Rattle.dm_tokens.specs.declared.tokens.Span.{Span}
-use Rattle.dm_tokens.specs.Trees.{Trees}
-use Rattle.dm_syntax.specs.declared.plain.Attribute.{Attribute}
-use Rattle.dm_syntax.specs.Declarations.{Declaration, Listed, FieldTree, FieldsTree, named, unnamed, unit, VariantTree, ShapeTree, struct_shape, enum_shape, union_shape, PredicateTree, GenericsTree}
-use Rattle.dm_syntax.specs.Spelling.{Where, Marks, Spelling, items, items_left}
-use Rattle.dm_syntax.specs.DeclarationGrammar as grammar
-use Rattle.dm_syntax.specs.Runs.{run}
-use Rattle.dm_syntax.specs.Names.{Found, name_at, variants, fields, declared, is_again, in_some, in_type, in_param, in_where, in_field, in_fields, in_variants, in_shape, found}
+use Rattle.dm_stream.specs.declared.tokens.Ident.{Ident}
+use Rattle.dm_stream.specs.declared.tokens.Span.{Span}
+use Rattle.dm_stream.specs.Trees.{Trees}
+use Rattle.dm_ast.specs.declared.plain.Attribute.{Attribute}
+use Rattle.dm_ast.specs.Declarations.{Declaration, Listed, FieldTree, FieldsTree, named, unnamed, unit, VariantTree, ShapeTree, struct_shape, enum_shape, union_shape, PredicateTree, GenericsTree}
+use Rattle.dm_ast.specs.Spelling.{Where, Marks, Spelling, items, items_left}
+use Rattle.dm_ast.specs.DeclarationGrammar as grammar
+use Rattle.dm_ast.specs.Runs.{run}
+use Rattle.dm_ast.specs.Names.{Found, name_at, variants, fields, declared, is_again, in_some, in_type, in_param, in_where, in_field, in_fields, in_variants, in_shape, found}
 use Rattle.dm_emit.specs.Values.{Text, Case, case_of_variant, cases_of_shape}
 use Rattle.dm_emit.specs.Run.{brace_fields}
 use Rattle.dm_cmp_ops.specs.Sides.{field_ident}

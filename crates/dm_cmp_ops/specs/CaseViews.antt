@@ -1,7 +1,7 @@
 -- The variants of a declaration as the program lends them, and which operand a name belongs to.
 use Rattle.std.specs.Prelude.{◌≡◌, ℕ, List, map}
-use Rattle.dm_syntax.specs.Declarations.{FieldsTree, named, unnamed, unit, listed, field_view, declaration_view}
-use Rattle.dm_syntax.specs.declared.decl.DeriveInput.{DeriveInput}
+use Rattle.dm_ast.specs.Declarations.{FieldsTree, named, unnamed, unit, listed, field_view, declaration_view}
+use Rattle.dm_ast.specs.declared.decl.DeriveInput.{DeriveInput}
 use Rattle.dm_emit.specs.Values.{Text, Case, cases}
 use Rattle.dm_cmp_ops.specs.declared.cases.FieldsRef.{FieldsRef}
 use Rattle.dm_cmp_ops.specs.declared.cases.FieldsRef.TheVariants as fields

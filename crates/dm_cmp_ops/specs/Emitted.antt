@@ -1,9 +1,9 @@
 -- The bodies that are emitted for `eq` and `ne`: one form, with the test, the join and the neutral truth of each.
 use Rattle.std.specs.Prelude.{ℕ, ◌+◌, List, [], ◌∷◌, ◌++◌, length, Bool, true, false, not, cond, ◌&&◌, ◌||◌, eqb, nat_lt, Some, codes}
 use Rattle.std.specs.Fmt.{decimal}
-use Rattle.dm_syntax.specs.Tree.{no_self}
-use Rattle.dm_syntax.specs.Declarations.{Declaration, FieldTree}
-use Rattle.dm_syntax.specs.Implementors.{plain_path, name_type, params_of, predicates_of, implementor}
+use Rattle.dm_ast.specs.Tree.{no_self}
+use Rattle.dm_ast.specs.Declarations.{Declaration, FieldTree}
+use Rattle.dm_ast.specs.Implementors.{plain_path, name_type, params_of, predicates_of, implementor}
 use Rattle.dm_emit.specs.Output.{wild, patterns_of, ExprTree, or_expr, and_expr, equal, unequal, deref, path_expr, call, tuple, bool, match_expr, unsafe_expr, ExprTrees, no_exprs, expr_then, exprs_of, no_expr, some_expr, ArmTree, no_arms, arms_of, expr_body, BlockTree, last_expr, MethodTree, ItemTree}
 use Rattle.dm_emit.specs.Values.{Text, Case, cases, is_enum, field_list}
 use Rattle.dm_emit.specs.Run.{discriminant_names}

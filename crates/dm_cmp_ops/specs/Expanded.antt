@@ -1,13 +1,13 @@
 -- What `PartialEq` answers: an expansion, which is one implementation and its text, or a refusal.
 use Rattle.std.specs.Prelude.{◌≡◌, ℕ, List, [], ◌∷◌, map, Some, None, Result, Ok, Err, String, string_bytes}
 use Rattle.std.specs.declared.alloc.Global.{Global}
-use Rattle.dm_tokens.specs.declared.error.Error.{Error}
-use Rattle.dm_tokens.specs.declared.error.Error.TheVariants.{NoMemory, Refused}
-use Rattle.dm_tokens.specs.Trees.{Trees}
-use Rattle.dm_syntax.specs.Declarations.{Declaration}
-use Rattle.dm_syntax.specs.Spelling.{Marks}
-use Rattle.dm_syntax.specs.Parsed.{SpelledBy}
-use Rattle.dm_syntax.specs.Names.{Named}
+use Rattle.dm_stream.specs.declared.error.Error.{Error}
+use Rattle.dm_stream.specs.declared.error.Error.TheVariants.{NoMemory, Refused}
+use Rattle.dm_stream.specs.Trees.{Trees}
+use Rattle.dm_ast.specs.Declarations.{Declaration}
+use Rattle.dm_ast.specs.Spelling.{Marks}
+use Rattle.dm_ast.specs.Parsed.{SpelledBy}
+use Rattle.dm_ast.specs.Names.{Named}
 use Rattle.dm_emit.specs.declared.print.Expansion.{Expansion}
 use Rattle.dm_emit.specs.Output.{ItemTree, item_view}
 use Rattle.dm_emit.specs.Tokens.{printed}

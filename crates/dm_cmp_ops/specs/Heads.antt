@@ -1,10 +1,10 @@
 -- The implementation of `PartialEq` but for its bodies.
 use Rattle.std.specs.Prelude.{◌≡◌, List, [], ◌∷◌, Bool, true, false, not, ◌&&◌, ◌||◌, codes, Some, None}
-use Rattle.dm_tokens.specs.declared.tokens.Ident.{Ident}
-use Rattle.dm_tokens.specs.Layout.{nowhere}
-use Rattle.dm_syntax.specs.Tree.{TypeTree, type_tree, reference, PathTree}
-use Rattle.dm_syntax.specs.Declarations.{Declaration, FieldTree}
-use Rattle.dm_syntax.specs.Implementors.{plain_path, name_type, params_of, predicates_of, implementor}
+use Rattle.dm_stream.specs.declared.tokens.Ident.{Ident}
+use Rattle.dm_stream.specs.Layout.{nowhere}
+use Rattle.dm_ast.specs.Tree.{TypeTree, type_tree, reference, PathTree}
+use Rattle.dm_ast.specs.Declarations.{Declaration, FieldTree}
+use Rattle.dm_ast.specs.Implementors.{plain_path, name_type, params_of, predicates_of, implementor}
 use Rattle.dm_emit.specs.Output.{ItemTree, MethodTree}
 use Rattle.dm_emit.specs.Values.{Text, Case, cases, field_list}
 use Rattle.dm_emit.specs.declared.item.ItemAttr.TheVariants.{AllowPrivateBounds, AutomaticallyDerived, Inline}

@@ -1,10 +1,10 @@
 -- The patterns of operands of one variant, and the arms that have them: whichever fields are left out, whatever the others are called, and
 -- whatever the arms give.
 use Rattle.std.specs.Prelude.{ℕ, ◌+◌, List, [], ◌∷◌, Bool, false, cond, ◌||◌, Option, Some, None, codes}
-use Rattle.dm_tokens.specs.declared.tokens.Ident.{Ident}
-use Rattle.dm_syntax.specs.Tree.{PathTree}
-use Rattle.dm_syntax.specs.Declarations.{Declaration, FieldTree, FieldsTree, named, unnamed, unit}
-use Rattle.dm_syntax.specs.Implementors.{plain_path}
+use Rattle.dm_stream.specs.declared.tokens.Ident.{Ident}
+use Rattle.dm_ast.specs.Tree.{PathTree}
+use Rattle.dm_ast.specs.Declarations.{Declaration, FieldTree, FieldsTree, named, unnamed, unit}
+use Rattle.dm_ast.specs.Implementors.{plain_path}
 use Rattle.dm_emit.specs.declared.pattern.Binding.TheVariants.{Plain}
 use Rattle.dm_emit.specs.Output.{PatternTree, wild, bind, tuple_pattern, named_pattern, pair_pattern, patterns_of, named_of, ExprTree, ArmTree, some_expr, no_expr, last_expr, block_body}
 use Rattle.dm_emit.specs.Values.{Text, Case, is_enum}

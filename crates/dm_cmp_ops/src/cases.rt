@@ -1,7 +1,7 @@
 //! The variants of a declaration, in one form for structs, enums and unions.
 
 ghost use Rattle.std.specs.Prelude.{◌≡◌, [], ◌∷◌, map, length, IfOk};
-ghost use Rattle.dm_syntax.specs.Declarations.{declaration_view, variant_view, fields_view, field_view};
+ghost use Rattle.dm_ast.specs.Declarations.{declaration_view, variant_view, fields_view, field_view};
 ghost use Rattle.dm_emit.specs.Values as values;
 ghost use Rattle.dm_cmp_ops.specs.Heads as heads;
 ghost use Rattle.dm_cmp_ops.specs.Skips.{skips_field};
@@ -11,8 +11,8 @@ ghost use Rattle.dm_cmp_ops.specs.CaseViews.{case_view, fields_ref_view};
 ghost use Rattle.dm_cmp_ops.specs.Named.{AreSmall};
 
 use crate::skips::is_skipped;
-use dm_syntax::{Attribute, Data, DeriveInput, Field, Fields, Variant};
-use dm_tokens::{Ident, Punctuated};
+use dm_ast::{Attribute, Data, DeriveInput, Field, Fields, Variant};
+use dm_stream::{Ident, Punctuated};
 use std::alloc::{AllocError, Global};
 
 /// The fields of a variant.

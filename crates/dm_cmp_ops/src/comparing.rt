@@ -2,7 +2,7 @@
 #![tactic(auto, using(crate::proofs::Builders::builder_steps))]
 
 ghost use Rattle.std.specs.Prelude.{◌≡◌, ◌∷◌, ◌++◌, [], cond, map, IfOk, OnOk};
-ghost use Rattle.dm_syntax.specs.Declarations.{declaration_view, field_view};
+ghost use Rattle.dm_ast.specs.Declarations.{declaration_view, field_view};
 ghost use Rattle.dm_emit.specs.Output.{expr_view, arm_view, block_view, pattern_view, exprs_of, last_expr, some_expr, no_expr, unsafe_expr, body_view, block_body, patterns_of};
 ghost use Rattle.dm_emit.specs.Values as values;
 ghost use Rattle.dm_cmp_ops.specs.Sides as sides;
@@ -14,9 +14,9 @@ use crate::names::{boxed, name, one, path_of};
 use crate::partial_eq::Comparing;
 use crate::sides::{Operand, numbered, side};
 use crate::skips::is_skipped;
+use dm_ast::{DeriveInput, Field};
 use dm_emit::{Arm, ArmBody, Block, Expr, PathExpr, Pattern};
-use dm_syntax::{DeriveInput, Field};
-use dm_tokens::Seq;
+use dm_stream::Seq;
 use std::alloc::{AllocError, Global};
 
 /// The test of two parts.

@@ -2,7 +2,7 @@
 #![tactic(auto, using(crate::proofs::Parameters::parameter_steps))]
 
 ghost use Rattle.std.specs.Prelude.{◌≡◌, ◌∷◌, [], ◌++◌, map, filter, false, cond, IfOk, OnOk};
-ghost use Rattle.dm_syntax.specs.Tree.{
+ghost use Rattle.dm_ast.specs.Tree.{
   ty_view,
   path_view,
   segment_view,
@@ -14,16 +14,17 @@ ghost use Rattle.dm_syntax.specs.Tree.{
   no_segments,
   type_arg,
 };
-ghost use Rattle.dm_syntax.specs.Declarations.{declaration_view, param_view, predicate_view};
-ghost use Rattle.dm_syntax.specs.Implementors as spec;
+ghost use Rattle.dm_ast.specs.Declarations.{declaration_view, param_view, predicate_view};
+ghost use Rattle.dm_ast.specs.Implementors as spec;
 
 use crate::heads::{name_type, plain_type};
 use crate::names::one;
-use dm_syntax::{
+use dm_ast::{
     ConstParam, DeriveInput, GenericArgument, GenericParam, LifetimeParam, Path, PathArguments,
     PathSegment, Ty, TyParam, WherePredicate,
 };
-use dm_tokens::{Ident, Punctuated, Seq};
+use dm_copy::CloneIn;
+use dm_stream::{Ident, Punctuated, Seq};
 use std::alloc::{AllocError, Global};
 
 fn is_lifetime(param: &GenericParam<'_>) -> bool

@@ -2,17 +2,17 @@
 #![tactic(auto, using(crate::proofs::Builders::builder_steps))]
 
 ghost use Rattle.std.specs.Prelude.{◌≡◌, codes, None, false, IfOk};
-ghost use Rattle.dm_syntax.specs.Tree.{ty_view, path_view, type_tree, path as tree_path, reference, no_self};
-ghost use Rattle.dm_syntax.specs.Declarations.{declaration_view};
+ghost use Rattle.dm_ast.specs.Tree.{ty_view, path_view, type_tree, path as tree_path, reference, no_self};
+ghost use Rattle.dm_ast.specs.Declarations.{declaration_view};
 ghost use Rattle.dm_emit.specs.Output.{method_param_view};
-ghost use Rattle.dm_tokens.specs.Layout.{nowhere};
-ghost use Rattle.dm_syntax.specs.Implementors as implementors;
+ghost use Rattle.dm_stream.specs.Layout.{nowhere};
+ghost use Rattle.dm_ast.specs.Implementors as implementors;
 ghost use Rattle.dm_cmp_ops.specs.Heads as spec;
 
 use crate::names::{path_of, path_of_one, word};
+use dm_ast::{DeriveInput, Path, Ty, TyNode};
 use dm_emit::MethodParam;
-use dm_syntax::{DeriveInput, Path, Ty, TyNode};
-use dm_tokens::{Ident, Span};
+use dm_stream::{Ident, Span};
 use std::alloc::{AllocError, Global};
 
 #[tactic(auto, using(crate::proofs::Joined::joined_steps))]

@@ -2,14 +2,14 @@
 #![tactic(auto, using(crate::proofs::Builders::builder_steps))]
 
 ghost use Rattle.std.specs.Prelude.{◌≡◌, [], ◌∷◌, map, IfOk};
-ghost use Rattle.dm_syntax.specs.Tree.{path_view, segment_view, segments_of, segment, absent, no_self};
+ghost use Rattle.dm_ast.specs.Tree.{path_view, segment_view, segments_of, segment, absent, no_self};
 ghost use Rattle.dm_emit.specs.Output.{expr_view, path_expr};
-ghost use Rattle.dm_syntax.specs.Implementors as implementors;
+ghost use Rattle.dm_ast.specs.Implementors as implementors;
 ghost use Rattle.dm_cmp_ops.specs.Heads as heads;
 
+use dm_ast::{Path, PathArguments, PathSegment};
 use dm_emit::{Expr, PathExpr};
-use dm_syntax::{Path, PathArguments, PathSegment};
-use dm_tokens::{Ident, Seq, Span, Text};
+use dm_stream::{Ident, Seq, Span, Text};
 use std::alloc::{AllocError, Global};
 
 pub(crate) fn one<T: Drop>(alloc: Global, item: T) -> Result<Seq<T>, AllocError>

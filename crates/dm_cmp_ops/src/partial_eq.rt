@@ -2,8 +2,8 @@
 #![tactic(auto, using(crate::proofs::Builders::builder_steps))]
 
 ghost use Rattle.std.specs.Prelude.{◌≡◌, ◌∷◌, [], map, ◌++◌, codes, IfOk, OnOk, string_bytes};
-ghost use Rattle.dm_syntax.specs.Tree.{path_view, no_self};
-ghost use Rattle.dm_syntax.specs.Declarations.{declaration_view};
+ghost use Rattle.dm_ast.specs.Tree.{path_view, no_self};
+ghost use Rattle.dm_ast.specs.Declarations.{declaration_view};
 ghost use Rattle.dm_emit.specs.Output.{expr_view, block_view, method_view, item_view, match_expr, deref, no_arms, call, exprs_of, tuple, expr_then, no_exprs};
 ghost use Rattle.dm_emit.specs.Values as values;
 ghost use Rattle.dm_emit.specs.Tokens.{printed};
@@ -20,9 +20,9 @@ use crate::generics::{implementor, params, predicates};
 use crate::heads::{other_param, partial_eq_path, word_type};
 use crate::names::{boxed, name, one, path_of, two, word};
 use crate::printing::printed_item;
+use dm_ast::{DeriveInput, Path};
 use dm_emit::{Block, Expansion, Expr, Item, ItemAttr, Method, PathExpr, Receiver, with_text};
-use dm_syntax::{DeriveInput, Path};
-use dm_tokens::{Error, Ident, Seq};
+use dm_stream::{Error, Ident, Seq};
 use std::alloc::{AllocError, Global};
 
 /// Which of the two methods is made.

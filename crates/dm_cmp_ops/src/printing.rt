@@ -4,7 +4,7 @@
 #![tactic(auto, using(crate::proofs::PrintLaws::printing_steps))]
 
 ghost use Rattle.std.specs.Prelude.{◌≡◌, ◌∷◌, [], map, IfOk, OnOk, string_bytes};
-ghost use Rattle.dm_syntax.specs.Declarations.{declaration_view};
+ghost use Rattle.dm_ast.specs.Declarations.{declaration_view};
 ghost use Rattle.dm_emit.specs.Output.{last_expr, no_expr};
 ghost use Rattle.dm_emit.specs.Tokens as tokens;
 ghost use Rattle.dm_emit.specs.Laying.{lay};
@@ -20,12 +20,13 @@ use crate::partial_eq::{
     Comparing, body_expr, both_expr, discriminants, method_with, needs_discriminants, with_methods,
 };
 use arms::{arms, join};
+use dm_ast::DeriveInput;
 use dm_emit::Block;
 use dm_emit::print::expr::expr;
 use dm_emit::print::item::{head, signature};
 use dm_emit::print::token::{close, open, word};
-use dm_syntax::DeriveInput;
-use dm_tokens::{Delim, Layout, Seq};
+use dm_layout::Layout;
+use dm_stream::{Delim, Seq};
 use std::alloc::{AllocError, Global};
 
 /// Adds the pair of the operands.

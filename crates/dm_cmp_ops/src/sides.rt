@@ -2,8 +2,8 @@
 #![tactic(auto, using(crate::proofs::Builders::builder_steps))]
 
 ghost use Rattle.std.specs.Prelude.{◌≡◌, map, IfOk, IfSome, string_bytes};
-ghost use Rattle.dm_syntax.specs.Tree.{path_view};
-ghost use Rattle.dm_syntax.specs.Declarations.{declaration_view, field_view};
+ghost use Rattle.dm_ast.specs.Tree.{path_view};
+ghost use Rattle.dm_ast.specs.Declarations.{declaration_view, field_view};
 ghost use Rattle.dm_emit.specs.Output.{pattern_view, named_view, bind};
 ghost use Rattle.dm_emit.specs.declared.pattern.Binding.TheVariants.{Plain};
 ghost use Rattle.dm_cmp_ops.specs.Heads as heads;
@@ -14,9 +14,9 @@ ghost use Rattle.dm_cmp_ops.specs.CaseViews.{case_view, fields_ref_view, naming}
 use crate::cases::{CaseRef, FieldsRef, is_enum, some_skipped_field};
 use crate::names::{emitted, path_of_one, path_of_two, word};
 use crate::skips::is_skipped;
+use dm_ast::{DeriveInput, Field, Path};
 use dm_emit::{Binding, NamedPattern, Pattern};
-use dm_syntax::{DeriveInput, Field, Path};
-use dm_tokens::{Ident, Seq, Text};
+use dm_stream::{Ident, Seq, Text};
 use std::alloc::{AllocError, Global};
 
 /// Which of the two values that are compared.

@@ -3,22 +3,22 @@ use Rattle.std.proofs.Common.{◌≡◌, ℕ, List, length, map, None, Some, Res
 use Rattle.std.specs.Prelude.{◌⊎◌, IfOk, String}
 use Rattle.std.specs.declared.alloc.Global.{Global}
 use Rattle.std.specs.Str.{chars}
-use Rattle.dm_tokens.specs.declared.error.Kind.{Kind}
-use Rattle.dm_tokens.specs.declared.error.Kind.TheVariants as kind
-use Rattle.dm_tokens.specs.declared.tokens.Span.{Span}
-use Rattle.dm_tokens.specs.declared.error.Refusal.{Refusal}
-use Rattle.dm_tokens.specs.declared.error.Error.{Error}
-use Rattle.dm_tokens.specs.declared.error.Error.TheVariants.{NoMemory, Refused}
-use Rattle.dm_tokens.specs.Trees.{Trees}
-use Rattle.dm_tokens.specs.Rows.{reading}
-use Rattle.dm_tokens.specs.Nesting.{IsTreesOf, AreTheOnly, IsRefusalOf, IsRefused, IsWhole}
-use Rattle.dm_tokens.proofs.Nestings.{trees-only}
-use Rattle.dm_syntax.specs.declared.decl.DeriveInput.{DeriveInput}
-use Rattle.dm_syntax.specs.Declarations.{Declaration, declaration_view}
-use Rattle.dm_syntax.specs.Spelling.{Marks, first_too_deep}
-use Rattle.dm_syntax.specs.Parsed.{SpelledBy, IsTheDeclaration, IsUnread, IsRefusal}
-use Rattle.dm_syntax.specs.Names.{names_refusal, IsNamesError}
-use Rattle.dm_syntax.proofs.NameRefusals.{refused_not_named}
+use Rattle.dm_stream.specs.declared.error.Kind.{Kind}
+use Rattle.dm_stream.specs.declared.error.Kind.TheVariants as kind
+use Rattle.dm_stream.specs.declared.tokens.Span.{Span}
+use Rattle.dm_stream.specs.declared.error.Refusal.{Refusal}
+use Rattle.dm_stream.specs.declared.error.Error.{Error}
+use Rattle.dm_stream.specs.declared.error.Error.TheVariants.{NoMemory, Refused}
+use Rattle.dm_stream.specs.Trees.{Trees}
+use Rattle.dm_lexer.specs.Rows.{reading}
+use Rattle.dm_lexer.specs.Nesting.{IsTreesOf, AreTheOnly, IsRefusalOf, IsRefused, IsWhole}
+use Rattle.dm_lexer.proofs.Nestings.{trees-only}
+use Rattle.dm_ast.specs.declared.decl.DeriveInput.{DeriveInput}
+use Rattle.dm_ast.specs.Declarations.{Declaration, declaration_view}
+use Rattle.dm_ast.specs.Spelling.{Marks, first_too_deep}
+use Rattle.dm_ast.specs.Parsed.{SpelledBy, IsTheDeclaration, IsUnread, IsRefusal}
+use Rattle.dm_ast.specs.Names.{names_refusal, IsNamesError}
+use Rattle.dm_names.proofs.NameRefusals.{refused_not_named}
 use Rattle.dm_emit.specs.declared.print.Expansion.{Expansion}
 use Rattle.dm_emit.specs.Output.{item_view}
 use Rattle.dm_cmp_ops.specs.Checks.{refusal, IsValid}
@@ -139,7 +139,7 @@ read-it text d e g k =
     k.only d (record { trees = g.trees; are_trees = g.are_trees.are_trees; marks = g.marks; spelled = g.spelled })
 
 -- a text has one declaration
-read-one : (text : List ℕ) (d e : Declaration) → IsRead text d → IsRead text e → e ≡ d
+pub read-one : (text : List ℕ) (d e : Declaration) → IsRead text d → IsRead text e → e ≡ d
 read-one text d e h k =
     let one = k.is_the_one in
     h.only e (record { trees = k.trees; are_trees = k.are_trees.are_trees; marks = one.marks; spelled = one.there })

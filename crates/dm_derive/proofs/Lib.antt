@@ -1,3 +1,4 @@
 pub mod Lines
 pub mod RunLemmas
 mod Deriving
+pub mod Turning

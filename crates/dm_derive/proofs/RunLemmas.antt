@@ -4,7 +4,8 @@ use Rattle.std.specs.Prelude.{IfSome, ◌⊎◌}
 use Rattle.std.proofs.KnownBytes.{Consumes-whole}
 use Rattle.std.proofs.lemmas.List.{length-append}
 use Rattle.std.specs.Io.KnownBytes.{Keeps}
-use Rattle.dm_tokens.specs.declared.error.Refusal.{Refusal}
+use Rattle.dm_stream.specs.declared.error.Refusal.{Refusal}
+use Rattle.dm_derive.specs.declared.transfer.TheConstants.{LARGEST_INPUT}
 use Rattle.dm_derive.specs.declared.top.Status.{Status}
 use Rattle.dm_derive.specs.declared.top.Status.TheVariants.{Done, Refused, BadInput, ReadFault, WriteFault, NoMemory, Usage}
 use Rattle.dm_derive.specs.Derived.{Refuses}
@@ -24,7 +25,7 @@ ran left left' before now bytes NoMemory all r = r
 ran left left' before now bytes Usage all r = absurd r
 
 -- more than too much is too much
-more_is : (bs ys xs : List ℕ) → 1048576 < length bs → xs ≡ bs ++ ys → 1048576 < length xs
+more_is : (bs ys xs : List ℕ) → LARGEST_INPUT < length bs → xs ≡ bs ++ ys → LARGEST_INPUT < length xs
 more_is bs ys xs h e = rw (e, length-append bs ys) (omega arith)
 
 any : (l : Option (List ℕ)) (P : Type 0) → P → IfSome l (λ _. P)

@@ -1,21 +1,21 @@
 -- What a trait's name and the text of a declaration are answered with.
 use Rattle.std.specs.Prelude.{◌≡◌, ℕ, List, map, length, codes, None, Some, Result, Ok, Err, ◌⊎◌, String, string_bytes}
 use Rattle.std.specs.declared.alloc.Global.{Global}
-use Rattle.dm_tokens.specs.declared.error.Kind.TheVariants.{UnknownTrait}
-use Rattle.dm_tokens.specs.declared.error.Refusal.{Refusal}
-use Rattle.dm_tokens.specs.declared.error.Error.{Error}
-use Rattle.dm_tokens.specs.declared.error.Error.TheVariants.{NoMemory, Refused}
-use Rattle.dm_tokens.specs.Trees.{Trees}
-use Rattle.dm_tokens.specs.Nesting.{IsTreesOf, IsWhole, IsRefused}
-use Rattle.dm_syntax.specs.declared.decl.DeriveInput.{DeriveInput}
-use Rattle.dm_syntax.specs.Declarations.{Declaration, declaration_view}
-use Rattle.dm_syntax.specs.Spelling.{Marks, first_too_deep}
-use Rattle.dm_syntax.specs.Parsed.{SpelledBy, IsTheDeclaration, IsUnread}
-use Rattle.dm_syntax.specs.Names.{Named, names_refusal}
+use Rattle.dm_stream.specs.declared.error.Kind.TheVariants.{UnknownTrait}
+use Rattle.dm_stream.specs.declared.error.Refusal.{Refusal}
+use Rattle.dm_stream.specs.declared.error.Error.{Error}
+use Rattle.dm_stream.specs.declared.error.Error.TheVariants.{NoMemory, Refused}
+use Rattle.dm_stream.specs.Trees.{Trees}
+use Rattle.dm_lexer.specs.Nesting.{IsTreesOf, IsWhole, IsRefused}
+use Rattle.dm_ast.specs.declared.decl.DeriveInput.{DeriveInput}
+use Rattle.dm_ast.specs.Declarations.{Declaration, declaration_view}
+use Rattle.dm_ast.specs.Spelling.{Marks, first_too_deep}
+use Rattle.dm_ast.specs.Parsed.{SpelledBy, IsTheDeclaration, IsUnread}
+use Rattle.dm_ast.specs.Names.{Named, names_refusal}
 use Rattle.dm_emit.specs.declared.print.Expansion.{Expansion}
 use Rattle.dm_emit.specs.Output.{ItemTree, item_view}
 use Rattle.dm_cmp_ops.specs.Checks.{refusal, IsValid}
-use Rattle.dm_cmp_ops.specs.Expanded.{IsExpanded}
+use Rattle.dm_cmp_ops.specs.Expanded.{IsExpanded, IsText}
 
 -- a trait that is derived
 abbrev pub IsKnown : List ℕ → Type 0
@@ -125,3 +125,17 @@ abbrev pub Prints : List ℕ → List ℕ → Result (String Global) Error → T
 Prints name text (Ok written) = Answers name text (string_bytes written)
 Prints name text (Err NoMemory) = Unit {0}
 Prints name text (Err (Refused r)) = Refuses name text r
+
+-- ---- laws
+
+-- a text has one declaration
+abbrev pub DeclarationIsOne : Type 0
+DeclarationIsOne = (text : List ℕ) (d e : Declaration) → IsRead text d → IsRead text e → e ≡ d
+
+-- the implementations of a declaration have one text
+abbrev pub TextIsOne : Type 0
+TextIsOne = (d : Declaration) (x y : List ℕ) → IsText d x → IsText d y → x ≡ y
+
+-- a trait and a text have one answer
+abbrev pub AnswerIsOne : Type 0
+AnswerIsOne = (name text x y : List ℕ) → Answers name text x → Answers name text y → x ≡ y

@@ -1,6 +1,9 @@
 pub mod Causes
 pub mod Derived
+pub mod Ended
 pub mod Line
+pub mod Offers
 pub mod Runs
 pub mod Split
 pub mod States
+pub mod Turns

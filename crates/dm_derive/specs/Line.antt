@@ -1,10 +1,10 @@
 -- What is written for a refusal.
 use Rattle.std.specs.Prelude.{ℕ, List, ◌++◌, codes}
 use Rattle.std.specs.Fmt.{decimal}
-use Rattle.dm_tokens.specs.Messages.{message_of}
-use Rattle.dm_tokens.specs.declared.error.Kind.{Kind}
-use Rattle.dm_tokens.specs.declared.error.Kind.TheVariants.{UnknownTrait, Lex, TooDeep, Syntax, Unsupported, DuplicateName, ReservedName, WrongShape, AllSkipped, AttrSyntax, AttrNotAllowed, LegacySyntax, AttrRepeated, AttrMixed, FieldCount, TupleLength, FieldConflict, MissingFormat, MissingAttr}
-use Rattle.dm_tokens.specs.declared.error.Refusal.{Refusal}
+use Rattle.dm_stream.specs.Messages.{message_of}
+use Rattle.dm_stream.specs.declared.error.Kind.{Kind}
+use Rattle.dm_stream.specs.declared.error.Kind.TheVariants.{UnknownTrait, Lex, TooDeep, Syntax, Unsupported, DuplicateName, ReservedName, WrongShape, AllSkipped, AttrSyntax, AttrNotAllowed, LegacySyntax, AttrRepeated, AttrMixed, FieldCount, TupleLength, FieldConflict, MissingFormat, MissingAttr}
+use Rattle.dm_stream.specs.declared.error.Refusal.{Refusal}
 
 -- the name of a kind, as it is declared
 abbrev pub kind_name : Kind → List ℕ

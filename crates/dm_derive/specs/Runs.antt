@@ -1,10 +1,11 @@
 -- What a run does to the bytes of the source and of the sink, by how it ended.
 use Rattle.std.specs.Prelude.{◌≡◌, ℕ, ◌≤◌, ◌<◌, List, Option, length, take, ◌⊎◌}
 use Rattle.std.specs.Io.KnownBytes.{Consumes, Appends, Keeps, IsAtEnd}
-use Rattle.dm_tokens.specs.declared.error.Refusal.{Refusal}
+use Rattle.dm_stream.specs.declared.error.Refusal.{Refusal}
 use Rattle.dm_derive.specs.Derived.{Answers, Refuses, IsDerivable}
 use Rattle.dm_derive.specs.Line.{line_of}
 use Rattle.dm_derive.specs.Split.{HasLine, IsSplit}
+use Rattle.dm_derive.specs.declared.transfer.TheConstants.{LARGEST_INPUT}
 use Rattle.dm_derive.specs.declared.top.Status.{Status}
 use Rattle.dm_derive.specs.declared.top.Status.TheVariants.{Done, Refused, BadInput, ReadFault, WriteFault, NoMemory, Usage}
 
@@ -22,12 +23,12 @@ exit_code Usage = 6
 pub record WasRead (before now : Option (List ℕ)) (bytes : List ℕ) : Type 0 where
   pub taken : Consumes before now bytes
   pub «end» : IsAtEnd now
-  pub few : length bytes ≤ 1048576
+  pub few : length bytes ≤ LARGEST_INPUT
 
 -- more than the limit was read
 pub record IsTooMuch (before now : Option (List ℕ)) (bytes : List ℕ) : Type 0 where
   pub taken : Consumes before now bytes
-  pub many : 1048576 < length bytes
+  pub many : LARGEST_INPUT < length bytes
 
 -- the bytes name a trait and a declaration, and this text is the derive's answer
 pub record IsAnswered (bytes text : List ℕ) : Type 0 where
@@ -72,17 +73,17 @@ Ran left left' before now Usage = ⊥
 
 -- What a run without words does where the source tells its bytes.
 abbrev pub Means : List ℕ → Option (List ℕ) → Option (List ℕ) → Status → Type 0
-Means bytes before now Done = (length bytes ≤ 1048576) × Responds bytes before now Done
-Means bytes before now Refused = (length bytes ≤ 1048576) × Responds bytes before now Refused
-Means bytes before now BadInput = (1048576 < length bytes ⊎ ¬ (HasLine bytes)) × Keeps before now
+Means bytes before now Done = (length bytes ≤ LARGEST_INPUT) × Responds bytes before now Done
+Means bytes before now Refused = (length bytes ≤ LARGEST_INPUT) × Responds bytes before now Refused
+Means bytes before now BadInput = (LARGEST_INPUT < length bytes ⊎ ¬ (HasLine bytes)) × Keeps before now
 Means bytes before now ReadFault = Keeps before now
-Means bytes before now WriteFault = (length bytes ≤ 1048576) × Responds bytes before now WriteFault
+Means bytes before now WriteFault = (length bytes ≤ LARGEST_INPUT) × Responds bytes before now WriteFault
 Means bytes before now NoMemory = Keeps before now
 Means bytes before now Usage = ⊥
 
 -- the bytes name a trait and a declaration that it derives
 pub record IsAccepted (bytes : List ℕ) : Type 0 where
-  pub few : length bytes ≤ 1048576
+  pub few : length bytes ≤ LARGEST_INPUT
   pub name : List ℕ
   pub declaration : List ℕ
   pub split : IsSplit bytes name declaration

@@ -2,14 +2,17 @@
 #![tactic(auto, using(crate::proofs::Deriving::derive_steps))]
 
 ghost use Rattle.std.specs.Prelude.{◌≡◌, ◌↔◌, IsTrue, IfOk};
-ghost use Rattle.dm_tokens.specs.declared.error.Error.TheVariants as error;
-ghost use Rattle.dm_tokens.specs.declared.error.Kind.TheVariants as kind;
+ghost use Rattle.dm_stream.specs.declared.error.Error.TheVariants as error;
+ghost use Rattle.dm_stream.specs.declared.error.Kind.TheVariants as kind;
 ghost use Rattle.dm_derive.specs.Derived.{Answers, Derives, IsDerivable, IsKnown, IsUnrefused, Prints, Reads};
 
+use dm_ast::DeriveInput;
 use dm_cmp_ops::partial_eq;
 use dm_emit::Expansion;
-use dm_syntax::{DeriveInput, check_many_names, parse_decl};
-use dm_tokens::{Error, Kind, Refusal, Span, lex};
+use dm_lexer::lex;
+use dm_names::check_names_in;
+use dm_read_decl::parse_decl;
+use dm_stream::{Error, Kind, Refusal, Span};
 use std::alloc::Global;
 
 /// The implementations that the trait of this name derives for the declaration.
@@ -76,7 +79,7 @@ fn read<'a>(alloc: Global, decl: &'a str) -> Result<DeriveInput<'a>, Error>
 {
     let stream = lex(alloc, decl)?;
     let input = parse_decl(alloc, &stream)?;
-    check_many_names(alloc, &input)?;
+    check_names_in(alloc, &input)?;
     Ok(input)
 }
 

@@ -2,11 +2,9 @@
 #![tactic(auto)]
 
 mod derive;
-#[cfg(test)]
-mod derive_text_tests;
-#[cfg(test)]
-mod implementation_tests;
+mod ended;
 mod input;
+mod laws;
 mod line;
 mod memory;
 mod outside;
@@ -14,10 +12,10 @@ mod top;
 mod transfer;
 
 pub use derive::{derive_printed, derive_text};
+pub use ended::ended_run;
 pub use input::split;
+pub use laws::answers_once;
 pub use memory::{MemSink, MemSource};
 pub use outside::{Failed, Sink, Source};
 pub use top::{Status, derive_main};
-
-#[cfg(test)]
-mod tests;
+pub use transfer::LARGEST_INPUT;

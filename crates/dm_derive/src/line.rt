@@ -2,7 +2,7 @@ ghost use Rattle.std.specs.Prelude.{◌≡◌, IfOk};
 ghost use Rattle.std.specs.String.{string_bytes};
 ghost use Rattle.dm_derive.specs.Line.{kind_name, located_line, line_of};
 
-use dm_tokens::{Kind, Refusal};
+use dm_stream::{Kind, Refusal};
 use std::alloc::{AllocError, Global};
 
 fn name_of(kind: Kind) -> &'static str

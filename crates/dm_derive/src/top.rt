@@ -1,13 +1,14 @@
 ghost use Rattle.std.specs.Prelude.{◌≡◌, ◌≢◌, ◌↔◌, ℕ, [], IfSome};
 ghost use Rattle.dm_derive.specs.Causes.{Rose};
 ghost use Rattle.dm_derive.specs.Runs.{exit_code, Responds, Ran, Means, IsAccepted, IsFaultless, IsSilent};
+ghost use Rattle.dm_derive.specs.Turns.{Turns, Offered};
 
 use super::derive::derive_printed;
 use super::input::split;
 use super::line::refusal_line;
 use super::outside::{Failed, Sink, Source};
 use super::transfer::{ReadError, read_all, write_all};
-use dm_tokens::{Error, Refusal};
+use dm_stream::{Error, Refusal};
 use std::alloc::Global;
 
 /// How a run ended.
@@ -49,6 +50,7 @@ impl Status {
 /// Answers bytes that were read to the end, and writes the answer whole.
 fn respond<K: Sink>(alloc: Global, bytes: &[u8], sink: &mut K) -> Status
     ensures responds { Responds bytes.now (K.written sink.old) (K.written sink.new) result }
+    ensures offers { Offered (K.written sink.old) (K.written sink.new) (K.offers sink.old) (K.offers sink.new) result }
     ensures write { result ≡ Status.WriteFault → Rose (K.faults sink.old) (K.faults sink.new) }
     ensures silent { IsSilent result → sink.new ≡ sink.old }
 {
@@ -75,6 +77,8 @@ fn respond<K: Sink>(alloc: Global, bytes: &[u8], sink: &mut K) -> Status
 /// Reads all, answers, and writes the whole answer.
 fn run<S: Source, K: Sink>(alloc: Global, source: &mut S, sink: &mut K) -> Status
     ensures ran { Ran (S.left source.old) (S.left source.new) (K.written sink.old) (K.written sink.new) result }
+    ensures turns { Turns (S.reads source.old) (S.reads source.new) result }
+    ensures offers { Offered (K.written sink.old) (K.written sink.new) (K.offers sink.old) (K.offers sink.new) result }
     ensures read { result ≡ Status.ReadFault → Rose (S.faults source.old) (S.faults source.new) }
     ensures write { result ≡ Status.WriteFault → Rose (K.faults sink.old) (K.faults sink.new) }
     ensures silent { IsSilent result → sink.new ≡ sink.old }
@@ -99,6 +103,8 @@ pub fn derive_main<S: Source, K: Sink>(
     ensures idle { result ≡ Status.Usage → source.new ≡ source.old }
     ensures silent { IsSilent result → sink.new ≡ sink.old }
     ensures ran { words.now ≡ [] → Ran (S.left source.old) (S.left source.new) (K.written sink.old) (K.written sink.new) result }
+    ensures turns { words.now ≡ [] → Turns (S.reads source.old) (S.reads source.new) result }
+    ensures offers { Offered (K.written sink.old) (K.written sink.new) (K.offers sink.old) (K.offers sink.new) result }
     ensures told { words.now ≡ [] → IfSome (S.left source.old) (λ bytes. Means bytes (K.written sink.old) (K.written sink.new) result) }
     ensures complete { words.now ≡ [] → IfSome (S.left source.old) (λ bytes. IsAccepted bytes → IsFaultless result) }
     ensures read { result ≡ Status.ReadFault → Rose (S.faults source.old) (S.faults source.new) }

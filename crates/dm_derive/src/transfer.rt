@@ -2,12 +2,13 @@ ghost use Rattle.std.specs.Prelude.{◌≡◌, ◌≤◌, ◌<◌, ℕ, List, le
 ghost use Rattle.std.specs.Io.KnownBytes.{Appends};
 ghost use Rattle.dm_derive.specs.Causes.{Rose};
 ghost use Rattle.dm_derive.specs.Runs.{WasRead, IsTooMuch, AppendsPrefix};
+ghost use Rattle.dm_derive.specs.Turns.{ReadTurns, OffersToEnd, OffersPrefix};
 
 use super::outside::{Failed, Sink, Source};
 use std::alloc::Global;
 
-/// The most bytes that are read.
-pub const LIMIT: usize = 1_048_576;
+/// The largest input of a run, in bytes.
+pub const LARGEST_INPUT: usize = 1_048_576;
 
 /// How many bytes are asked for at once.
 const PORTION: usize = 65_536;
@@ -33,10 +34,11 @@ fn read_through<S: Source>(
     ensures all { IfOk result (λ v. WasRead (S.left source.old) (S.left source.new) v.items) }
     ensures too_much { IsErrOf result ReadError.TooMuch → (bytes : List ℕ) × IsTooMuch (S.left source.old) (S.left source.new) bytes }
     ensures fault { IsErrOf result ReadError.Fault → Rose (S.faults source.old) (S.faults source.new) }
+    ensures turns { ReadTurns (S.reads source.old) (S.reads source.new) result }
     ensures later { S.faults source.old ≤ S.faults source.new }
 {
     let mut bytes = Vec::new(alloc);
-    'turns: while bytes.len() <= LIMIT {
+    'turns: while bytes.len() <= LARGEST_INPUT {
         match source.read(buf) {
             Err(Failed) => return Err(ReadError::Fault),
             Ok(0) => return Ok(bytes),
@@ -55,6 +57,7 @@ pub fn read_all<S: Source>(alloc: Global, source: &mut S) -> Result<Vec<u8>, Rea
     ensures all { IfOk result (λ v. WasRead (S.left source.old) (S.left source.new) v.items) }
     ensures too_much { IsErrOf result ReadError.TooMuch → (bytes : List ℕ) × IsTooMuch (S.left source.old) (S.left source.new) bytes }
     ensures fault { IsErrOf result ReadError.Fault → Rose (S.faults source.old) (S.faults source.new) }
+    ensures turns { ReadTurns (S.reads source.old) (S.reads source.new) result }
     ensures later { S.faults source.old ≤ S.faults source.new }
 {
     match vec![in alloc; 0u8; PORTION] {
@@ -68,6 +71,8 @@ pub fn write_all<K: Sink>(sink: &mut K, text: &[u8]) -> Result<(), Failed>
     ensures ok { OnOk result (Appends (K.written sink.old) (K.written sink.new) text.now) }
     ensures front { OnErr result (AppendsPrefix (K.written sink.old) (K.written sink.new) text.now) }
     ensures fault { OnErr result (Rose (K.faults sink.old) (K.faults sink.new)) }
+    ensures whole { OnOk result (OffersToEnd (K.offers sink.old) (K.offers sink.new) text.now) }
+    ensures part { OnErr result (OffersPrefix (K.written sink.old) (K.written sink.new) (K.offers sink.old) (K.offers sink.new) text.now) }
     ensures later { K.faults sink.old ≤ K.faults sink.new }
 {
     let mut at = 0;

@@ -2,7 +2,7 @@
 use Rattle.std.proofs.Common.{◌≡◌, ℕ, suc, ◌+◌, ◌<◌, length, List, [], ◌∷◌, ◌++◌, map, drop, get_or, append_assoc, sym, ap, ◌∙◌, add-one}
 use Rattle.std.proofs.lemmas.List.{map-append}
 use Rattle.std.proofs.Math.Seq.{drop-cons}
-use Rattle.dm_tokens.specs.declared.tokens.Ident.{Ident}
+use Rattle.dm_stream.specs.declared.tokens.Ident.{Ident}
 use Rattle.dm_emit.specs.declared.expr.Expr.{Expr}
 use Rattle.dm_emit.specs.declared.expr.Stmt.TheVariants as s
 use Rattle.dm_emit.specs.declared.expr.ArmBody.TheOpen as open'

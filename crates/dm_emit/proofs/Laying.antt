@@ -1,15 +1,15 @@
 -- What holds of layouts step by step.
 use Rattle.std.specs.Prelude.{◌≡◌, ℕ, List, [], ◌∷◌, ◌++◌, Bool, true, false, codes, refl}
 use Rattle.std.proofs.Common.{ap, ◌∙◌, sym, append_assoc, append-nil}
-use Rattle.dm_tokens.specs.declared.tokens.Delim.{Delim}
-use Rattle.dm_tokens.specs.declared.tokens.Delim.TheVariants.{Paren, Bracket, Brace}
-use Rattle.dm_tokens.specs.declared.tokens.Token.{Token}
-use Rattle.dm_tokens.specs.declared.tokens.Entry.{Entry}
-use Rattle.dm_tokens.specs.declared.tokens.Entry.TheVariants as entry
-use Rattle.dm_tokens.specs.Trees.{Trees, no_trees, token, group, join, flatten}
-use Rattle.dm_tokens.specs.Layout.{Laid, laid, laid_one, laid_start, line_ended, opened, closed, layout, spaced, spelled, is_joint_punct}
+use Rattle.dm_stream.specs.declared.tokens.Delim.{Delim}
+use Rattle.dm_stream.specs.declared.tokens.Delim.TheVariants.{Paren, Bracket, Brace}
+use Rattle.dm_stream.specs.declared.tokens.Token.{Token}
+use Rattle.dm_stream.specs.declared.tokens.Entry.{Entry}
+use Rattle.dm_stream.specs.declared.tokens.Entry.TheVariants as entry
+use Rattle.dm_stream.specs.Trees.{Trees, no_trees, token, group, join, flatten}
+use Rattle.dm_stream.specs.Layout.{Laid, laid, laid_one, laid_start, line_ended, opened, closed, layout, spaced, spelled, is_joint_punct}
 use Rattle.std.proofs.lemmas.Grind.{common_steps}
-use Rattle.dm_tokens.proofs.Layouts.{laid-group}
+use Rattle.dm_layout.proofs.Layouts.{laid-group}
 use Rattle.dm_emit.specs.Laying.{put, begun, done, lay}
 use Rattle.dm_emit.specs.Output.{ItemTree}
 use Rattle.dm_emit.specs.Tokens.{item_trees, printed}

@@ -2,15 +2,15 @@
 use Rattle.std.specs.Prelude.{◌≡◌, ℕ, List, [], ◌∷◌, ◌++◌, map, Bool, true}
 use Rattle.std.proofs.Common.{ap, ◌∙◌, append_assoc}
 use Rattle.std.proofs.lemmas.Grind.{common_steps}
-use Rattle.dm_tokens.specs.declared.tokens.Span.{Span}
-use Rattle.dm_tokens.specs.Trees.{Trees}
-use Rattle.dm_tokens.specs.Layout.{Laid, layout}
-use Rattle.dm_syntax.specs.declared.ty.Path.{Path}
-use Rattle.dm_syntax.specs.declared.ty.QSelf.{QSelf}
-use Rattle.dm_syntax.specs.declared.ty.Bound.TheViews.{out-Path}
-use Rattle.dm_syntax.specs.Tree.{TypeTree, path, PathTree, path_tree, some_self, ty_view, self_view, path_view, segment_view, segments_of}
-use Rattle.dm_syntax.specs.TypeTokens.{node_trees, type_trees, qualified_trees, each_segment}
-use Rattle.dm_syntax.proofs.View.{view-Path, view-QSelf}
+use Rattle.dm_stream.specs.declared.tokens.Span.{Span}
+use Rattle.dm_stream.specs.Trees.{Trees}
+use Rattle.dm_stream.specs.Layout.{Laid, layout}
+use Rattle.dm_ast.specs.declared.ty.Path.{Path}
+use Rattle.dm_ast.specs.declared.ty.QSelf.{QSelf}
+use Rattle.dm_ast.specs.declared.ty.Bound.TheViews.{out-Path}
+use Rattle.dm_ast.specs.Tree.{TypeTree, path, PathTree, path_tree, some_self, ty_view, self_view, path_view, segment_view, segments_of}
+use Rattle.dm_ast.specs.TypeTokens.{node_trees, type_trees, qualified_trees, each_segment}
+use Rattle.dm_ast.proofs.View.{view-Path, view-QSelf}
 use Rattle.dm_emit.specs.Laying.{lay}
 use Rattle.dm_emit.proofs.Laying.{lay-text, print_steps}
 

@@ -3,10 +3,10 @@ use Rattle.std.proofs.Common.{◌≡◌, List, map, Bool, Option, Some, None, op
 use Rattle.std.proofs.lemmas.Grind.{common_steps}
 use Rattle.std.specs.declared.boxed.Box.{Box}
 use Rattle.std.specs.declared.alloc.Global.{Global}
-use Rattle.dm_tokens.specs.declared.tokens.Ident.{Ident}
-use Rattle.dm_syntax.specs.declared.ty.Path.{Path}
-use Rattle.dm_syntax.specs.Tree.{path_view, maybe_self_view}
-use Rattle.dm_syntax.proofs.View as syntax
+use Rattle.dm_stream.specs.declared.tokens.Ident.{Ident}
+use Rattle.dm_ast.specs.declared.ty.Path.{Path}
+use Rattle.dm_ast.specs.Tree.{path_view, maybe_self_view}
+use Rattle.dm_ast.proofs.View as syntax
 use Rattle.dm_emit.specs.declared.pattern.Binding.{Binding}
 use Rattle.dm_emit.specs.declared.pattern.Pattern.{Pattern}
 use Rattle.dm_emit.specs.declared.pattern.Pattern.TheVariants as p

@@ -1,9 +1,9 @@
 -- The layout of trees, step by step.
-use Rattle.dm_tokens.specs.declared.tokens.Delim.{Delim}
-use Rattle.dm_tokens.specs.declared.tokens.Token.{Token}
-use Rattle.dm_tokens.specs.declared.tokens.Entry.TheVariants as entry
-use Rattle.dm_tokens.specs.Trees.{Trees, no_trees, token, group}
-use Rattle.dm_tokens.specs.Layout.{Laid, laid_one, opened, closed}
+use Rattle.dm_stream.specs.declared.tokens.Delim.{Delim}
+use Rattle.dm_stream.specs.declared.tokens.Token.{Token}
+use Rattle.dm_stream.specs.declared.tokens.Entry.TheVariants as entry
+use Rattle.dm_stream.specs.Trees.{Trees, no_trees, token, group}
+use Rattle.dm_stream.specs.Layout.{Laid, laid_one, opened, closed}
 use Rattle.dm_emit.specs.Output.{BlockTree}
 use Rattle.dm_emit.specs.Tokens.{inside_trees}
 use Rattle.std.specs.Prelude.{◌≡◌}

@@ -2,9 +2,9 @@
 use Rattle.std.specs.Prelude.{List, [], ◌∷◌, map, Bool, Option, Some, None, option_map}
 use Rattle.std.specs.declared.boxed.Box.{Box}
 use Rattle.std.specs.declared.alloc.Global.{Global}
-use Rattle.dm_tokens.specs.declared.tokens.Ident.{Ident}
-use Rattle.dm_syntax.specs.Tree.{TypeTree, PathTree, MaybeSelf, ty_view, path_view, maybe_self_view}
-use Rattle.dm_syntax.specs.Declarations.{ParamTree, PredicateTree, param_view, predicate_view}
+use Rattle.dm_stream.specs.declared.tokens.Ident.{Ident}
+use Rattle.dm_ast.specs.Tree.{TypeTree, PathTree, MaybeSelf, ty_view, path_view, maybe_self_view}
+use Rattle.dm_ast.specs.Declarations.{ParamTree, PredicateTree, param_view, predicate_view}
 use Rattle.dm_emit.specs.declared.pattern.Binding.{Binding}
 use Rattle.dm_emit.specs.declared.pattern.Pattern.{Pattern}
 use Rattle.dm_emit.specs.declared.pattern.NamedPattern.{NamedPattern}

@@ -2,9 +2,9 @@
 -- right side is a place, a side and a number.
 use Rattle.std.specs.Prelude.{ℕ, suc, ◌+◌, List, [], ◌∷◌, length, Bool, true, false, not, cond, ◌&&◌, ◌||◌, eqb, Option, Some, None, codes, slice_get, option_and_then, option_map}
 use Rattle.std.specs.Str.{bytes_eq}
-use Rattle.dm_tokens.specs.declared.tokens.Ident.{Ident}
-use Rattle.dm_syntax.specs.Tree.{PathTree, path_tree, segment, SegmentTrees, no_segments, segment_then, absent, MaybeSelf, no_self, some_self}
-use Rattle.dm_syntax.specs.Declarations.{Declaration, FieldTree, FieldsTree, named, unnamed, unit}
+use Rattle.dm_stream.specs.declared.tokens.Ident.{Ident}
+use Rattle.dm_ast.specs.Tree.{PathTree, path_tree, segment, SegmentTrees, no_segments, segment_then, absent, MaybeSelf, no_self, some_self}
+use Rattle.dm_ast.specs.Declarations.{Declaration, FieldTree, FieldsTree, named, unnamed, unit}
 use Rattle.dm_emit.specs.Output.{PatternTree, wild, bind, tuple_pattern, named_pattern, pair_pattern, PatternTrees, no_patterns, pattern_then, NamedPatterns, no_named, named_then, ExprTree, or_expr, and_expr, equal, unequal, deref, path_expr, call, tuple, bool, match_expr, unsafe_expr, ExprTrees, no_exprs, expr_then, MaybeExpr, no_expr, some_expr, ArmTrees, no_arms, arm_then, ArmBodyTree, block_body, expr_body, BlockTree, last_expr, let_then, do_then, MethodTree, ParamOfMethod}
 use Rattle.dm_emit.specs.declared.item.Receiver.{Receiver}
 use Rattle.dm_emit.specs.Values.{Text, Value, Side, mine, theirs, Thing, truth, value, pair, place, discriminant, term, Case, cases, is_enum}

@@ -1,18 +1,18 @@
 -- The tokens of implementations, and their text. Puncts, words and delimiters that no part brings along stand at the range 0..0.
 -- `::`, `->`, `=>`, `==`, `!=`, `&&`, `||` and `..` are joint, other puncts alone.
 use Rattle.std.specs.Prelude.{ℕ, List, [], ◌∷◌, ◌++◌, map, true, cond, codes, Option, Some, None}
-use Rattle.dm_tokens.specs.declared.seq.Punctuated.{Punctuated}
-use Rattle.dm_tokens.specs.declared.tokens.Span.{Span}
-use Rattle.dm_tokens.specs.declared.tokens.Delim.{Delim}
-use Rattle.dm_tokens.specs.declared.tokens.Delim.TheVariants.{Paren, Bracket, Brace}
-use Rattle.dm_tokens.specs.declared.tokens.Lifetime.{Lifetime}
-use Rattle.dm_tokens.specs.Trees.{Trees, no_trees, join}
-use Rattle.dm_tokens.specs.Layout.{layout, nowhere}
-use Rattle.dm_syntax.specs.declared.plain.ConstArg.{ConstArg}
-use Rattle.dm_syntax.specs.Tree.{TypeTree, path, PathTree, MaybeSelf, BoundTree, bounds_of}
-use Rattle.dm_syntax.specs.Declarations.{Listed, ParamTree, lifetime_param, type_param, const_param, PredicateTree, lifetime_predicate, type_predicate}
-use Rattle.dm_syntax.specs.TypeTokens as syntax
-use Rattle.dm_syntax.specs.TypeTokens.{given, name, spaced, type_trees, path_trees, node_trees, for_trees, const_trees, attributes_trees, each_bound, listed, lifetime}
+use Rattle.dm_stream.specs.declared.seq.Punctuated.{Punctuated}
+use Rattle.dm_stream.specs.declared.tokens.Span.{Span}
+use Rattle.dm_stream.specs.declared.tokens.Delim.{Delim}
+use Rattle.dm_stream.specs.declared.tokens.Delim.TheVariants.{Paren, Bracket, Brace}
+use Rattle.dm_stream.specs.declared.tokens.Lifetime.{Lifetime}
+use Rattle.dm_stream.specs.Trees.{Trees, no_trees, join}
+use Rattle.dm_stream.specs.Layout.{layout, nowhere}
+use Rattle.dm_ast.specs.declared.plain.ConstArg.{ConstArg}
+use Rattle.dm_ast.specs.Tree.{TypeTree, path, PathTree, MaybeSelf, BoundTree, bounds_of}
+use Rattle.dm_ast.specs.Declarations.{Listed, ParamTree, lifetime_param, type_param, const_param, PredicateTree, lifetime_predicate, type_predicate}
+use Rattle.dm_ast.specs.TypeTokens as syntax
+use Rattle.dm_ast.specs.TypeTokens.{given, name, spaced, type_trees, path_trees, node_trees, for_trees, const_trees, attributes_trees, each_bound, listed, lifetime}
 use Rattle.dm_emit.specs.Output.{PatternTree, wild, bind, tuple_pattern, named_pattern, pair_pattern, PatternTrees, no_patterns, pattern_then, NamedPatterns, no_named, named_then, ExprTree, or_expr, and_expr, equal, unequal, deref, path_expr, call, tuple, bool, match_expr, unsafe_expr, ExprTrees, no_exprs, expr_then, MaybeExpr, no_expr, some_expr, ArmTree, ArmTrees, no_arms, arm_then, ArmBodyTree, block_body, expr_body, BlockTree, last_expr, let_then, do_then, AssocTree, ParamOfMethod, MethodTree, ItemTree}
 use Rattle.dm_emit.specs.declared.pattern.Binding.{Binding}
 use Rattle.dm_emit.specs.declared.pattern.Binding.TheVariants as binding

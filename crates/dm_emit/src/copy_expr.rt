@@ -2,13 +2,14 @@
 #![tactic(auto, using(crate::proofs::Copies::copy_steps))]
 
 ghost use Rattle.std.specs.Prelude.{◌≡◌, IfOk, map, option_map};
-ghost use Rattle.dm_syntax.specs.Tree.{path_view, maybe_self_view};
+ghost use Rattle.dm_ast.specs.Tree.{path_view, maybe_self_view};
 ghost use Rattle.dm_emit.specs.Output.{expr_view, block_view, stmt_view, arm_view, body_view};
 
 use crate::copy_pattern::copy_patterns;
 use crate::expr::{Arm, ArmBody, Block, Expr, PathExpr, Stmt};
-use dm_syntax::QSelf;
-use dm_tokens::Seq;
+use dm_ast::QSelf;
+use dm_copy::CloneIn;
+use dm_stream::Seq;
 use std::alloc::{AllocError, Global};
 
 impl<'a> PathExpr<'a> {
@@ -31,10 +32,7 @@ fn copy_self<'a>(
 {
     match qself {
         None => Ok(None),
-        Some(qself) => {
-            let qself = qself.clone_in(alloc)?;
-            Ok(Some(Box::new(alloc, qself)?))
-        }
+        Some(qself) => Ok(Some(qself.clone_in(alloc)?)),
     }
 }
 

@@ -2,14 +2,15 @@
 #![tactic(auto, using(crate::proofs::View::view_steps))]
 
 ghost use Rattle.std.specs.Prelude.{◌≡◌, IfOk, map, option_map};
-ghost use Rattle.dm_syntax.specs.Tree.{ty_view, path_view};
-ghost use Rattle.dm_syntax.specs.Declarations.{param_view, predicate_view};
+ghost use Rattle.dm_ast.specs.Tree.{ty_view, path_view};
+ghost use Rattle.dm_ast.specs.Declarations.{param_view, predicate_view};
 ghost use Rattle.dm_emit.specs.Output.{assoc_view, method_param_view, method_view, item_view};
 
 use crate::item::{Assoc, Item, ItemAttr, Method, MethodParam};
 use crate::print::Expansion;
-use dm_syntax::{GenericParam, Path, Ty, WherePredicate};
-use dm_tokens::Seq;
+use dm_ast::{GenericParam, Path, Ty, WherePredicate};
+use dm_copy::CloneIn;
+use dm_stream::Seq;
 use std::alloc::{AllocError, Global};
 
 impl<'a> Expansion<'a> {

@@ -5,7 +5,8 @@ ghost use Rattle.std.specs.Prelude.{◌≡◌, IfOk, map};
 ghost use Rattle.dm_emit.specs.Output.{pattern_view, named_view};
 
 use crate::pattern::{NamedPattern, Pattern};
-use dm_tokens::Seq;
+use dm_copy::CloneIn;
+use dm_stream::Seq;
 use std::alloc::{AllocError, Global};
 
 impl<'a> Pattern<'a> {

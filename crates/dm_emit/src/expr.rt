@@ -1,8 +1,8 @@
 //! Expressions, blocks and arms.
 
 use crate::pattern::Pattern;
-use dm_syntax::{Path, QSelf};
-use dm_tokens::{Ident, Seq};
+use dm_ast::{Path, QSelf};
+use dm_stream::{Ident, Seq};
 
 /// A path, or a qualified one, as an expression.
 #[derive(Drop)]

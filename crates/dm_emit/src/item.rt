@@ -1,8 +1,8 @@
 //! Implementations.
 
 use crate::expr::Block;
-use dm_syntax::{GenericParam, Path, Ty, WherePredicate};
-use dm_tokens::{Ident, Seq};
+use dm_ast::{GenericParam, Path, Ty, WherePredicate};
+use dm_stream::{Ident, Seq};
 
 /// An attribute of an implementation or a method, in `#[..]`.
 #[derive(Clone, Copy, Debug, PartialEq, Eq)]

@@ -1,7 +1,7 @@
 //! Patterns.
 
-use dm_syntax::Path;
-use dm_tokens::{Ident, Seq};
+use dm_ast::Path;
+use dm_stream::{Ident, Seq};
 
 /// How a name in a pattern binds: `x`, `ref x` or `ref mut x`.
 #[derive(Clone, Copy, Debug, PartialEq, Eq)]

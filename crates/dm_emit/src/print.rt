@@ -2,7 +2,7 @@
 #![tactic(auto, using(crate::proofs::Lines::line_steps))]
 
 ghost use Rattle.std.specs.Prelude.{◌≡◌, [], ◌∷◌, ◌++◌, map, true, IfOk, OnOk, string_bytes};
-ghost use Rattle.dm_tokens.specs.Layout.{layout};
+ghost use Rattle.dm_stream.specs.Layout.{layout};
 ghost use Rattle.dm_emit.specs.Output.{item_view};
 ghost use Rattle.dm_emit.specs.Tokens.{printed, item_trees};
 
@@ -14,7 +14,8 @@ mod pattern;
 pub mod token;
 
 use crate::item::Item;
-use dm_tokens::{Layout, Seq, Text};
+use dm_layout::Layout;
+use dm_stream::{Seq, Text};
 use std::alloc::{AllocError, Global};
 
 /// Items with their text.

@@ -1,10 +1,10 @@
 -- What holds of fronts that are read tree by tree.
 use Rattle.std.specs.Prelude.{◌≡◌, ℕ, zero, suc, ◌<◌, ◌≤◌, ◌+◌, ◌-◌, Bool, true, false, if◌then◌else◌, None, Some, refl}
 use Rattle.std.proofs.Common.{ap, ◌∙◌, sym, arith, add_assoc}
-use Rattle.dm_tokens.specs.declared.tokens.Punct.{Punct}
-use Rattle.dm_tokens.specs.Trees.{Trees, no_trees, token, group}
-use Rattle.dm_tokens.specs.Cursors.{first_punct, first_tree}
-use Rattle.dm_tokens.specs.Sizes.{size}
+use Rattle.dm_stream.specs.declared.tokens.Punct.{Punct}
+use Rattle.dm_stream.specs.Trees.{Trees, no_trees, token, group}
+use Rattle.dm_stream.specs.Cursors.{first_punct, first_tree}
+use Rattle.dm_stream.specs.Sizes.{size}
 use Rattle.dm_expr.specs.Cuts.{Front, after, after_tree, closed_at, waiting, is_char}
 
 pub after-after : (m n : ℕ) (f : Front) → after m (after n f) ≡ after (m + n) f

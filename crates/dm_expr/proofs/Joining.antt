@@ -1,9 +1,9 @@
 -- What is taken from a list and what is left make up the list.
 use Rattle.std.specs.Prelude.{◌≡◌, ℕ, zero, suc, true, Option, None, Some, [], ◌∷◌, refl}
 use Rattle.std.proofs.Common.{ap, ◌∙◌, subst}
-use Rattle.dm_tokens.specs.declared.tokens.Token.{Token}
-use Rattle.dm_tokens.specs.Trees.{Trees, no_trees, token, group, join}
-use Rattle.dm_tokens.specs.Cursors.{split_trees, before}
+use Rattle.dm_stream.specs.declared.tokens.Token.{Token}
+use Rattle.dm_stream.specs.Trees.{Trees, no_trees, token, group, join}
+use Rattle.dm_stream.specs.Cursors.{split_trees, before}
 use Rattle.dm_expr.specs.Cuts.{Front, run_at, split_at}
 use Rattle.dm_expr.specs.Lists.{cuts_none, cuts_last, cuts_more, IsJoined, NothingIsLost}
 

@@ -3,9 +3,9 @@ use Rattle.std.specs.Prelude.{◌≡◌, ℕ, zero, suc, ◌≤◌, ◌+◌, ◌
 use Rattle.std.proofs.Common.{ap, ◌∙◌, sym, arith}
 use Rattle.std.specs.Bool.{OnFalse}
 use Rattle.std.proofs.lemmas.Bool.{ltb-false}
-use Rattle.dm_tokens.specs.Trees.{Trees, no_trees, token, group}
-use Rattle.dm_tokens.specs.Cursors.{first_tree}
-use Rattle.dm_tokens.specs.Sizes.{size}
+use Rattle.dm_stream.specs.Trees.{Trees, no_trees, token, group}
+use Rattle.dm_stream.specs.Cursors.{first_tree}
+use Rattle.dm_stream.specs.Sizes.{size}
 use Rattle.dm_expr.specs.Cuts.{Front, after, and_then, one_if, is_char, path_sep_at, closed_at, pair_at, sep_args_at, args_sep_at}
 use Rattle.dm_expr.specs.Reach.{is_there, closes, one_further, reach, further}
 use Rattle.dm_expr.proofs.Running.{skip, IsBehind, Behind, path_sep-behind}

@@ -1,11 +1,11 @@
 -- How runs follow from the units that they are made of.
 use Rattle.std.specs.Prelude.{◌≡◌, ℕ, zero, suc, ◌<◌, ◌≤◌, ◌+◌, ◌-◌, Bool, true, false, None, Some, refl}
 use Rattle.std.proofs.Common.{ap, ◌∙◌, sym, subst, arith}
-use Rattle.dm_tokens.specs.declared.tokens.Spacing.{Spacing}
-use Rattle.dm_tokens.specs.declared.tokens.Spacing.TheVariants.{Joint}
-use Rattle.dm_tokens.specs.Trees.{Trees, no_trees, token, group}
+use Rattle.dm_stream.specs.declared.tokens.Spacing.{Spacing}
+use Rattle.dm_stream.specs.declared.tokens.Spacing.TheVariants.{Joint}
+use Rattle.dm_stream.specs.Trees.{Trees, no_trees, token, group}
 use Rattle.dm_expr.specs.declared.units.Unit.TheVariants as unit
-use Rattle.dm_tokens.specs.Sizes.{size}
+use Rattle.dm_stream.specs.Sizes.{size}
 use Rattle.dm_expr.specs.Cuts.{Front, Found, Run, after, and_then, one_if, is_char, is_spaced, waiting, punct_at, spaced_at, path_sep_at, tree_at, closed_at, pair_at, sep_args_at, args_sep_at, bars_at, or_else, unless, unit_at, unit_size, one_more, goes_on, run_from, some_run, run_at}
 
 -- the trees behind the first n

@@ -1,11 +1,11 @@
 -- What stands at the front of a list of trees. Each is said by the number of its trees and the trees behind it.
 use Rattle.std.specs.Prelude.{ℕ, zero, suc, ◌+◌, ◌-◌, Bool, true, false, nat_eq, if◌then◌else◌, Option, None, Some}
-use Rattle.dm_tokens.specs.declared.tokens.Spacing.{Spacing}
-use Rattle.dm_tokens.specs.declared.tokens.Spacing.TheVariants.{Joint, Alone}
-use Rattle.dm_tokens.specs.declared.tokens.Token.{Token}
-use Rattle.dm_tokens.specs.declared.tokens.Token.TheVariants as t
-use Rattle.dm_tokens.specs.Trees.{Trees, no_trees, token, group}
-use Rattle.dm_tokens.specs.Cursors.{split_trees}
+use Rattle.dm_stream.specs.declared.tokens.Spacing.{Spacing}
+use Rattle.dm_stream.specs.declared.tokens.Spacing.TheVariants.{Joint}
+use Rattle.dm_stream.specs.declared.tokens.Token.{Token}
+use Rattle.dm_stream.specs.declared.tokens.Token.TheVariants as t
+use Rattle.dm_stream.specs.Trees.{Trees, no_trees, token, group}
+use Rattle.dm_stream.specs.Cursors.{split_trees, same_spacing}
 use Rattle.dm_expr.specs.declared.units.Unit.{Unit}
 use Rattle.dm_expr.specs.declared.units.Unit.TheVariants as unit
 
@@ -32,11 +32,6 @@ split_at (Some r) ts = split_trees r.0 ts
 abbrev pub is_char : ℕ → Token → Bool
 is_char p (t.Punct q) = nat_eq q.ch p
 is_char p _ = false
-
-abbrev pub same_spacing : Spacing → Spacing → Bool
-same_spacing Joint Joint = true
-same_spacing Alone Alone = true
-same_spacing _ _ = false
 
 -- whether a token is this punct with this spacing
 abbrev pub is_spaced : ℕ → Spacing → Token → Bool

@@ -1,7 +1,7 @@
 -- Lists of expressions.
 use Rattle.std.specs.Prelude.{◌≡◌, true, Some, List, [], ◌∷◌}
-use Rattle.dm_tokens.specs.declared.tokens.Token.{Token}
-use Rattle.dm_tokens.specs.Trees.{Trees, no_trees, token, join}
+use Rattle.dm_stream.specs.declared.tokens.Token.{Token}
+use Rattle.dm_stream.specs.Trees.{Trees, no_trees, token, join}
 use Rattle.dm_expr.specs.Cuts.{is_char, run_at, split_at}
 
 -- The trees are these runs with commas between, and perhaps one behind the last.

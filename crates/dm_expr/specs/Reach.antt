@@ -1,6 +1,6 @@
 -- How far on in a list a pair `<..>` can be closed.
 use Rattle.std.specs.Prelude.{ℕ, zero, suc, ◌+◌, Bool, true, false, nat_lt, None, Some}
-use Rattle.dm_tokens.specs.Trees.{Trees, no_trees, token, group}
+use Rattle.dm_stream.specs.Trees.{Trees, no_trees, token, group}
 use Rattle.dm_expr.specs.declared.units.Pairs.{Pairs}
 use Rattle.dm_expr.specs.Cuts.{Front, punct_at, path_sep_at, and_then}
 

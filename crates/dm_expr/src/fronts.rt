@@ -1,9 +1,9 @@
 ghost use Rattle.std.specs.Prelude.{◌≡◌, ◌+◌, ◌<◌, ◌≤◌, ◌^◌, None, Some, MatchOption, IfSome};
-ghost use Rattle.dm_tokens.specs.Cursors.{left, end_of, sound, trees_in, piece_end, sound_piece, first_tree, IsPlaceAfter};
-ghost use Rattle.dm_tokens.specs.Sizes.{size};
-ghost use Rattle.dm_expr.specs.Cuts.{punct_at, spaced_at, path_sep_at, tree_at, pair_at, closed_at, after_tree, split_at, same_spacing};
+ghost use Rattle.dm_stream.specs.Cursors.{left, end_of, sound, trees_in, piece_end, sound_piece, first_tree, IsPlaceAfter};
+ghost use Rattle.dm_stream.specs.Sizes.{size};
+ghost use Rattle.dm_expr.specs.Cuts.{punct_at, spaced_at, path_sep_at, tree_at, pair_at, closed_at, after_tree, split_at};
 
-use dm_tokens::{Cursor, Piece, Spacing};
+use dm_stream::{Cursor, Piece, Spacing};
 
 /// `::`, where the list begins with a `:` that touches the `:` behind it.
 pub fn path_sep<'t, 'a>(c: Cursor<'t, 'a>) -> Option<(Piece<'t, 'a>, Cursor<'t, 'a>)>
@@ -95,7 +95,7 @@ fn spaced_size<'t, 'a>(
     ensures place { IfSome result (λ r. IsPlaceAfter c.entry r.1) }
 {
     let (found, rest) = c.punct()?;
-    if found.ch == p && is_same_spacing(found.spacing, spacing) {
+    if found.ch == p && found.spacing == spacing {
         Some((1, rest))
     } else {
         None
@@ -112,16 +112,6 @@ pub(crate) fn punct_size<'t, 'a>(p: char, c: Cursor<'t, 'a>) -> Option<(usize, C
     if found.ch == p { Some((1, rest)) } else { None }
 }
 
-fn is_same_spacing(a: Spacing, b: Spacing) -> bool
-    ensures { result ≡ same_spacing a b }
-{
-    match (a, b) {
-        (Spacing::Joint, Spacing::Joint) => true,
-        (Spacing::Alone, Spacing::Alone) => true,
-        _ => false,
-    }
-}
-
 /// The number of trees of a balanced pair, and the place behind it.
 pub(crate) fn pair_size<'t, 'a>(
     opener: char,
@@ -133,8 +123,6 @@ pub(crate) fn pair_size<'t, 'a>(
     ensures counts { IfSome result (λ r. r.0 + size (left r.1) ≡ size (left c.entry)) }
     ensures place { IfSome result (λ r. IsPlaceAfter c.entry r.1) }
 {
-    // So many trees can be counted.
-    let _most = c.most_trees();
     let (mut count, mut at) = punct_size(opener, c)?;
     let mut depth = 1;
     while depth > 0 {

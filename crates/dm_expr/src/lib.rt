@@ -10,8 +10,6 @@
 mod fronts;
 mod laws;
 mod runs;
-#[cfg(test)]
-mod tests;
 mod units;
 
 pub use fronts::{balanced_pair, path_sep, punct, punct_with_spacing, token_tree};

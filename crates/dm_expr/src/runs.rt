@@ -1,12 +1,12 @@
 ghost use Rattle.std.specs.Prelude.{◌≡◌, ◌+◌, ◌-◌, ◌^◌, ◌<◌, ◌≤◌, true, false, None, Some, MatchOption, IfSome};
-ghost use Rattle.dm_tokens.specs.Cursors.{left, end_of, sound, trees_in, piece_end, sound_piece, IsPlaceAfter};
-ghost use Rattle.dm_tokens.specs.Sizes.{size};
+ghost use Rattle.dm_stream.specs.Cursors.{left, end_of, sound, trees_in, piece_end, sound_piece, IsPlaceAfter};
+ghost use Rattle.dm_stream.specs.Sizes.{size};
 ghost use Rattle.dm_expr.specs.Cuts.{run_at, split_at};
 ghost use Rattle.dm_expr.specs.Reach.{reach, closes, pairs_behind};
 
 use super::fronts::{path_sep_size, punct_size};
 use super::units::{Pairs, Unit, unit_here};
-use dm_tokens::{Cursor, Piece};
+use dm_stream::{Cursor, Piece};
 
 /// An expression: one or more units, up to a comma or the end of the list. So none begins at a comma or at the end. The comma
 /// is left.
@@ -43,7 +43,7 @@ fn run_size<'t, 'a>(with_bars: bool, c: Cursor<'t, 'a>) -> Option<(usize, Cursor
     ensures gives { MatchOption result (run_at with_bars (left c.entry) ≡ None) (λ r. run_at with_bars (left c.entry) ≡ Some (r.0, left r.1)) }
     ensures place { IfSome result (λ r. IsPlaceAfter c.entry r.1) }
 {
-    let most = c.most_trees();
+    let most = c.len();
     let mut ends = PairEnds {
         last: most,
         last_before_sep: most,
@@ -108,8 +108,6 @@ fn last_close(before_sep: bool, c: Cursor<'_, '_>) -> usize
     ensures gives { result ≡ reach before_sep (left c.entry) }
     ensures fits { result ≤ size (left c.entry) }
 {
-    // So many trees can be counted.
-    let _most = c.most_trees();
     let mut at = c;
     let mut passed = 0;
     let mut last = 0;

@@ -1,12 +1,12 @@
 ghost use Rattle.std.specs.Prelude.{◌≡◌, ◌+◌, true, false, None, Some, MatchOption, IfSome};
-ghost use Rattle.dm_tokens.specs.Cursors.{left, end_of, sound, trees_in, piece_end, sound_piece, IsPlaceAfter};
-ghost use Rattle.dm_tokens.specs.Sizes.{size};
+ghost use Rattle.dm_stream.specs.Cursors.{left, end_of, sound, trees_in, piece_end, sound_piece, IsPlaceAfter};
+ghost use Rattle.dm_stream.specs.Sizes.{size};
 ghost use Rattle.dm_expr.specs.Cuts.{sep_args_at, args_sep_at, bars_at, unit_at, split_unit};
 ghost use Rattle.dm_expr.specs.Reach.{reach};
 ghost use Rattle.std.specs.Bool.{OnFalse};
 
 use super::fronts::{pair_size, path_sep_size, punct_size};
-use dm_tokens::{Cursor, Piece};
+use dm_stream::{Cursor, Piece};
 
 /// What an expression is made of.
 #[derive(Clone, Copy, Debug, PartialEq, Eq)]
@@ -89,8 +89,6 @@ fn sep_args_size<'t, 'a>(closed: bool, c: Cursor<'t, 'a>) -> Option<(usize, Curs
     if !closed {
         return None;
     }
-    // So many trees can be counted.
-    let _most = c.most_trees();
     let (front, rest) = path_sep_size(c)?;
     let (back, rest) = pair_size('<', '>', rest)?;
     Some((front + back, rest))
@@ -111,8 +109,6 @@ fn args_sep_size<'t, 'a>(
     if !closed_before_sep {
         return None;
     }
-    // So many trees can be counted.
-    let _most = c.most_trees();
     let (front, rest) = pair_size('<', '>', c)?;
     let (back, rest) = path_sep_size(rest)?;
     Some((front + back, rest))

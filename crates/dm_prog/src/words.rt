@@ -1,7 +1,10 @@
-ghost use Rattle.std.specs.Prelude.{◌≡◌, ◌≢◌, ◌⊎◌, IfErr, drop};
+ghost use Rattle.std.specs.Prelude.{◌≡◌, ◌≢◌, ◌⊎◌, IfErr, IfOk};
+ghost use Rattle.std.specs.Iterator.{Drains};
 
 use dm_derive::Status;
+use std::alloc::Global;
 use std::env;
+use std::env::Args;
 use std::io::ErrorKind;
 use std::rt::Env;
 
@@ -9,11 +12,21 @@ use std::rt::Env;
 pub fn all_words<R: Env + AllocGlobal>(rt: &R) -> Result<Vec<String>, Status>
     ensures { IfErr result (λ status. (status ≡ Status.NoMemory) ⊎ (status ≡ Status.Usage)) }
 {
-    let words = match env::args(rt) {
-        Ok(words) => words,
-        Err(error) => return Err(status_of(error.kind())),
-    };
-    words.collect(rt.alloc()).map_err(|_| Status::NoMemory)
+    match env::args(rt) {
+        Ok(words) => collected(rt.alloc(), words),
+        Err(error) => Err(status_of(error.kind())),
+    }
+}
+
+/// All these words in a vector.
+fn collected(alloc: Global, words: Args) -> Result<Vec<String>, Status>
+    ensures all { IfOk result (λ all. Drains ⟦<Args as Iterator>⟧.next_gives words all.items) }
+    ensures memory { IfErr result (λ status. status ≡ Status.NoMemory) }
+{
+    match words.collect::<Vec<String>>(alloc) {
+        Ok(all) => Ok(all),
+        Err(_) => Err(Status::NoMemory),
+    }
 }
 
 /// How a run ends whose words can't be read for this cause.
@@ -24,15 +37,5 @@ fn status_of(kind: ErrorKind) -> Status
     match kind {
         ErrorKind::OutOfMemory => Status::NoMemory,
         _ => Status::Usage,
-    }
-}
-
-/// The words after the name.
-pub fn after_name(words: &[String]) -> &[String]
-    ensures { result.now ≡ drop 1 words.now }
-{
-    match words {
-        [] => words,
-        [_, rest @ ..] => rest,
     }
 }

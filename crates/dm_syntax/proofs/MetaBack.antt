@@ -1,18 +1,18 @@
 -- Bare paths and metas have the tokens that were read, ranges and spacing aside.
 use Rattle.std.proofs.Common.{true, false, [], ◌∷◌, ◌++◌, sym, ap, ◌∙◌, append_assoc}
-use Rattle.dm_tokens.specs.declared.tokens.Delim.{Delim}
-use Rattle.dm_tokens.specs.declared.tokens.Delim.TheVariants.{Paren}
-use Rattle.dm_tokens.specs.declared.tokens.Token.TheVariants as t
-use Rattle.dm_tokens.specs.declared.tokens.Span.{Span}
-use Rattle.dm_tokens.specs.Layout.{nowhere}
-use Rattle.dm_tokens.specs.Trees.{Trees, join, Stream}
-use Rattle.dm_syntax.specs.Tree.{PathTree, path_tree, SegmentTree, segment, SegmentTrees, no_segments, segment_then, ArgumentsTree, absent, angle, parens}
-use Rattle.dm_syntax.specs.Spelling.{Where, deeper, Marks, sees_colons, colons, GroupAt}
-use Rattle.dm_syntax.specs.TypeGrammar.{kept}
-use Rattle.dm_syntax.specs.BareTokens.{opening, closing, tokens_of}
-use Rattle.dm_syntax.specs.TypeTokens as spell
-use Rattle.dm_syntax.specs.BarePaths.{bare_arguments, bare_segment, bare_segments, bare_segments_left, bare_path}
-use Rattle.dm_syntax.specs.Metas.{PathOrKeywordTree, a_path, keyword, MetaListTree, MetaTree, path_meta, list_meta, NestedMetaTree, nested, lit, path_or_keyword, meta_list, meta_spelled, nested_meta, path_or_keyword_trees, meta_list_trees, meta_trees, nested_meta_trees}
+use Rattle.dm_stream.specs.declared.tokens.Delim.{Delim}
+use Rattle.dm_stream.specs.declared.tokens.Delim.TheVariants.{Paren}
+use Rattle.dm_stream.specs.declared.tokens.Token.TheVariants as t
+use Rattle.dm_stream.specs.declared.tokens.Span.{Span}
+use Rattle.dm_stream.specs.Layout.{nowhere}
+use Rattle.dm_stream.specs.Trees.{Trees, join, Stream}
+use Rattle.dm_ast.specs.Tree.{PathTree, path_tree, SegmentTree, segment, SegmentTrees, no_segments, segment_then, ArgumentsTree, absent, angle, parens}
+use Rattle.dm_ast.specs.Spelling.{Where, deeper, Marks, sees_colons, colons, GroupAt}
+use Rattle.dm_ast.specs.TypeGrammar.{kept}
+use Rattle.dm_type_eq.specs.BareTokens.{opening, closing, tokens_of}
+use Rattle.dm_ast.specs.TypeTokens as spell
+use Rattle.dm_read_types.specs.BarePaths.{bare_arguments, bare_segment, bare_segments, bare_segments_left, bare_path}
+use Rattle.dm_meta.specs.Metas.{PathOrKeywordTree, a_path, keyword, MetaListTree, MetaTree, path_meta, list_meta, NestedMetaTree, nested, lit, path_or_keyword, meta_list, meta_spelled, nested_meta, path_or_keyword_trees, meta_list_trees, meta_trees, nested_meta_trees}
 use Rattle.dm_syntax.specs.WrittenBack.{Keeps, Gives, IsListBack}
 use Rattle.dm_syntax.proofs.SpelledBack.{gives_join, gives_none, gives_token, gives_pair, gives_flag, gives_kept, gives_angle, gives_arguments}
 

@@ -2,29 +2,29 @@
 use Rattle.std.proofs.Common.{◌≡◌, ℕ, zero, suc, ◌+◌, Bool, true, false, cond, ◌==◌, List, [], ◌∷◌, ◌++◌, map, take, drop, codes, Option, Some, None, sym, ap, ap₂, ◌∙◌, append_assoc, append-nil, arith}
 use Rattle.std.proofs.lemmas.Bool.{ne_eqb}
 use Rattle.std.proofs.lemmas.List.{map-append}
-use Rattle.dm_tokens.specs.declared.tokens.Span.{Span}
-use Rattle.dm_tokens.specs.declared.tokens.Delim.{Delim}
-use Rattle.dm_tokens.specs.declared.tokens.Delim.TheVariants.{Paren, Bracket, Brace}
-use Rattle.dm_tokens.specs.declared.tokens.Ident.{Ident}
-use Rattle.dm_tokens.specs.declared.tokens.Lifetime.{Lifetime}
-use Rattle.dm_tokens.specs.declared.tokens.Literal.{Literal}
-use Rattle.dm_tokens.specs.declared.tokens.Spacing.TheVariants.{Alone}
-use Rattle.dm_tokens.specs.declared.tokens.Token.TheVariants as t
-use Rattle.dm_tokens.specs.Trees.{Trees, no_trees, join, Stream, join-no_trees, join_assoc}
-use Rattle.dm_syntax.specs.declared.plain.Opaque.{Opaque}
-use Rattle.dm_syntax.specs.declared.plain.PlainPath.{PlainPath}
-use Rattle.dm_syntax.specs.declared.plain.AttrArgs.{AttrArgs}
-use Rattle.dm_syntax.specs.declared.plain.AttrArgs.TheVariants as args
-use Rattle.dm_syntax.specs.declared.plain.Attribute.{Attribute}
-use Rattle.dm_syntax.specs.declared.plain.ConstArg.{ConstArg}
-use Rattle.dm_syntax.specs.declared.plain.ConstArg.TheVariants as constant
-use Rattle.dm_syntax.specs.Tree.{Lifetimes, TypeTree, type_tree, TypeNode, paren, tuple, slice, array, reference, pointer, bare_fn, trait_object, impl_trait, infer, never, path, macro_type, TypeTrees, no_types, type_then, MaybeType, no_type, some_type, no_self, some_self, BoundTree, outlives, implements, BoundTrees, no_bounds, bound_then, TraitBoundTree, trait_bound, FnTree, fn_tree, InputTree, input, InputTrees, no_inputs, input_then, PathTree, path_tree, SegmentTree, segment, SegmentTrees, no_segments, segment_then, ArgumentsTree, absent, angle, parens, ArgumentTree, lifetime_arg, type_arg, const_arg, assoc_type, assoc_const, constraint, ArgumentTrees, no_arguments, argument_then, MaybeArguments, arguments_absent, some_arguments}
-use Rattle.dm_syntax.specs.Spelling.{Where, deeper, Marks, Spelling, ◌then◌, TokenAt, PairAt, LoneAt, GroupAt, at_end, sees, sees_word, sees_lifetime, sees_literal, sees_colons, ident, lifetime, literal, punct, keyword, colons, flag, perhaps, repeated, chain, items, items_left, last_item, no_items, AllAt}
-use Rattle.dm_syntax.specs.TypeGrammar.{plain_path, opaque, kept, attribute_args, attribute, attributes, between_angles, for_lifetimes, constant_spelled, type_spelled, node, types, types_left, output, function, input_spelled, inputs, inputs_left, bound, trait_bound_spelled, some_bounds, more_bounds, bounds, bounds_left, path_spelled, segments, segments_left, qualified, trait_segments, some_segments_left, segment_spelled, arguments_of_segment, arguments, arguments_left, argument, maybe_angled, ends_bounds}
-use Rattle.dm_syntax.specs.TypeTokens as spell
-use Rattle.dm_syntax.specs.BareTokens.{bare_punct, opening, closing, tokens_of, unspaced, spelled_of}
+use Rattle.dm_stream.specs.declared.tokens.Span.{Span}
+use Rattle.dm_stream.specs.declared.tokens.Delim.{Delim}
+use Rattle.dm_stream.specs.declared.tokens.Delim.TheVariants.{Paren, Bracket, Brace}
+use Rattle.dm_stream.specs.declared.tokens.Ident.{Ident}
+use Rattle.dm_stream.specs.declared.tokens.Lifetime.{Lifetime}
+use Rattle.dm_stream.specs.declared.tokens.Literal.{Literal}
+use Rattle.dm_stream.specs.declared.tokens.Spacing.TheVariants.{Alone}
+use Rattle.dm_stream.specs.declared.tokens.Token.TheVariants as t
+use Rattle.dm_stream.specs.Trees.{Trees, no_trees, join, Stream, join-no_trees, join_assoc}
+use Rattle.dm_ast.specs.declared.plain.Opaque.{Opaque}
+use Rattle.dm_ast.specs.declared.plain.PlainPath.{PlainPath}
+use Rattle.dm_ast.specs.declared.plain.AttrArgs.{AttrArgs}
+use Rattle.dm_ast.specs.declared.plain.AttrArgs.TheVariants as args
+use Rattle.dm_ast.specs.declared.plain.Attribute.{Attribute}
+use Rattle.dm_ast.specs.declared.plain.ConstArg.{ConstArg}
+use Rattle.dm_ast.specs.declared.plain.ConstArg.TheVariants as constant
+use Rattle.dm_ast.specs.Tree.{Lifetimes, TypeTree, type_tree, TypeNode, paren, tuple, slice, array, reference, pointer, bare_fn, trait_object, impl_trait, infer, never, path, macro_type, TypeTrees, no_types, type_then, MaybeType, no_type, some_type, no_self, some_self, BoundTree, outlives, implements, BoundTrees, no_bounds, bound_then, TraitBoundTree, trait_bound, FnTree, fn_tree, InputTree, input, InputTrees, no_inputs, input_then, PathTree, path_tree, SegmentTree, segment, SegmentTrees, no_segments, segment_then, ArgumentsTree, absent, angle, parens, ArgumentTree, lifetime_arg, type_arg, const_arg, assoc_type, assoc_const, constraint, ArgumentTrees, no_arguments, argument_then, MaybeArguments, arguments_absent, some_arguments}
+use Rattle.dm_ast.specs.Spelling.{Where, deeper, Marks, Spelling, ◌then◌, TokenAt, PairAt, LoneAt, GroupAt, at_end, sees, sees_word, sees_lifetime, sees_literal, sees_colons, ident, lifetime, literal, punct, keyword, colons, flag, perhaps, repeated, chain, items, items_left, last_item, no_items, AllAt}
+use Rattle.dm_ast.specs.TypeGrammar.{plain_path, opaque, kept, attribute_args, attribute, attributes, between_angles, for_lifetimes, constant_spelled, type_spelled, node, types, types_left, output, function, input_spelled, inputs, inputs_left, bound, trait_bound_spelled, some_bounds, more_bounds, bounds, bounds_left, path_spelled, segments, segments_left, qualified, trait_segments, some_segments_left, segment_spelled, arguments_of_segment, arguments, arguments_left, argument, maybe_angled, ends_bounds}
+use Rattle.dm_ast.specs.TypeTokens as spell
+use Rattle.dm_type_eq.specs.BareTokens.{bare_punct, opening, closing, tokens_of, unspaced, spelled_of}
 use Rattle.dm_syntax.specs.WrittenBack.{Gives}
-use Rattle.dm_syntax.proofs.SameTokens.{tokens_join}
+use Rattle.dm_type_eq.proofs.SameTokens.{tokens_join}
 
 suc_apart : (n : ℕ) → (suc n == 0) ≡ false
 suc_apart n = ne_eqb (suc n) 0 (λ e. omega (arith, e))

@@ -1,15 +1,15 @@
 -- What was read is written with the tokens that it was read from.
 use Rattle.std.specs.Prelude.{◌≡◌, Bool, ◌++◌}
-use Rattle.dm_tokens.specs.declared.tokens.Delim.TheVariants.{Paren}
-use Rattle.dm_tokens.specs.Layout.{nowhere}
-use Rattle.dm_tokens.specs.Trees.{Trees}
-use Rattle.dm_syntax.specs.Tree.{TypeTree, PathTree}
-use Rattle.dm_syntax.specs.Spelling.{Where, Marks}
-use Rattle.dm_syntax.specs.TypeGrammar.{type_spelled}
-use Rattle.dm_syntax.specs.TypeTokens.{type_trees, path_trees, grouped}
-use Rattle.dm_syntax.specs.BareTokens.{tokens_of, spelled_of}
-use Rattle.dm_syntax.specs.BarePaths.{bare_path}
-use Rattle.dm_syntax.specs.Metas.{PathOrKeywordTree, MetaListTree, MetaTree, NestedMetaTree, path_or_keyword, meta_list, meta_spelled, nested_meta, path_or_keyword_trees, meta_list_trees, meta_trees, nested_meta_trees}
+use Rattle.dm_stream.specs.declared.tokens.Delim.TheVariants.{Paren}
+use Rattle.dm_stream.specs.Layout.{nowhere}
+use Rattle.dm_stream.specs.Trees.{Trees}
+use Rattle.dm_ast.specs.Tree.{TypeTree, PathTree}
+use Rattle.dm_ast.specs.Spelling.{Where, Marks}
+use Rattle.dm_ast.specs.TypeGrammar.{type_spelled}
+use Rattle.dm_ast.specs.TypeTokens.{type_trees, path_trees, grouped}
+use Rattle.dm_type_eq.specs.BareTokens.{tokens_of, spelled_of}
+use Rattle.dm_read_types.specs.BarePaths.{bare_path}
+use Rattle.dm_meta.specs.Metas.{PathOrKeywordTree, MetaListTree, MetaTree, NestedMetaTree, path_or_keyword, meta_list, meta_spelled, nested_meta, path_or_keyword_trees, meta_list_trees, meta_trees, nested_meta_trees}
 
 -- the trees have these in front, before the others, ranges aside
 abbrev pub Keeps : Trees → Trees → Trees → Type 0

@@ -2,9 +2,9 @@
 #![tactic(auto, using(crate::proofs::PrintLaws::printing_steps))]
 
 ghost use Rattle.std.specs.Prelude.{◌≡◌, cond, true, map, OnOk, IsTrue};
-ghost use Rattle.dm_tokens.specs.Trees as trees;
-ghost use Rattle.dm_tokens.specs.Trees.{no_trees};
-ghost use Rattle.dm_syntax.specs.Declarations.{declaration_view, field_view};
+ghost use Rattle.dm_stream.specs.Trees as trees;
+ghost use Rattle.dm_stream.specs.Trees.{no_trees};
+ghost use Rattle.dm_ast.specs.Declarations.{declaration_view, field_view};
 ghost use Rattle.dm_emit.specs.Output.{arms_of};
 ghost use Rattle.dm_emit.specs.Tokens as tokens;
 ghost use Rattle.dm_emit.specs.Values as values;
@@ -20,10 +20,11 @@ use crate::comparing::add_rest;
 use crate::partial_eq::Comparing;
 use crate::sides::Operand;
 use crate::skips::is_skipped;
+use dm_ast::{DeriveInput, Field};
 use dm_emit::print::expr::arms as tree_arms;
 use dm_emit::print::token::{close, joint, open, punct};
-use dm_syntax::{DeriveInput, Field};
-use dm_tokens::{Delim, Layout, Seq};
+use dm_layout::Layout;
+use dm_stream::{Delim, Seq};
 use std::alloc::{AllocError, Global};
 
 fn sign(out: &mut Layout, comparing: Comparing) -> Result<(), AllocError>

@@ -2,10 +2,10 @@
 #![tactic(auto, using(crate::proofs::PrintLaws::printing_steps))]
 
 ghost use Rattle.std.specs.Prelude.{◌≡◌, map, OnOk};
-ghost use Rattle.dm_tokens.specs.Layout.{nowhere};
-ghost use Rattle.dm_tokens.specs.Trees.{join};
-ghost use Rattle.dm_syntax.specs.Declarations.{declaration_view, field_view};
-ghost use Rattle.dm_syntax.specs.TypeTokens as syntax;
+ghost use Rattle.dm_stream.specs.Layout.{nowhere};
+ghost use Rattle.dm_stream.specs.Trees.{join};
+ghost use Rattle.dm_ast.specs.Declarations.{declaration_view, field_view};
+ghost use Rattle.dm_ast.specs.TypeTokens as syntax;
 ghost use Rattle.dm_emit.specs.Output.{patterns_of, named_of};
 ghost use Rattle.dm_emit.specs.Tokens as tokens;
 ghost use Rattle.dm_emit.specs.Laying.{lay};
@@ -16,9 +16,10 @@ ghost use Rattle.dm_cmp_ops.specs.CaseViews.{case_view, naming};
 use crate::cases::{CaseRef, FieldsRef, is_enum, some_skipped_field};
 use crate::sides::{Operand, first_name, formatted};
 use crate::skips::is_skipped;
+use dm_ast::{DeriveInput, Field};
 use dm_emit::print::token::{close, joint, joint_if, name, open, punct, word};
-use dm_syntax::{DeriveInput, Field};
-use dm_tokens::{Delim, Ident, Layout};
+use dm_layout::Layout;
+use dm_stream::{Delim, Ident};
 use std::alloc::{AllocError, Global};
 
 /// Adds the name of a field of an operand.

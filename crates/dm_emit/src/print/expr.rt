@@ -2,9 +2,9 @@
 #![tactic(auto, using(crate::proofs::Laying::print_steps))]
 
 ghost use Rattle.std.specs.Prelude.{◌≡◌, map, codes, OnOk, true, option_map};
-ghost use Rattle.dm_tokens.specs.Trees.{join};
-ghost use Rattle.dm_tokens.specs.declared.tokens.Delim.TheVariants.{Paren, Brace};
-ghost use Rattle.dm_syntax.specs.TypeTokens as syntax;
+ghost use Rattle.dm_stream.specs.Trees.{join};
+ghost use Rattle.dm_stream.specs.declared.tokens.Delim.TheVariants.{Paren, Brace};
+ghost use Rattle.dm_ast.specs.TypeTokens as syntax;
 ghost use Rattle.dm_emit.specs.Output.{expr_view, arm_view, body_view, block_view, stmt_view, statements, exprs_of, arms_of, maybe_expr};
 ghost use Rattle.dm_emit.specs.Tokens as spec;
 ghost use Rattle.dm_emit.specs.Laying.{lay, LaysStatement};
@@ -13,7 +13,8 @@ use super::path::path_expr;
 use super::pattern::patterns;
 use super::token::{close, joint, name, open, punct, word};
 use crate::expr::{Arm, ArmBody, Block, Expr, Stmt};
-use dm_tokens::{Delim, Layout};
+use dm_layout::Layout;
+use dm_stream::Delim;
 use std::alloc::{AllocError, Global};
 
 /// Adds an expression.

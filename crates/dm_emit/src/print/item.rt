@@ -2,9 +2,9 @@
 #![tactic(auto, using(crate::proofs::Laying::print_steps))]
 
 ghost use Rattle.std.specs.Prelude.{◌≡◌, map, OnOk, true, option_map};
-ghost use Rattle.dm_syntax.specs.Tree.{ty_view, path_view};
-ghost use Rattle.dm_syntax.specs.Declarations.{param_view, predicate_view};
-ghost use Rattle.dm_syntax.specs.TypeTokens as syntax;
+ghost use Rattle.dm_ast.specs.Tree.{ty_view, path_view};
+ghost use Rattle.dm_ast.specs.Declarations.{param_view, predicate_view};
+ghost use Rattle.dm_ast.specs.TypeTokens as syntax;
 ghost use Rattle.dm_emit.specs.Output.{item_view, method_view, assoc_view, method_param_view};
 ghost use Rattle.dm_emit.specs.Tokens as spec;
 ghost use Rattle.dm_emit.specs.Laying.{lay};
@@ -14,8 +14,9 @@ use super::param::{param, predicate};
 use super::path::{path, ty};
 use super::token::{close, joint, name, open, punct, word, word_if};
 use crate::item::{Assoc, Item, ItemAttr, Method, MethodParam, Receiver};
-use dm_syntax::{GenericParam, Path, Ty, WherePredicate};
-use dm_tokens::{Delim, Layout};
+use dm_ast::{GenericParam, Path, Ty, WherePredicate};
+use dm_layout::Layout;
+use dm_stream::Delim;
 use std::alloc::{AllocError, Global};
 
 fn private_bounds(out: &mut Layout) -> Result<(), AllocError>

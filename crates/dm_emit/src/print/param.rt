@@ -2,27 +2,26 @@
 #![tactic(auto, using(crate::proofs::Laying::print_steps))]
 
 ghost use Rattle.std.specs.Prelude.{◌≡◌, map, OnOk, Some, true, option_map};
-ghost use Rattle.dm_tokens.specs.Layout.{nowhere};
-ghost use Rattle.dm_syntax.specs.Tree.{ty_view, bound_view};
-ghost use Rattle.dm_syntax.specs.Declarations.{listed, param_view, predicate_view};
-ghost use Rattle.dm_syntax.specs.TypeTokens as syntax;
+ghost use Rattle.dm_stream.specs.Layout.{nowhere};
+ghost use Rattle.dm_ast.specs.Tree.{ty_view, bound_view};
+ghost use Rattle.dm_ast.specs.Declarations.{listed, param_view, predicate_view};
+ghost use Rattle.dm_ast.specs.TypeTokens as syntax;
 ghost use Rattle.dm_emit.specs.Tokens as spec;
 ghost use Rattle.dm_emit.specs.Laying.{lay};
 
 use super::path::ty;
 use super::token::{lifetime, name, punct, punct_if, stream, word};
-use dm_syntax::{
-    Attribute, Bound, ConstArg, GenericParam, Ty, WherePredicate, write_attributes, write_bounds,
-    write_const, write_for,
-};
-use dm_tokens::{Layout, Lifetime, Punctuated, Span, TokenStream};
+use dm_ast::{Attribute, Bound, ConstArg, GenericParam, Ty, WherePredicate};
+use dm_layout::Layout;
+use dm_quote::{write_attributes, write_bounds, write_const, write_for};
+use dm_stream::{Lifetime, Punctuated, Span, TokenStream};
 use std::alloc::{AllocError, Global};
 
 fn attributes(alloc: Global, out: &mut Layout, all: &[Attribute<'_>]) -> Result<(), AllocError>
     ensures { OnOk result (out.new ≡ lay out.old (syntax.attributes_trees all.now)) }
 {
     let mut tokens = TokenStream::new(alloc);
-    write_attributes(alloc, &mut tokens, all)?;
+    write_attributes(&mut tokens, all)?;
     stream(out, &tokens)
 }
 
@@ -33,7 +32,6 @@ fn bounds(alloc: Global, out: &mut Layout, all: &Punctuated<Bound<'_>>) -> Resul
     punct(out, ':')?;
     let mut tokens = TokenStream::new(alloc);
     write_bounds(
-        alloc,
         &mut tokens,
         all.items.as_slice(),
         all.trailing,
@@ -112,7 +110,7 @@ fn default_const(
         Some(value) => {
             punct(out, '=')?;
             let mut tokens = TokenStream::new(alloc);
-            write_const(alloc, &mut tokens, value, Span::nowhere())?;
+            write_const(&mut tokens, value, Span::nowhere())?;
             stream(out, &tokens)
         }
     }
@@ -152,7 +150,7 @@ fn for_lifetimes(
     ensures { OnOk result (out.new ≡ lay out.old (syntax.for_trees nowhere all.now)) }
 {
     let mut tokens = TokenStream::new(alloc);
-    write_for(alloc, &mut tokens, all, Span::nowhere())?;
+    write_for(&mut tokens, all, Span::nowhere())?;
     stream(out, &tokens)
 }
 

@@ -2,25 +2,25 @@
 #![tactic(auto, using(crate::proofs::Laying::print_steps))]
 
 ghost use Rattle.std.specs.Prelude.{◌≡◌, map, OnOk, true};
-ghost use Rattle.dm_tokens.specs.Layout.{nowhere};
-ghost use Rattle.dm_syntax.specs.Tree.{ty_view, some_self, path_view, segment_view, self_view, arguments_view, maybe_self_view, segments_of};
-ghost use Rattle.dm_syntax.specs.TypeTokens as syntax;
+ghost use Rattle.dm_stream.specs.Layout.{nowhere};
+ghost use Rattle.dm_ast.specs.Tree.{ty_view, some_self, path_view, segment_view, self_view, arguments_view, maybe_self_view, segments_of};
+ghost use Rattle.dm_ast.specs.TypeTokens as syntax;
 ghost use Rattle.dm_emit.specs.Tokens as spec;
 ghost use Rattle.dm_emit.specs.Laying.{lay};
 
 use super::token::{joint, joint_if, name, stream};
 use crate::expr::PathExpr;
-use dm_syntax::{
-    Path, PathArguments, PathSegment, QSelf, Ty, write_arguments, write_qualified, write_type,
-};
-use dm_tokens::{Layout, Span, TokenStream};
+use dm_ast::{Path, PathArguments, PathSegment, QSelf, Ty};
+use dm_layout::Layout;
+use dm_quote::{write_arguments, write_qualified, write_type};
+use dm_stream::{Span, TokenStream};
 use std::alloc::{AllocError, Global};
 
 pub fn ty(alloc: Global, out: &mut Layout, ty: &Ty<'_>) -> Result<(), AllocError>
     ensures { OnOk result (out.new ≡ lay out.old (syntax.type_trees (ty_view ty.now))) }
 {
     let mut tokens = TokenStream::new(alloc);
-    write_type(alloc, &mut tokens, ty)?;
+    write_type(&mut tokens, ty)?;
     stream(out, &tokens)
 }
 
@@ -61,7 +61,7 @@ fn arguments(
         return Ok(());
     }
     let mut tokens = TokenStream::new(alloc);
-    write_arguments(alloc, &mut tokens, arguments, Span::nowhere())?;
+    write_arguments(&mut tokens, arguments, Span::nowhere())?;
     stream(out, &tokens)
 }
 
@@ -86,7 +86,6 @@ fn qualified<'a>(
     let mut tokens = TokenStream::new(alloc);
     let segments = path.segments.as_slice();
     write_qualified(
-        alloc,
         &mut tokens,
         qself,
         path.leading_colon,

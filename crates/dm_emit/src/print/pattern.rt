@@ -2,7 +2,7 @@
 #![tactic(auto, using(crate::proofs::Laying::print_steps))]
 
 ghost use Rattle.std.specs.Prelude.{◌≡◌, map, OnOk, true};
-ghost use Rattle.dm_syntax.specs.TypeTokens as syntax;
+ghost use Rattle.dm_ast.specs.TypeTokens as syntax;
 ghost use Rattle.dm_emit.specs.Output.{pattern_view, named_view, patterns_of, named_of};
 ghost use Rattle.dm_emit.specs.Tokens as spec;
 ghost use Rattle.dm_emit.specs.Laying.{lay};
@@ -10,7 +10,8 @@ ghost use Rattle.dm_emit.specs.Laying.{lay};
 use super::path::path;
 use super::token::{close, joint_if, name, open, punct, word};
 use crate::pattern::{Binding, NamedPattern, Pattern};
-use dm_tokens::{Delim, Layout};
+use dm_layout::Layout;
+use dm_stream::Delim;
 use std::alloc::{AllocError, Global};
 
 fn binding(out: &mut Layout, how: Binding) -> Result<(), AllocError>

@@ -2,11 +2,12 @@
 #![tactic(auto, using(crate::proofs::Laying::token_steps))]
 
 ghost use Rattle.std.specs.Prelude.{◌≡◌, OnOk};
-ghost use Rattle.dm_syntax.specs.TypeTokens as syntax;
+ghost use Rattle.dm_ast.specs.TypeTokens as syntax;
 ghost use Rattle.dm_emit.specs.Tokens as spec;
 ghost use Rattle.dm_emit.specs.Laying.{lay, begun, done};
 
-use dm_tokens::{Delim, Ident, Layout, Lifetime, Spacing, TokenStream};
+use dm_layout::Layout;
+use dm_stream::{Delim, Ident, Lifetime, Spacing, TokenStream};
 use std::alloc::AllocError;
 
 /// Adds an identifier that isn't raw.

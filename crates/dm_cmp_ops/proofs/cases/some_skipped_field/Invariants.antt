@@ -1,5 +1,5 @@
 use Rattle.std.proofs.Common.{◌≡◌, map, drop}
-use Rattle.dm_syntax.specs.Declarations.{field_view}
+use Rattle.dm_ast.specs.Declarations.{field_view}
 use Rattle.dm_cmp_ops.specs.Skips.{skips_field}
 use Rattle.dm_cmp_ops.specs.Sides.{some_left_out}
 use Rattle.dm_cmp_ops.proofs.cases.some_skipped_field.Given as goal

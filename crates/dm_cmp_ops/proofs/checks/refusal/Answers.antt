@@ -1,5 +1,5 @@
 use Rattle.std.proofs.Common.{◌≡◌, arith}
-use Rattle.dm_syntax.specs.Declarations.{declaration_view}
+use Rattle.dm_ast.specs.Declarations.{declaration_view}
 use Rattle.dm_cmp_ops.specs.Checks.{refusal}
 use Rattle.dm_cmp_ops.proofs.CheckLaws.{valid}
 use Rattle.dm_cmp_ops.proofs.CheckSteps.{check_steps}

@@ -1,5 +1,5 @@
 use Rattle.std.proofs.Common.{◌≡◌, ◌++◌, map, drop}
-use Rattle.dm_syntax.specs.Declarations.{declaration_view}
+use Rattle.dm_ast.specs.Declarations.{declaration_view}
 use Rattle.dm_emit.specs.Output.{arm_view}
 use Rattle.dm_cmp_ops.specs.CaseViews.{case_view}
 use Rattle.dm_cmp_ops.specs.Emitted as spec

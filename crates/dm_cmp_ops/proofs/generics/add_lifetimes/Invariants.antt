@@ -1,6 +1,6 @@
 use Rattle.std.proofs.Common.{◌≡◌, ◌++◌, map, drop, filter}
-use Rattle.dm_syntax.specs.Declarations.{param_view}
-use Rattle.dm_syntax.specs.Implementors.{bare, is_lifetime}
+use Rattle.dm_ast.specs.Declarations.{param_view}
+use Rattle.dm_ast.specs.Implementors.{bare, is_lifetime}
 use Rattle.dm_cmp_ops.proofs.generics.add_lifetimes.Given as goal
 
 abbrev pub invariant-loop-param : goal.invariant-loop-param

@@ -1,6 +1,6 @@
 use Rattle.std.proofs.Common.{◌≡◌, ◌++◌, map, drop}
-use Rattle.dm_syntax.specs.Tree.{segment_view, segments_of}
-use Rattle.dm_syntax.specs.Implementors.{segments}
+use Rattle.dm_ast.specs.Tree.{segment_view, segments_of}
+use Rattle.dm_ast.specs.Implementors.{segments}
 use Rattle.dm_cmp_ops.specs.Heads.{words}
 use Rattle.dm_cmp_ops.proofs.Builders.{plain_segments}
 use Rattle.dm_cmp_ops.proofs.names.segments.Given as goal

@@ -1,4 +1,4 @@
-use Rattle.dm_syntax.specs.Declarations.{declaration_view}
+use Rattle.dm_ast.specs.Declarations.{declaration_view}
 use Rattle.dm_emit.specs.Output.{item_view}
 use Rattle.dm_cmp_ops.proofs.Expansions.{expands}
 use Rattle.dm_cmp_ops.proofs.partial_eq.expanded.Goals as goal

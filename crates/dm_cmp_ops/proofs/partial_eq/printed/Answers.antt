@@ -1,4 +1,4 @@
-use Rattle.dm_syntax.specs.Declarations.{declaration_view}
+use Rattle.dm_ast.specs.Declarations.{declaration_view}
 use Rattle.dm_cmp_ops.proofs.Expansions.{prints}
 use Rattle.dm_cmp_ops.proofs.partial_eq.printed.Goals as goal
 

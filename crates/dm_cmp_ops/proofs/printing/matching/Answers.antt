@@ -1,7 +1,7 @@
 use Rattle.std.proofs.Common.{List, ap, ◌∙◌}
-use Rattle.dm_tokens.specs.declared.tokens.Delim.TheVariants.{Brace}
-use Rattle.dm_tokens.specs.Layout.{Laid}
-use Rattle.dm_syntax.specs.Declarations.{declaration_view}
+use Rattle.dm_stream.specs.declared.tokens.Delim.TheVariants.{Brace}
+use Rattle.dm_stream.specs.Layout.{Laid}
+use Rattle.dm_ast.specs.Declarations.{declaration_view}
 use Rattle.dm_emit.specs.Laying.{lay, begun, done}
 use Rattle.dm_emit.specs.Output.{arms_of}
 use Rattle.dm_emit.specs.Tokens.{expr_trees, arms_trees}

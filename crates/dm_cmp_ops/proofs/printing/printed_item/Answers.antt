@@ -1,6 +1,6 @@
 use Rattle.std.proofs.Common.{ℕ, List, [], ◌∷◌, ◌++◌, ap, ◌∙◌}
-use Rattle.dm_tokens.specs.Layout.{Laid, line_ended}
-use Rattle.dm_syntax.specs.Declarations.{declaration_view}
+use Rattle.dm_stream.specs.Layout.{Laid, line_ended}
+use Rattle.dm_ast.specs.Declarations.{declaration_view}
 use Rattle.dm_emit.specs.Laying.{lay}
 use Rattle.dm_emit.specs.Tokens.{item_trees}
 use Rattle.dm_cmp_ops.specs.Emitted.{item}

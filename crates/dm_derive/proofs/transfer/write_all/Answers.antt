@@ -2,6 +2,7 @@ use Rattle.std.proofs.Common.{◌≡◌, ℕ, ◌+◌, List, Option, take, drop,
 use Rattle.std.proofs.Math.Seq.{take-add}
 use Rattle.std.proofs.KnownBytes.{Appends-trans}
 use Rattle.std.specs.Io.KnownBytes.{Appends}
+use Rattle.dm_derive.proofs.Turning.{offers-more, offers-stopped}
 use Rattle.dm_derive.proofs.transfer.write_all.Goals as goal
 
 -- one more piece at the end of what is written
@@ -15,5 +16,10 @@ turns-preserved g c =
     record {
       within = search arith;
       put = further _ _ _ c.args.text.now _ c.turns.at c.in_ok-at.field-0 c.split_at.ensures.back c.turns.invariant.put c.in_ok-at.ensures.bytes;
+      offers = offers-more _ _ _ c.args.text.now _ c.turns.at c.in_ok-at.field-0 c.turns.invariant.offers c.split_at.ensures.back c.in_ok-at.ensures.told;
       later = search arith;
     }
+
+pub returns-in_err-at-clause-part : goal.returns-in_err-at-clause-part
+returns-in_err-at-clause-part g c =
+    offers-stopped c.from_residual.result _ _ _ _ _ _ c.args.text.now _ c.turns.at (search arith) c.turns.invariant.put c.in_err-at.ensures.bytes c.turns.invariant.offers c.split_at.ensures.back c.in_err-at.ensures.told

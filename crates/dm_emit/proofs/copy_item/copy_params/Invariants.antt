@@ -1,5 +1,5 @@
 use Rattle.std.proofs.Common.{◌≡◌, ◌++◌, map, drop}
-use Rattle.dm_syntax.specs.Declarations.{param_view}
+use Rattle.dm_ast.specs.Declarations.{param_view}
 use Rattle.dm_emit.proofs.copy_item.copy_params.Given as goal
 
 abbrev pub invariant-loop-param : goal.invariant-loop-param

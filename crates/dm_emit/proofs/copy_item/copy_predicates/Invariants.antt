@@ -1,5 +1,5 @@
 use Rattle.std.proofs.Common.{◌≡◌, ◌++◌, map, drop}
-use Rattle.dm_syntax.specs.Declarations.{predicate_view}
+use Rattle.dm_ast.specs.Declarations.{predicate_view}
 use Rattle.dm_emit.proofs.copy_item.copy_predicates.Given as goal
 
 abbrev pub invariant-loop-predicate : goal.invariant-loop-predicate

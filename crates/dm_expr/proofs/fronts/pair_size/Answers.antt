@@ -1,14 +1,17 @@
 use Rattle.std.proofs.Common.{◌≡◌, ◌+◌, arith, ◌∙◌}
-use Rattle.dm_tokens.specs.Cursors.{left}
-use Rattle.dm_tokens.specs.Sizes.{size}
+use Rattle.dm_stream.specs.Cursors.{left}
+use Rattle.dm_stream.specs.Sizes.{size}
+use Rattle.dm_stream.proofs.Sizes.{size-entries}
 use Rattle.dm_expr.proofs.Counting.{closed-step, size-step, waits-step}
 use Rattle.dm_expr.proofs.fronts.pair_size.Goals as goal
 
 pub open_after-requires-clause-fits : goal.open_after-requires-clause-fits
-open_after-requires-clause-fits c = omega (arith, c.most_trees-most.ensures, c.loop-depth.invariant.counts, c.loop-depth.invariant.few)
+open_after-requires-clause-fits c =
+    omega (arith, c.well_formed, size-entries _ c.requires, c.loop-depth.invariant.counts, c.loop-depth.invariant.few)
 
 pub overflow_add-count : goal.overflow_add-count
-overflow_add-count c = omega (arith, c.most_trees-most.ensures, c.loop-depth.invariant.counts, size-step _ _ _ _ _ _ (c.in_ok-next.ensures.gives))
+overflow_add-count c =
+    omega (arith, c.well_formed, size-entries _ c.requires, c.loop-depth.invariant.counts, size-step _ _ _ _ _ _ (c.in_ok-next.ensures.gives))
 
 pub loop-depth-preserved : goal.loop-depth-preserved
 loop-depth-preserved c =

@@ -1,6 +1,6 @@
 use Rattle.std.proofs.Common.{◌≡◌, ◌≤◌, ◌+◌}
-use Rattle.dm_tokens.specs.Cursors.{left, IsPlaceAfter}
-use Rattle.dm_tokens.specs.Sizes.{size}
+use Rattle.dm_stream.specs.Cursors.{left, IsPlaceAfter}
+use Rattle.dm_stream.specs.Sizes.{size}
 use Rattle.dm_expr.specs.Cuts.{pair_at, closed_at, after}
 use Rattle.dm_expr.proofs.fronts.pair_size.Given as goal
 

@@ -1,6 +1,6 @@
 use Rattle.std.proofs.Common.{◌≡◌, ◌≤◌, ◌+◌}
-use Rattle.dm_tokens.specs.Cursors.{left, sound}
-use Rattle.dm_tokens.specs.Sizes.{size}
+use Rattle.dm_stream.specs.Cursors.{left, sound}
+use Rattle.dm_stream.specs.Sizes.{size}
 use Rattle.dm_expr.specs.Reach.{reach, further}
 use Rattle.dm_expr.proofs.runs.last_close.Given as goal
 

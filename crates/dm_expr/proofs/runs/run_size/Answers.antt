@@ -1,6 +1,6 @@
 use Rattle.std.proofs.Common.{◌≡◌, ◌+◌, ◌<◌, true, false, refl, ap, arith, ◌∙◌}
-use Rattle.dm_tokens.specs.Cursors.{left}
-use Rattle.dm_tokens.specs.Sizes.{size}
+use Rattle.dm_stream.specs.Cursors.{left}
+use Rattle.dm_stream.specs.Sizes.{size}
 use Rattle.dm_expr.specs.Cuts.{run_from}
 use Rattle.dm_expr.proofs.Running.{unit_positive, run-step, run-end, run-found, run-empty, behind_unit, passed-zero}
 use Rattle.dm_expr.proofs.Reaching.{passes, reach_fits, none_behind}
@@ -31,12 +31,12 @@ loop-unit-init c = record {
   place = record { is_sound = c.requires; same_limit = refl };
   reads = passed-zero (run_from c.args.with_bars 0 (left c.args.c));
   counts = omega arith;
-  last = reach_fits false (left c.args.c) c.most_trees-most.result c.most_trees-most.ensures;
-  last_before_sep = reach_fits true (left c.args.c) c.most_trees-most.result c.most_trees-most.ensures;
+  last = reach_fits false (left c.args.c) c.len-most.result c.len-most.ensures.trees;
+  last_before_sep = reach_fits true (left c.args.c) c.len-most.result c.len-most.ensures.trees;
 }
 
-pub most_trees-most-requires : goal.most_trees-most-requires
-most_trees-most-requires c = c.requires
+pub len-most-requires : goal.len-most-requires
+len-most-requires c = c.requires
 
 pub unit_here-requires-clause-sound : goal.unit_here-requires-clause-sound
 unit_here-requires-clause-sound c = c.loop-unit.invariant.place.is_sound
@@ -55,7 +55,7 @@ pub after_unit-ends-requires-clause-sound : goal.after_unit-ends-requires-clause
 after_unit-ends-requires-clause-sound c = c.loop-unit.invariant.place.is_sound
 
 pub after_unit-ends-requires-clause-fits : goal.after_unit-ends-requires-clause-fits
-after_unit-ends-requires-clause-fits c = omega (arith, c.loop-unit.invariant.counts, c.most_trees-most.ensures, c.most_trees-most.type_inv)
+after_unit-ends-requires-clause-fits c = omega (arith, c.loop-unit.invariant.counts, c.len-most.ensures.trees, c.len-most.type_inv)
 
 pub after_unit-ends-requires-clause-last : goal.after_unit-ends-requires-clause-last
 after_unit-ends-requires-clause-last c = c.loop-unit.invariant.last
@@ -66,7 +66,7 @@ after_unit-ends-requires-clause-last_before_sep c = c.loop-unit.invariant.last_b
 pub overflow_add-count : goal.overflow_add-count
 overflow_add-count c =
     let n : c.in-Some.more + size (left c.in-Some.rest) ≡ size (left c.loop-unit.at) = c.in-Some.ensures.counts in
-    omega (arith, n, c.loop-unit.invariant.counts, c.most_trees-most.ensures, c.most_trees-most.type_inv)
+    omega (arith, n, c.loop-unit.invariant.counts, c.len-most.ensures.trees, c.len-most.type_inv)
 
 pub returns-then-count-eq0-clause-gives : goal.returns-then-count-eq0-clause-gives
 returns-then-count-eq0-clause-gives c =

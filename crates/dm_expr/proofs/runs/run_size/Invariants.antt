@@ -1,6 +1,6 @@
 use Rattle.std.proofs.Common.{◌≡◌, ◌≤◌, ◌+◌, ◌-◌, true, false}
-use Rattle.dm_tokens.specs.Cursors.{left, IsPlaceAfter}
-use Rattle.dm_tokens.specs.Sizes.{size}
+use Rattle.dm_stream.specs.Cursors.{left, IsPlaceAfter}
+use Rattle.dm_stream.specs.Sizes.{size}
 use Rattle.dm_expr.specs.Cuts.{run_from}
 use Rattle.dm_expr.specs.Reach.{reach}
 use Rattle.dm_expr.proofs.Running.{passed}

@@ -1,4 +1,4 @@
-use Rattle.dm_tokens.specs.Layout.{nowhere}
+use Rattle.dm_stream.specs.Layout.{nowhere}
 use Rattle.dm_syntax.proofs.SpelledBack.{gives_type}
 use Rattle.dm_syntax.proofs.MetaBack.{gives_bare_path, gives_word, list_back, gives_meta, gives_nested}
 use Rattle.dm_syntax.proofs.laws.tokens_come_back.Goals as goal

@@ -1,5 +1,5 @@
 use Rattle.std.proofs.Common.{◌≡◌, map, drop}
-use Rattle.dm_syntax.specs.Declarations.{field_view}
+use Rattle.dm_ast.specs.Declarations.{field_view}
 use Rattle.dm_emit.specs.Laying.{lay}
 use Rattle.dm_emit.specs.Output.{patterns_of}
 use Rattle.dm_emit.specs.Tokens.{ended, each_pattern}

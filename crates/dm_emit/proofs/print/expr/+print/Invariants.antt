@@ -1,5 +1,5 @@
 use Rattle.std.proofs.Common.{◌≡◌, ◌==◌, map, drop, true}
-use Rattle.dm_syntax.specs.TypeTokens.{spaced}
+use Rattle.dm_ast.specs.TypeTokens.{spaced}
 use Rattle.dm_emit.specs.Output.{BlockTree, expr_view, arm_view, stmt_view, exprs_of, arms_of, statements}
 use Rattle.dm_emit.specs.Tokens.{joint, comma, each_expr, arms_trees, inside_trees}
 use Rattle.dm_emit.specs.Laying.{lay}

@@ -1,6 +1,6 @@
 use Rattle.std.proofs.Common.{◌≡◌, ◌==◌, map, drop, true}
-use Rattle.dm_syntax.specs.Declarations.{predicate_view}
-use Rattle.dm_syntax.specs.TypeTokens.{spaced}
+use Rattle.dm_ast.specs.Declarations.{predicate_view}
+use Rattle.dm_ast.specs.TypeTokens.{spaced}
 use Rattle.dm_emit.specs.Tokens.{comma, predicate_trees}
 use Rattle.dm_emit.specs.Laying.{lay}
 use Rattle.dm_emit.proofs.print.item.joined_predicates.Given as goal

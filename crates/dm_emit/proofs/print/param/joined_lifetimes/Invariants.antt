@@ -1,5 +1,5 @@
 use Rattle.std.proofs.Common.{◌≡◌, ◌==◌, map, drop, true}
-use Rattle.dm_syntax.specs.TypeTokens.{spaced, lifetime}
+use Rattle.dm_ast.specs.TypeTokens.{spaced, lifetime}
 use Rattle.dm_emit.specs.Tokens.{punct}
 use Rattle.dm_emit.specs.Laying.{lay}
 use Rattle.dm_emit.proofs.print.param.joined_lifetimes.Given as goal

@@ -1,7 +1,7 @@
 use Rattle.std.proofs.Common.{◌≡◌, ◌==◌, map, drop, true}
-use Rattle.dm_syntax.specs.Tree.{segment_view, segments_of}
-use Rattle.dm_syntax.specs.TypeTokens.{spaced, colons, each_segment}
-use Rattle.dm_tokens.specs.Layout.{nowhere}
+use Rattle.dm_ast.specs.Tree.{segment_view, segments_of}
+use Rattle.dm_ast.specs.TypeTokens.{spaced, colons, each_segment}
+use Rattle.dm_stream.specs.Layout.{nowhere}
 use Rattle.dm_emit.specs.Laying.{lay}
 use Rattle.dm_emit.proofs.print.path.segments.Given as goal
 

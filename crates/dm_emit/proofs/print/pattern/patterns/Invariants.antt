@@ -1,5 +1,5 @@
 use Rattle.std.proofs.Common.{◌≡◌, ◌==◌, map, drop, true}
-use Rattle.dm_syntax.specs.TypeTokens.{spaced}
+use Rattle.dm_ast.specs.TypeTokens.{spaced}
 use Rattle.dm_emit.specs.Output.{pattern_view, patterns_of}
 use Rattle.dm_emit.specs.Tokens.{punct, each_pattern}
 use Rattle.dm_emit.specs.Laying.{lay}

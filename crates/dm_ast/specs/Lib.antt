@@ -1,0 +1,15 @@
+pub mod DeclarationGrammar
+pub mod DeclarationTokens
+pub mod Declarations
+pub mod Implementors
+pub mod Keywords
+pub mod Names
+pub mod Parsed
+pub mod Places
+pub mod PlainReaders
+pub mod Readers
+pub mod Runs
+pub mod Spelling
+pub mod Tree
+pub mod TypeGrammar
+pub mod TypeTokens

@@ -1,0 +1,12 @@
+use Rattle.dm_cmp_ops.proofs.Expansions.{text-once}
+use Rattle.dm_derive.proofs.Deriving.{read-one, answers-once}
+use Rattle.dm_derive.proofs.laws.answers_once.Goals as goal
+
+pub returns-clause-declaration : goal.returns-clause-declaration
+returns-clause-declaration c = read-one
+
+pub returns-clause-text : goal.returns-clause-text
+returns-clause-text c = text-once
+
+pub returns-clause-answer : goal.returns-clause-answer
+returns-clause-answer c = answers-once

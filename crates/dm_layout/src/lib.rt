@@ -1,0 +1,6 @@
+//! The text of tokens, with a space between two of them where the layout has one.
+#![tactic(auto)]
+
+mod layout;
+
+pub use layout::{Layout, print, print_piece};

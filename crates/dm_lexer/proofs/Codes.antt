@@ -1,0 +1,222 @@
+-- The code of a `\u{..}` escape.
+use Rattle.std.specs.Prelude.{◌≡◌, ℕ, zero, suc, ◌+◌, ◌*◌, ◌<◌, ◌≤◌, ◌^◌, Bool, true, false, List, [], ◌∷◌, length, take, drop, refl, cond, nat_lt, nat_eq, ◌&&◌, Option, Some, None}
+use Rattle.std.proofs.Common.{ap, ◌∙◌, sym, subst, arith, ◌⊎◌, inl, inr}
+use Rattle.std.proofs.lemmas.Bool.Decides.{nat_tests}
+use Rattle.std.proofs.Math.Utf8.{scalar_cases}
+use Rattle.std.specs.Char.{digit_value, IsScalar}
+use Rattle.std.specs.List.{filter}
+use Rattle.std.specs.Str.{chars, IsUtf8}
+use Rattle.std.specs.Str.Parse.{digits_value, digits_value_after}
+use Rattle.dm_lexer.specs.declared.quotes.Code.{Code}
+use Rattle.dm_lexer.specs.TextFronts.{run, IsFront}
+use Rattle.dm_lexer.proofs.Segments.{ascii-front, ascii-run}
+use Rattle.dm_lexer.specs.declared.quotes.Segment.{Segment}
+use Rattle.dm_lexer.specs.Quotes.{begins, begins_hex, is_scalar, is_code_point, unicode_segment, is_code, is_hex, code_digits, with_code, with_digit, IsCode}
+
+pub code-small : (d v x : ℕ) → d < 6 → v < 16 ^ d → x < 16 → v * 16 + x < 16 ^ (d + 1)
+code-small zero v x h k l = omega arith
+code-small (suc zero) v x h k l = omega arith
+code-small (suc (suc zero)) v x h k l = omega arith
+code-small (suc (suc (suc zero))) v x h k l = omega arith
+code-small (suc (suc (suc (suc zero)))) v x h k l = omega arith
+code-small (suc (suc (suc (suc (suc zero))))) v x h k l = omega arith
+code-small (suc (suc (suc (suc (suc (suc d)))))) v x h k l = absurd (omega arith)
+
+pub code-fits : (d v : ℕ) → d < 6 → v < 16 ^ d → v < 2 ^ 20
+code-fits zero v h k = omega arith
+code-fits (suc zero) v h k = omega arith
+code-fits (suc (suc zero)) v h k = omega arith
+code-fits (suc (suc (suc zero))) v h k = omega arith
+code-fits (suc (suc (suc (suc zero)))) v h k = omega arith
+code-fits (suc (suc (suc (suc (suc zero))))) v h k = omega arith
+code-fits (suc (suc (suc (suc (suc (suc d)))))) v h k = absurd (omega arith)
+
+-- the digits of a code that starts with one more character
+pub digits-next : (c : ℕ) (cs : List ℕ) → is_code c ≡ true →
+    code_digits (c ∷ cs) ≡ cond (is_hex c) (c ∷ code_digits cs) (code_digits cs)
+digits-next c cs h = ap (λ b. filter is_hex (take (cond b (suc (run is_code cs)) 0) (c ∷ cs))) h
+
+pub digits-end : (c : ℕ) (cs : List ℕ) → is_code c ≡ false → code_digits (c ∷ cs) ≡ []
+digits-end c cs h = ap (λ b. filter is_hex (take (cond b (suc (run is_code cs)) 0) (c ∷ cs))) h
+
+-- what was read of a code
+pub record IsCodeSoFar (text : List ℕ) (code : Code) (rest : List ℕ) : Type 0 where
+  pub size_is : run is_code (chars text) ≡ code.size + run is_code (chars rest)
+  pub value_is : digits_value 16 (code_digits (chars text)) ≡ digits_value_after 16 code.value (code_digits (chars rest))
+  pub digits_are : length (code_digits (chars text)) ≡ code.digits + length (code_digits (chars rest))
+  pub few : code.digits ≤ 6
+  pub small : code.value < 16 ^ code.digits
+  pub fits : code.size + length rest ≤ length text
+  pub utf8 : IsUtf8 rest
+
+-- a step with the character's kind known
+pub data Stepped (code new : Code) (c : ℕ) : Type 0 where
+  digit : is_hex c ≡ true → code.digits < 6 → new.digits ≡ code.digits + 1 → new.value ≡ code.value * 16 + digit_value c → new.size ≡ code.size + 1 → Stepped code new c
+  blank : is_hex c ≡ false → new.digits ≡ code.digits → new.value ≡ code.value → new.size ≡ code.size + 1 → Stepped code new c
+
+some_code : {new code : Code} → Some code ≡ Some new → code ≡ new
+some_code h = cc
+
+stepped-digit : (code new : Code) (c : ℕ) (b : Bool) → nat_lt code.digits 6 ≡ b → is_hex c ≡ true →
+    cond {A = Option Code} b (Some record { size = code.size + 1; digits = code.digits + 1; value = code.value * 16 + digit_value c }) None ≡ Some new → Stepped code new c
+stepped-digit code new c true l k h =
+    let d : code.digits < 6 = grind (arith, nat_tests) in
+    digit k d (sym (ap (λ (v : Code). v.digits) (some_code h))) (sym (ap (λ (v : Code). v.value) (some_code h))) (sym (ap (λ (v : Code). v.size) (some_code h)))
+stepped-digit code new c false l k h = absurd (cc)
+
+stepped-on : (code new : Code) (c : ℕ) (b : Bool) → is_hex c ≡ b →
+    cond {A = Option Code} b (with_digit code (digit_value c)) (Some record { size = code.size + 1; digits = code.digits; value = code.value }) ≡ Some new → Stepped code new c
+stepped-on code new c true k h = stepped-digit code new c (nat_lt code.digits 6) refl k h
+stepped-on code new c false k h = blank k (sym (ap (λ (v : Code). v.digits) (some_code h))) (sym (ap (λ (v : Code). v.value) (some_code h))) (sym (ap (λ (v : Code). v.size) (some_code h)))
+
+pub stepped : (code new : Code) (c : ℕ) → with_code code c ≡ Some new → Stepped code new c
+stepped code new c h = stepped-on code new c (is_hex c) refl h
+
+hex-less : (c : ℕ) → is_hex c ≡ true → digit_value c < 16
+hex-less c h = grind (arith, nat_tests)
+
+pub code-start : (text : List ℕ) → IsUtf8 text → IsCodeSoFar text record { size = 0; digits = 0; value = 0 } text
+code-start text u = record { size_is = omega arith; value_is = refl; digits_are = omega arith; few = omega arith; small = omega arith; fits = omega arith; utf8 = u }
+
+run-code : (c : ℕ) (cs : List ℕ) → is_code c ≡ true → run is_code (c ∷ cs) ≡ suc (run is_code cs)
+run-code c cs h = ap (λ b. cond b (suc (run is_code cs)) 0) h
+
+run-stop : (c : ℕ) (cs : List ℕ) → is_code c ≡ false → run is_code (c ∷ cs) ≡ 0
+run-stop c cs h = ap (λ b. cond b (suc (run is_code cs)) 0) h
+
+pub code-next : (text rest after : List ℕ) (code new : Code) (c : ℕ) → IsCodeSoFar text code rest → chars rest ≡ c ∷ chars after →
+    IsUtf8 after → length after < length rest → is_code c ≡ true → Stepped code new c → IsCodeSoFar text new after
+code-next text rest after code new c s k u l h (digit x few d v z) =
+    let r : run is_code (chars rest) ≡ suc (run is_code (chars after)) = ap (run is_code) k ∙ run-code c (chars after) h in
+    let ds : code_digits (chars rest) ≡ c ∷ code_digits (chars after) = ap code_digits k ∙ digits-next c (chars after) h ∙ ap (λ b. cond b (c ∷ code_digits (chars after)) (code_digits (chars after))) x in
+    let a = s.size_is in
+    let g = s.digits_are in
+    let f = s.fits in
+    record {
+      size_is = omega (arith, a, r, z);
+      value_is = s.value_is ∙ ap (digits_value_after 16 code.value) ds ∙ ap (λ n. digits_value_after 16 n (code_digits (chars after))) (sym v);
+      digits_are = omega (arith, g, d, ap length ds);
+      few = omega (arith, d, few);
+      small = rw (d, v) (code-small code.digits code.value (digit_value c) few s.small (hex-less c x));
+      fits = omega (arith, f, l, z);
+      utf8 = u;
+    }
+code-next text rest after code new c s k u l h (blank x d v z) =
+    let r : run is_code (chars rest) ≡ suc (run is_code (chars after)) = ap (run is_code) k ∙ run-code c (chars after) h in
+    let ds : code_digits (chars rest) ≡ code_digits (chars after) = ap code_digits k ∙ digits-next c (chars after) h ∙ ap (λ b. cond b (c ∷ code_digits (chars after)) (code_digits (chars after))) x in
+    let a = s.size_is in
+    let g = s.digits_are in
+    let f = s.fits in
+    let w = s.few in
+    record {
+      size_is = omega (arith, a, r, z);
+      value_is = s.value_is ∙ ap (digits_value_after 16 code.value) ds ∙ ap (λ n. digits_value_after 16 n (code_digits (chars after))) (sym v);
+      digits_are = omega (arith, g, d, ap length ds);
+      few = omega (arith, d, w);
+      small = rw (d, v) s.small;
+      fits = omega (arith, f, l, z);
+      utf8 = u;
+    }
+
+-- the code ends where no digits follow
+pub code-end : (text rest : List ℕ) (code : Code) → IsCodeSoFar text code rest → run is_code (chars rest) ≡ 0 → code_digits (chars rest) ≡ [] → IsCode text code
+code-end text rest code s r d =
+    let a = s.size_is in
+    let g = s.digits_are in
+    let f = s.fits in
+    let w = s.few in
+    record {
+      size_is = omega (arith, a, r);
+      value_is = sym (s.value_is ∙ ap (digits_value_after 16 code.value) d);
+      few = omega (arith, g, w, ap length d);
+      fits = omega (arith, f);
+    }
+
+pub code-end_text : (text rest : List ℕ) (code : Code) → IsCodeSoFar text code rest → chars rest ≡ [] → IsCode text code
+code-end_text text rest code s k = code-end text rest code s (ap (run is_code) k) (ap code_digits k)
+
+pub code-end_char : (text rest : List ℕ) (code : Code) (c : ℕ) (cs : List ℕ) → IsCodeSoFar text code rest → chars rest ≡ c ∷ cs → is_code c ≡ false → IsCode text code
+code-end_char text rest code c cs s k h =
+    code-end text rest code s (ap (run is_code) k ∙ run-stop c cs h) (ap code_digits k ∙ digits-end c cs h)
+
+none-digit : (code : Code) (c : ℕ) (b : Bool) → nat_lt code.digits 6 ≡ b →
+    cond {A = Option Code} b (Some record { size = code.size + 1; digits = code.digits + 1; value = code.value * 16 + digit_value c }) None ≡ None → 6 ≤ code.digits
+none-digit code c true l h = absurd (cc)
+none-digit code c false l h = grind (arith, nat_tests)
+
+data Full (code : Code) (c : ℕ) : Type 0 where
+  full : is_hex c ≡ true → 6 ≤ code.digits → Full code c
+
+none-on : (code : Code) (c : ℕ) (b : Bool) → is_hex c ≡ b →
+    cond {A = Option Code} b (with_digit code (digit_value c)) (Some record { size = code.size + 1; digits = code.digits; value = code.value }) ≡ None → Full code c
+none-on code c true k h = full k (none-digit code c (nat_lt code.digits 6) refl h)
+none-on code c false k h = absurd (cc)
+
+pub code-many : (text rest after : List ℕ) (code : Code) (c : ℕ) → IsCodeSoFar text code rest → chars rest ≡ c ∷ chars after → is_code c ≡ true →
+    with_code code c ≡ None → 6 < length (code_digits (chars text))
+code-many text rest after code c s k h n =
+    elim (none-on code c (is_hex c) refl n) [
+      | full x few ↦
+          let ds : code_digits (chars rest) ≡ c ∷ code_digits (chars after) = ap code_digits k ∙ digits-next c (chars after) h ∙ ap (λ b. cond b (c ∷ code_digits (chars after)) (code_digits (chars after))) x in
+          let g = s.digits_are in
+          omega (arith, g, few, ap length ds)
+    ]
+
+code-ascii : (c : ℕ) → is_code c ≡ true → c < 128
+code-ascii c h = grind (arith, nat_tests)
+
+pub code-front : (text : List ℕ) (code : Code) → IsUtf8 text → IsCode text code → IsFront text code.size code.size
+code-front text code u k =
+    let P : ℕ → Type 0 = λ n. IsFront text n n in
+    subst P (sym k.size_is) (ascii-front text (run is_code (chars text)) u (ascii-run is_code (chars text) code-ascii))
+
+and-true : (a b : Bool) → a ≡ true → b ≡ true → (a && b) ≡ true
+and-true a b h k = ap (λ v. v && b) h ∙ k
+
+and-false : (a b : Bool) → b ≡ false → (a && b) ≡ false
+and-false true b h = h
+and-false false b h = refl
+
+unicode-as : (text after : List ℕ) (c : ℕ) (b : Bool) → chars text ≡ c ∷ chars after → (nat_eq c 123 && is_code_point (chars after)) ≡ b →
+    unicode_segment (chars text) ≡ cond {A = Option Segment} b (Some record { size = run is_code (chars after) + 4; means = Some (digits_value 16 (code_digits (chars after))) }) None
+unicode-as text after c b k h =
+    ap unicode_segment k ∙
+    ap (λ v. cond {A = Option Segment} v (Some record { size = run is_code (chars after) + 4; means = Some (digits_value 16 (code_digits (chars after))) }) None) h
+
+begins-behind : (after rest : List ℕ) (code : Code) (b : Bool) → IsUtf8 after → IsCode after code → rest ≡ drop code.size after →
+    begins 125 (chars rest) ≡ b → begins 125 (drop (run is_code (chars after)) (chars after)) ≡ b
+begins-behind after rest code b u k e h =
+    ap (λ n. begins 125 (drop n (chars after))) (sym k.size_is) ∙ ap (begins 125) (sym (code-front after code u k).rest_is) ∙
+    ap (λ l. begins 125 (chars l)) (sym e) ∙ h
+
+pub unicode-unclosed : (text after rest : List ℕ) (c : ℕ) (code : Code) → chars text ≡ c ∷ chars after → IsUtf8 after → IsCode after code →
+    rest ≡ drop code.size after → begins 125 (chars rest) ≡ false → None ≡ unicode_segment (chars text)
+unicode-unclosed text after rest c code k u d e h =
+    let b = begins-behind after rest code false u d e h in
+    let cs : List ℕ = chars after in
+    let inner : (begins_hex cs && begins 125 (drop (run is_code cs) cs)) ≡ false = and-false _ _ b in
+    let outer : is_code_point cs ≡ false =
+    ap (λ v. v && nat_lt (length (code_digits cs)) 7 && is_scalar (digits_value 16 (code_digits cs))) inner in
+    sym (unicode-as text after c false k (and-false _ _ outer))
+
+pub unicode-closed : (text after rest : List ℕ) (c v : ℕ) (code : Code) → chars text ≡ c ∷ chars after → IsUtf8 after → c ≡ 123 →
+    begins_hex (chars after) ≡ true → IsCode after code →
+    rest ≡ drop code.size after → begins 125 (chars rest) ≡ true → v ≡ code.value → is_scalar code.value ≡ true →
+    Some record { size = code.size + 4; means = Some v } ≡ unicode_segment (chars text)
+unicode-closed text after rest c v code k u z x d e h w s =
+    let cs : List ℕ = chars after in
+    let b = begins-behind after rest code true u d e h in
+    let few : nat_lt (length (code_digits cs)) 7 ≡ true = let f = d.few in grind (arith, nat_tests, f) in
+    let scalar : is_scalar (digits_value 16 (code_digits cs)) ≡ true = ap is_scalar (sym d.value_is) ∙ s in
+    let inner : is_code_point cs ≡ true = and-true _ _ (and-true _ _ (and-true _ _ x b) few) scalar in
+    let brace : nat_eq c 123 ≡ true = ap (λ n. nat_eq n 123) z in
+    sym (unicode-as text after c true k (and-true _ _ brace inner) ∙
+    ap (λ n. Some record { size = n + 4; means = Some (digits_value 16 (code_digits cs)) }) (sym d.size_is) ∙
+    ap (λ n. Some record { size = code.size + 4; means = Some n }) (sym d.value_is ∙ sym w))
+
+scalar-on : (c : ℕ) → (c < 55296) ⊎ ((57344 ≤ c) × (c < 1114112)) → is_scalar c ≡ true
+scalar-on c (inl h) = grind (arith, nat_tests)
+scalar-on c (inr h) = let a = h.0 in let b = h.1 in grind (arith, nat_tests)
+
+pub scalar-is : (c : ℕ) → IsScalar c → is_scalar c ≡ true
+scalar-is c h = scalar-on c (scalar_cases c h)

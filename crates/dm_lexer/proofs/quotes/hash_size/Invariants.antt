@@ -1,0 +1,10 @@
+use Rattle.std.proofs.Common.{length}
+use Rattle.dm_lexer.specs.Quotes.{is_hash}
+use Rattle.dm_lexer.proofs.Segments.{IsCountedSoFar}
+use Rattle.dm_lexer.proofs.quotes.hash_size.Given as goal
+
+abbrev pub invariant-loop-c : goal.invariant-loop-c
+invariant-loop-c l = IsCountedSoFar is_hash l.text l.size l.rest
+
+abbrev pub decreases-loop-c : goal.decreases-loop-c
+decreases-loop-c l = length l.rest

@@ -1,0 +1,12 @@
+pub mod Blanks
+pub mod Characters
+pub mod Lexemes
+pub mod Nesting
+pub mod Numbers
+pub mod Quotes
+pub mod Ranges
+pub mod Rows
+pub mod TextFronts
+pub mod Values
+pub mod Words
+pub mod Written

@@ -1,0 +1,143 @@
+//! Lexemes as they are nested in groups (Rust Reference, "Macros", token trees), and the limit on that in docs/FORMATS.md.
+
+ghost use Rattle.std.specs.Prelude.{◌≡◌, ◌<◌, [], None, slice_set, IfOk, MatchOption};
+ghost use Rattle.std.specs.Vec.{vec_len};
+ghost use Rattle.dm_lexer.specs.Nesting.{IsInnermost, IsNested, IsNesting, Takes, deeper, none_deep};
+ghost use Rattle.dm_stream.specs.Trees.{no_trees};
+ghost use Rattle.dm_lexer.specs.declared.lexing.Lexeme.TheVariants as lexeme;
+
+use crate::lexing::Lexeme;
+use dm_stream::{Delim, Entry, Span, Token, span_of};
+use std::alloc::{AllocError, Global};
+
+/// A group that is not closed yet, and the place of its first entry.
+#[derive(Clone, Copy)]
+pub struct OpenGroup {
+    pub delim: Delim,
+    pub from: Span,
+    pub place: usize,
+}
+
+/// In how many groups a token or delimiter may stand, and the range of the first one that stands in more.
+#[derive(Clone, Copy)]
+pub struct Depth {
+    pub deepest: usize,
+    pub first: Option<Span>,
+}
+
+/// The entries that were read so far, the groups among them that are open, and the first one that is too deep.
+#[derive(Drop)]
+pub struct Nesting<'a> {
+    pub entries: Vec<Entry<'a>>,
+    pub opened: Vec<OpenGroup>,
+    pub deep: Depth,
+}
+
+impl<'a> Nesting<'a> {
+    pub fn new(alloc: Global, deepest: usize) -> Nesting<'a>
+        ensures nested { IsNesting result [] no_trees }
+        ensures deep { result.deep ≡ none_deep deepest }
+    {
+        Nesting {
+            entries: Vec::new(alloc),
+            opened: Vec::new(alloc),
+            deep: Depth {
+                deepest,
+                first: None,
+            },
+        }
+    }
+
+    /// The range of the innermost opener that is open.
+    pub fn innermost(&self) -> Option<Span>
+        ensures { MatchOption result (self.now.opened.items ≡ []) (λ s. IsInnermost self.now.opened.items s) }
+    {
+        match self.opened.last() {
+            Some(open) => Some(open.from),
+            None => None,
+        }
+    }
+
+    /// Takes the next lexeme, or gives its range where it closes no open group.
+    pub fn take(&mut self, next: Lexeme<'a>) -> Result<Option<Span>, AllocError>
+        requires { IsNested self.old }
+        ensures { IfOk result (λ s. Takes s self.old self.new next.entry) }
+    {
+        match next {
+            Lexeme::Token(token) => {
+                self.add(token)?;
+                Ok(None)
+            }
+            Lexeme::Open(delim, from) => {
+                self.open(delim, from)?;
+                Ok(None)
+            }
+            Lexeme::Close(delim, upto) => self.close(delim, upto),
+        }
+    }
+
+    fn add(&mut self, item: Token<'a>) -> Result<(), AllocError>
+        ensures { IfOk result (λ _. Takes None self.old self.new (lexeme.Token item.entry)) }
+    {
+        self.deep = deeper_of(self.deep, self.opened.len(), span_of(&item));
+        self.entries.push(Entry::Token(item))?;
+        Ok(())
+    }
+
+    fn open(&mut self, delim: Delim, from: Span) -> Result<(), AllocError>
+        ensures { IfOk result (λ _. Takes None self.old self.new (lexeme.Open delim from)) }
+    {
+        self.deep = deeper_of(self.deep, self.opened.len(), from);
+        let place = self.entries.len();
+        self.entries.push(Entry::Open(delim, from, 0))?;
+        self.opened.push(OpenGroup { delim, from, place })?;
+        Ok(())
+    }
+
+    fn close(&mut self, delim: Delim, upto: Span) -> Result<Option<Span>, AllocError>
+        requires { IsNested self.old }
+        ensures { IfOk result (λ s. Takes s self.old self.new (lexeme.Close delim upto)) }
+    {
+        let Some(innermost) = self.opened.pop() else {
+            return Ok(Some(upto));
+        };
+        if innermost.delim != delim {
+            return Ok(Some(upto));
+        }
+        self.deep = deeper_of(self.deep, self.opened.len(), upto);
+        let count = self.entries.len() - innermost.place;
+        let opener = Entry::Open(innermost.delim, innermost.from, count);
+        put(&mut self.entries, innermost.place, opener);
+        self.entries.push(Entry::Close(delim, upto))?;
+        Ok(None)
+    }
+}
+
+/// The first place that is too deep, with one more, which stands inside `depth` groups.
+fn deeper_of(deep: Depth, depth: usize, here: Span) -> Depth
+    ensures { result ≡ deeper deep depth here }
+{
+    let Depth { deepest, first } = deep;
+    match first {
+        Some(span) => Depth {
+            deepest,
+            first: Some(span),
+        },
+        None if deepest < depth => Depth {
+            deepest,
+            first: Some(here),
+        },
+        None => Depth {
+            deepest,
+            first: None,
+        },
+    }
+}
+
+/// Puts an entry in place of another.
+fn put<'a>(entries: &mut Vec<Entry<'a>>, place: usize, item: Entry<'a>)
+    requires { place < vec_len entries.old }
+    ensures { entries.new.items ≡ slice_set entries.old.items place item.entry }
+{
+    entries[place] = item;
+}

@@ -1,0 +1,6 @@
+pub mod BarePaths
+pub mod FrontParts
+pub mod LicensedFronts
+pub mod Lone
+pub mod MetaFronts
+pub mod MetaRules

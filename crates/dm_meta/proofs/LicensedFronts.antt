@@ -1,0 +1,58 @@
+-- Where bare paths and metas are refused.
+use Rattle.std.proofs.Common.{Ok, Err, arith}
+use Rattle.dm_stream.specs.declared.tokens.Delim.TheVariants.{Paren}
+use Rattle.dm_stream.specs.Trees.{Trees}
+use Rattle.dm_ast.specs.Tree.{PathTree, absent, segments_of}
+use Rattle.dm_ast.specs.Spelling.{Where, sees_group, sees_literal, sees_colons}
+use Rattle.dm_read_types.specs.BarePaths.{sees_angled, read_bare_arguments, read_bare_segments, read_bare_path}
+use Rattle.dm_ast.specs.Readers.{Outcome, mapped, read_any, read_rest, inside_at}
+use Rattle.dm_read_types.specs.TypeReaders.{segment_of, path_of, read_type}
+use Rattle.dm_meta.specs.Metas.{PathOrKeywordTree, path_meta}
+use Rattle.dm_meta.specs.MetaReaders.{is_syntax, keyword_of, if_no_path, read_keyword, read_path_or_keyword, read_enclosed, list_of, read_meta_list, list_behind, behind_path, read_meta, lit_of, nested_of, read_nested_meta}
+use Rattle.dm_ast.specs.Places.{Licensed}
+use Rattle.dm_ast.specs.TypeGrammar.{is_path_word}
+use Rattle.dm_read_decl.proofs.Licensing.{Licenses, licensed_any, licensed_gives, licensed_and, licensed_bind, licensed_test, licensed_either, licensed_nothing, licensed_any_ident, licensed_ident, licensed_literal, licensed_group, licensed_rest, licensed_chain}
+use Rattle.dm_read_decl.proofs.LicensedParts.{licensed_leading, licensed_colons}
+use Rattle.dm_read_decl.proofs.LicensedTypes.{licensed_angled, licensed_type}
+
+module _ (w : Where) where
+  licensed_bare_arguments : Licenses 0 w (read_bare_arguments (read_type 129) w)
+  licensed_bare_arguments =
+      licensed_either sees_angled (licensed_angled (read_type 129) w.level (λ mode v below. licensed_type 129 mode v (omega arith)) w (omega arith))
+      (licensed_nothing absent)
+
+  licensed_bare_segments : Licenses 0 w (read_bare_segments (read_type 129) w)
+  licensed_bare_segments =
+      licensed_chain sees_colons (licensed_colons w) (licensed_gives (licensed_and (licensed_ident is_path_word w) licensed_bare_arguments) segment_of)
+
+  pub licensed_bare_path : Licenses 0 w (read_bare_path (read_type 129) w)
+  licensed_bare_path = licensed_gives (licensed_and (licensed_leading w) (licensed_gives licensed_bare_segments segments_of)) path_of
+
+  -- ---- a path or a keyword
+
+  licensed_keyword : Licenses 0 w (read_keyword w)
+  licensed_keyword = licensed_gives (licensed_any_ident w) keyword_of
+
+  if_no_path_outcome : (ts : Trees) (o : Outcome PathTree) → Licensed 0 w ts o → Licensed 0 w ts (if_no_path w ts o)
+  if_no_path_outcome ts (Ok p) h = h
+  if_no_path_outcome ts (Err r) h = licensed_test 0 w ts (is_syntax r.kind) (mapped keyword_of (read_any w ts)) (Err r) (λ _. licensed_keyword.at ts) (λ _. h)
+
+  pub licensed_word : Licenses 0 w (read_path_or_keyword w)
+  licensed_word = record { at = λ ts. if_no_path_outcome ts (read_bare_path (read_type 129) w ts) (licensed_bare_path.at ts) }
+
+  -- ---- metas
+
+  licensed_enclosed : Licenses 0 w (read_enclosed w)
+  licensed_enclosed = licensed_any (licensed_group Paren read_rest w (λ limit. licensed_rest (inside_at w limit)))
+
+  pub licensed_meta_list : Licenses 0 w (read_meta_list w)
+  licensed_meta_list = licensed_gives (licensed_and licensed_word licensed_enclosed) list_of
+
+  licensed_behind : (p : PathOrKeywordTree) → Licenses 0 w (behind_path w p)
+  licensed_behind p = licensed_either (sees_group Paren) (licensed_gives licensed_enclosed (list_behind p)) (licensed_nothing (path_meta p))
+
+  pub licensed_meta : Licenses 0 w (read_meta w)
+  licensed_meta = record { at = λ ts. licensed_bind w ts (read_path_or_keyword w ts) (behind_path w) (licensed_word.at ts) (λ p. (licensed_behind p).at) }
+
+  pub licensed_nested : Licenses 0 w (read_nested_meta w)
+  licensed_nested = licensed_either sees_literal (licensed_gives (licensed_literal w) lit_of) (licensed_gives licensed_meta nested_of)

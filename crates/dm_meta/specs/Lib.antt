@@ -1,0 +1,4 @@
+pub mod ArgReaders
+pub mod Fronts
+pub mod MetaReaders
+pub mod Metas

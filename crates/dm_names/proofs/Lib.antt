@@ -1,0 +1,7 @@
+pub mod DeclaredPlaces
+pub mod NameChecks
+pub mod NamePlaces
+pub mod NameRefusals
+pub mod OwnNames
+pub mod RepeatedNames
+pub mod SeenSteps

@@ -1,0 +1,9 @@
+use Rattle.std.proofs.Common.{◌≡◌, map, flat_map, drop}
+use Rattle.dm_ast.specs.Declarations.{predicate_view}
+use Rattle.dm_ast.specs.Names.{in_predicate}
+use Rattle.dm_names.specs.NamePlaces.{first_place}
+use Rattle.dm_names.proofs.declarations.in_predicates.Given as goal
+
+abbrev pub invariant-loop-item : goal.invariant-loop-item
+invariant-loop-item l =
+    first_place l.wanted (flat_map in_predicate (map predicate_view l.all)) ≡ first_place l.wanted (flat_map in_predicate (map predicate_view (drop l.item-index l.all)))

@@ -1,0 +1,3 @@
+pub mod NamePlaces
+pub mod Repeats
+pub mod SeenNames

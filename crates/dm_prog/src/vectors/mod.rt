@@ -1,8 +1,0 @@
-//! Texts and what the libraries answer on them.
-
-mod fronts;
-mod grammar;
-mod metas;
-mod names;
-mod tokens;
-mod trees;

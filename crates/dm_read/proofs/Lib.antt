@@ -1,0 +1,14 @@
+pub mod Deciding
+pub mod Depths
+pub mod Following
+pub mod Groups
+pub mod KeywordSizes
+pub mod Loops
+pub mod MacroSeeing
+pub mod Mapped
+pub mod Opening
+pub mod PathSeeing
+pub mod Ranges
+pub mod Restrictions
+pub mod Seeing
+pub mod Tokens

@@ -1,0 +1,4 @@
+pub mod DeclarationReaders
+pub mod Deep
+pub mod Links
+pub mod Stops

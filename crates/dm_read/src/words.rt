@@ -1,0 +1,211 @@
+//! What identifiers may be.
+
+ghost use Rattle.std.specs.Prelude.{◌≡◌, IfOk, bytes_eq};
+ghost use Rattle.std.specs.List.{list_any};
+ghost use Rattle.dm_stream.specs.Cursors.{left, sound, IsPlaceAfter};
+ghost use Rattle.dm_ast.specs.Keywords as spells;
+ghost use Rattle.dm_ast.specs.TypeGrammar as grammar;
+ghost use Rattle.dm_ast.specs.Readers as spec;
+ghost use Rattle.dm_ast.specs.Readers.{place, Reads};
+
+use crate::token::{
+    behind_two, is_word, refused, sees, sees_colon, sees_colons, sees_group, sees_lifetime,
+    sees_word, too_deep,
+};
+use dm_stream::{Cursor, DEEPEST, Delim, Error, Ident};
+
+/// The words that are no name unless `r#` stands before them (Rust Reference, Keywords).
+const KEYWORDS: [&str; 51] = [
+    "abstract", "as", "async", "await", "become", "box", "break", "const", "continue", "crate",
+    "do", "dyn", "else", "enum", "extern", "false", "final", "fn", "for", "if", "impl", "in",
+    "let", "loop", "macro", "match", "mod", "move", "mut", "override", "priv", "pub", "ref",
+    "return", "Self", "self", "static", "struct", "super", "trait", "true", "try", "type",
+    "typeof", "unsafe", "unsized", "use", "virtual", "where", "while", "yield",
+];
+
+/// Whether an identifier may be declared.
+pub fn is_name(ident: &Ident<'_>) -> bool
+    ensures { result ≡ spells.is_name ident.now }
+{
+    !ident.name.is_same("_") && (ident.raw || !is_keyword(ident.name.as_str()))
+}
+
+// The shortest keywords have two letters, and the longest eight.
+#[tactic(auto, unfolding(dm_ast::specs::Keywords::is_keyword), using(crate::proofs::KeywordSizes::size_steps))]
+fn is_keyword(name: &str) -> bool
+    ensures { result ≡ spells.is_keyword name.now }
+{
+    if name.len() < 2 {
+        return false;
+    }
+    if name.len() > 8 {
+        return false;
+    }
+    is_listed(name, &KEYWORDS)
+}
+
+fn is_listed(name: &str, words: &[&str]) -> bool
+    ensures { result ≡ list_any (λ w. bytes_eq name.now w.now) words.now }
+{
+    words
+        .iter()
+        .any(|word| name.len() == word.len() && name == *word)
+}
+
+/// Whether an identifier may stand in a path of a type.
+pub fn is_path_word(ident: &Ident<'_>) -> bool
+    ensures { result ≡ grammar.is_path_word ident.now }
+{
+    is_name(ident)
+        || (is_word("self", ident)
+            || (is_word("Self", ident) || (is_word("super", ident) || is_word("crate", ident))))
+}
+
+/// Whether an identifier is `true` or `false`.
+pub fn is_truth(ident: &Ident<'_>) -> bool
+    ensures { result ≡ grammar.is_truth ident.now }
+{
+    is_word("true", ident) || is_word("false", ident)
+}
+
+/// A name.
+pub fn name<'t, 'a>(
+    level: usize,
+    c: Cursor<'t, 'a>,
+) -> Result<(&'t Ident<'a>, Cursor<'t, 'a>), Error>
+    requires { sound c }
+    ensures reads { Reads (λ i. i.now) (spec.read_ident spells.is_name (place level c.entry) (left c.entry)) result }
+    ensures place { IfOk result (λ r. IsPlaceAfter c.entry r.1) }
+{
+    let Some((ident, rest)) = c.ident() else {
+        return Err(refused(c));
+    };
+    if !is_name(ident) {
+        return Err(refused(c));
+    }
+    if level > DEEPEST {
+        return Err(too_deep(c.front()));
+    }
+    Ok((ident, rest))
+}
+
+/// `true` or `false`.
+pub fn truth<'t, 'a>(
+    level: usize,
+    c: Cursor<'t, 'a>,
+) -> Result<(&'t Ident<'a>, Cursor<'t, 'a>), Error>
+    requires { sound c }
+    ensures reads { Reads (λ i. i.now) (spec.read_ident grammar.is_truth (place level c.entry) (left c.entry)) result }
+    ensures place { IfOk result (λ r. IsPlaceAfter c.entry r.1) }
+{
+    let Some((ident, rest)) = c.ident() else {
+        return Err(refused(c));
+    };
+    if !is_truth(ident) {
+        return Err(refused(c));
+    }
+    if level > DEEPEST {
+        return Err(too_deep(c.front()));
+    }
+    Ok((ident, rest))
+}
+
+/// Whether an identifier that may stand in a path of a type comes next.
+#[tactic(auto, using(crate::proofs::Seeing::path_word_steps))]
+pub fn sees_path_word(c: Cursor<'_, '_>) -> bool
+    requires { sound c }
+    ensures { result ≡ grammar.sees_path_word (left c.entry) }
+{
+    match c.ident() {
+        Some((ident, _)) => is_path_word(ident),
+        None => false,
+    }
+}
+
+/// Whether a bound comes next.
+pub fn sees_bound(c: Cursor<'_, '_>) -> bool
+    requires { sound c }
+    ensures { result ≡ grammar.sees_bound (left c.entry) }
+{
+    ((((sees_lifetime(c) || sees('?', c)) || sees_group(Delim::Paren, c)) || sees_word("for", c))
+        || sees_colons(c))
+        || sees_path_word(c)
+}
+
+/// Whether a name of a parameter and a `:` come next.
+#[tactic(auto, using(crate::proofs::Seeing::named_steps))]
+pub fn sees_named(c: Cursor<'_, '_>) -> bool
+    requires { sound c }
+    ensures { result ≡ grammar.sees_named (left c.entry) }
+{
+    match c.ident() {
+        Some((ident, rest)) => is_input_name(ident) && sees_colon(rest),
+        None => false,
+    }
+}
+
+/// Whether an identifier may name a parameter.
+pub fn is_input_name(ident: &Ident<'_>) -> bool
+    ensures { result ≡ grammar.is_input_name ident.now }
+{
+    is_name(ident) || is_word("_", ident)
+}
+
+/// A name of a parameter.
+pub fn input_name<'t, 'a>(
+    level: usize,
+    c: Cursor<'t, 'a>,
+) -> Result<(&'t Ident<'a>, Cursor<'t, 'a>), Error>
+    requires { sound c }
+    ensures reads { Reads (λ i. i.now) (spec.read_ident grammar.is_input_name (place level c.entry) (left c.entry)) result }
+    ensures place { IfOk result (λ r. IsPlaceAfter c.entry r.1) }
+{
+    let Some((ident, rest)) = c.ident() else {
+        return Err(refused(c));
+    };
+    if !is_input_name(ident) {
+        return Err(refused(c));
+    }
+    if level > DEEPEST {
+        return Err(too_deep(c.front()));
+    }
+    Ok((ident, rest))
+}
+
+/// An identifier of a path of a type.
+pub fn path_word<'t, 'a>(
+    level: usize,
+    c: Cursor<'t, 'a>,
+) -> Result<(&'t Ident<'a>, Cursor<'t, 'a>), Error>
+    requires { sound c }
+    ensures reads { Reads (λ i. i.now) (spec.read_ident grammar.is_path_word (place level c.entry) (left c.entry)) result }
+    ensures place { IfOk result (λ r. IsPlaceAfter c.entry r.1) }
+{
+    let Some((ident, rest)) = c.ident() else {
+        return Err(refused(c));
+    };
+    if !is_path_word(ident) {
+        return Err(refused(c));
+    }
+    if level > DEEPEST {
+        return Err(too_deep(c.front()));
+    }
+    Ok((ident, rest))
+}
+
+/// Whether `::` and `<` come next.
+#[tactic(auto, using(crate::proofs::PathSeeing::turbofish_steps))]
+pub fn sees_turbofish(c: Cursor<'_, '_>) -> bool
+    requires { sound c }
+    ensures { result ≡ grammar.sees_turbofish (left c.entry) }
+{
+    sees_colons(c) && sees('<', behind_two(c))
+}
+
+/// Whether arguments of a segment come next.
+pub fn sees_arguments(c: Cursor<'_, '_>) -> bool
+    requires { sound c }
+    ensures { result ≡ grammar.sees_arguments (left c.entry) }
+{
+    (sees('<', c) || sees_turbofish(c)) || sees_group(Delim::Paren, c)
+}

@@ -1,0 +1,14 @@
+pub mod DeclarationBounds
+pub mod DeclarationFields
+pub mod DeclarationGenerics
+pub mod DeclarationParts
+pub mod DeclarationRules
+pub mod DeclarationTheorem
+pub mod LicensedDeclarations
+pub mod LicensedParts
+pub mod LicensedTypes
+pub mod Licensing
+pub mod Runs
+pub mod TypeFronts
+pub mod WholeDeclarations
+pub mod WholeSteps

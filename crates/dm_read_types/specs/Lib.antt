@@ -1,0 +1,5 @@
+pub mod BarePaths
+pub mod Bindings
+pub mod Nests
+pub mod TypeReaders
+pub mod WholeReaders

@@ -1,9 +1,0 @@
-use Rattle.std.proofs.Common.{◌≡◌, map, flat_map, drop}
-use Rattle.dm_syntax.specs.Declarations.{param_view}
-use Rattle.dm_syntax.specs.Names.{in_param}
-use Rattle.dm_syntax.specs.NamePlaces.{first_place}
-use Rattle.dm_syntax.proofs.naming.declarations.in_params.Given as goal
-
-abbrev pub invariant-loop-item : goal.invariant-loop-item
-invariant-loop-item l =
-    first_place l.wanted (flat_map in_param (map param_view l.all)) ≡ first_place l.wanted (flat_map in_param (map param_view (drop l.item-index l.all)))

@@ -1,8 +1,0 @@
-use Rattle.std.proofs.Common.{◌≡◌, map, drop}
-use Rattle.dm_syntax.specs.Names.{name_at, bound}
-use Rattle.dm_syntax.specs.NamePlaces.{first_place}
-use Rattle.dm_syntax.proofs.naming.places.in_lifetimes.Given as goal
-
-abbrev pub invariant-loop-item : goal.invariant-loop-item
-invariant-loop-item l =
-    first_place l.wanted (map (λ x. name_at bound x.name x.span) l.all) ≡ first_place l.wanted (map (λ x. name_at bound x.name x.span) (drop l.item-index l.all))

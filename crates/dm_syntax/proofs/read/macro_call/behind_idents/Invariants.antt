@@ -1,9 +1,0 @@
-use Rattle.std.proofs.Common.{◌≡◌, ◌+◌, ◌≤◌, length}
-use Rattle.dm_tokens.specs.Trees.{flatten}
-use Rattle.dm_tokens.specs.Cursors.{left, IsPlaceAfter}
-use Rattle.dm_syntax.specs.TypeGrammar.{behind_idents}
-use Rattle.dm_syntax.proofs.read.macro_call.behind_idents.Given as goal
-
-abbrev pub invariant-loop-turn : goal.invariant-loop-turn
-invariant-loop-turn l =
-    IsPlaceAfter l.fn.c l.rest × (behind_idents (left l.fn.c) ≡ behind_idents (left l.rest)) × (l._turn + length (flatten (left l.rest)) ≤ length (flatten (left l.fn.c)))

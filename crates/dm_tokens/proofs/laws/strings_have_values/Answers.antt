@@ -1,5 +1,0 @@
-use Rattle.dm_tokens.proofs.Valued.{strings-valued}
-use Rattle.dm_tokens.proofs.laws.strings_have_values.Goals as goal
-
-pub returns : goal.returns
-returns c = strings-valued

@@ -1,5 +1,0 @@
-use Rattle.dm_tokens.proofs.RowSteps.{word-found}
-use Rattle.dm_tokens.proofs.rows.word_row.Goals as goal
-
-pub returns-in-Some : goal.returns-in-Some
-returns-in-Some c = rw c.word_of.ensures (word-found _ _ _ c.utf8.text c.requires.some c.in-Some.ensures)

@@ -1,0 +1,9 @@
+pub mod Comparing
+pub mod CutMacros
+pub mod Cutting
+pub mod RespelledTypes
+pub mod Respelling
+pub mod SameSpelled
+pub mod SameTokens
+pub mod Unplaced
+pub mod UnplacedSame

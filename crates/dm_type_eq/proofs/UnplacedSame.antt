@@ -1,0 +1,619 @@
+-- Types that are equal without the places of their tokens are the same part for part, and types with the same tokens
+-- are spelled by equal trees without their places.
+use Rattle.std.proofs.Common.{◌≡◌, ℕ, ◌+◌, Bool, true, false, cond, ◌&&◌, ◌==◌, nat_eq, List, [], ◌∷◌, ◌++◌, length, map, take, drop, codes, Option, Some, None, refl, sym, ap, ap₂, ◌∙◌, append_assoc, append-nil}
+use Rattle.std.proofs.lemmas.Bool.Decides.{Decides-eqb}
+use Rattle.std.proofs.lemmas.List.{map-append, length-map, take-map, drop-map}
+use Rattle.std.proofs.lemmas.Slice.Eq.{bytes_eq-Decides}
+use Rattle.std.specs.Str.{bytes_eq}
+use Rattle.dm_stream.specs.declared.tokens.Span.{Span}
+use Rattle.dm_stream.specs.declared.tokens.Delim.{Delim}
+use Rattle.dm_stream.specs.declared.tokens.Delim.TheVariants.{Paren, Bracket, Brace}
+use Rattle.dm_stream.specs.declared.tokens.Ident.{Ident}
+use Rattle.dm_stream.specs.declared.tokens.Lifetime.{Lifetime}
+use Rattle.dm_stream.specs.declared.tokens.Literal.{Literal}
+use Rattle.dm_stream.specs.declared.tokens.Spacing.{Spacing}
+use Rattle.dm_stream.specs.declared.tokens.Spacing.TheVariants.{Joint, Alone}
+use Rattle.dm_stream.specs.declared.tokens.Token.{Token}
+use Rattle.dm_stream.specs.declared.tokens.Token.TheVariants as t
+use Rattle.dm_stream.specs.declared.tokens.Entry.{Entry}
+use Rattle.dm_stream.specs.declared.tokens.Entry.TheVariants as entry
+use Rattle.dm_stream.specs.Layout.{nowhere}
+use Rattle.dm_stream.specs.Trees.{Trees, no_trees, token, group, join, flatten, Stream, join-no_trees}
+use Rattle.dm_stream.specs.Cursors.{same_delim}
+use Rattle.dm_ast.specs.declared.plain.PlainPath.{PlainPath}
+use Rattle.dm_ast.specs.declared.plain.AttrArgs.{AttrArgs}
+use Rattle.dm_ast.specs.declared.plain.AttrArgs.TheVariants as args
+use Rattle.dm_ast.specs.declared.plain.Attribute.{Attribute}
+use Rattle.dm_ast.specs.declared.plain.ConstArg.{ConstArg}
+use Rattle.dm_ast.specs.declared.plain.ConstArg.TheVariants as constant
+use Rattle.dm_ast.specs.Tree.{Lifetimes, TypeTree, type_tree, TypeNode, paren, tuple, slice, array, reference, pointer, bare_fn, trait_object, impl_trait, infer, never, path, macro_type, TypeTrees, no_types, type_then, MaybeType, no_type, some_type, MaybeSelf, no_self, some_self, BoundTree, outlives, implements, BoundTrees, no_bounds, bound_then, TraitBoundTree, trait_bound, FnTree, fn_tree, InputTree, input, InputTrees, no_inputs, input_then, PathTree, path_tree, SegmentTree, segment, SegmentTrees, no_segments, segment_then, ArgumentsTree, absent, angle, parens, ArgumentTree, lifetime_arg, type_arg, const_arg, assoc_type, assoc_const, constraint, ArgumentTrees, no_arguments, argument_then, MaybeArguments, arguments_absent, some_arguments}
+use Rattle.dm_ast.specs.TypeTokens as spell
+use Rattle.dm_type_eq.specs.BareTokens.{Bare, bare_name, bare_lifetime, bare_literal, bare_punct, opening, closing, bare, tokens_of}
+use Rattle.dm_type_eq.specs.SameTypes.{same_flag, same_option, all_same, same_list, same_name, same_lifetime, kind_number, same_literal, same_spacing, same_token, same_entry, same_stream, same_lifetimes, same_plain, same_args, same_attribute, same_constant, same_abi, same_type, same_node, same_types, same_maybe_type, same_self, same_bound, same_bounds, same_trait_bound, same_fn, same_input, same_inputs, same_path, same_segments, same_segment, same_arguments_of, same_argument, same_arguments, same_maybe_arguments}
+use Rattle.dm_type_eq.proofs.Unplaced.{unplaced_ident, unplaced_lifetime, unplaced_literal, unplaced_token, unplaced_trees, unplaced_stream, unplaced_option, unplaced_plain, unplaced_args, unplaced_attribute, unplaced_lifetimes, unplaced_abi, unplaced_constant, unplaced_type, unplaced_node, unplaced_types, unplaced_maybe_type, unplaced_self, unplaced_bound, unplaced_bounds, unplaced_trait, unplaced_fn, unplaced_input, unplaced_inputs, unplaced_path, unplaced_segments, unplaced_segment, unplaced_arguments_of, unplaced_argument, unplaced_arguments, unplaced_maybe_arguments}
+
+both : {a b c d : Bool} → a ≡ c → b ≡ d → (a && b) ≡ (c && d)
+both e f = ap₂ (λ x y. x && y) e f
+
+-- ---- the second without its places
+
+option_again : {A B : Type 0} (same : A → B → Bool) (f : B → B) → ((a : A) (b : B) → same a (f b) ≡ same a b) → (a : Option A) (b : Option B) →
+    same_option same a (unplaced_option f b) ≡ same_option same a b
+option_again same f h None None = refl
+option_again same f h None (Some b) = refl
+option_again same f h (Some a) None = refl
+option_again same f h (Some a) (Some b) = h a b
+
+list_again : {A B : Type 0} (same : A → B → Bool) (f : B → B) → ((a : A) (b : B) → same a (f b) ≡ same a b) → (xs : List A) (ys : List B) →
+    all_same same xs (map f ys) ≡ all_same same xs ys
+list_again same f h [] [] = refl
+list_again same f h [] (y ∷ ys) = refl
+list_again same f h (x ∷ xs) [] = refl
+list_again same f h (x ∷ xs) (y ∷ ys) = both (h x y) (list_again same f h xs ys)
+
+abbrev unplaced_entry : Entry → Entry
+unplaced_entry (entry.Token k) = entry.Token (unplaced_token k)
+unplaced_entry (entry.Open d from n) = entry.Open d nowhere n
+unplaced_entry (entry.Close d upto) = entry.Close d nowhere
+
+flat_unplaced : (ts : Trees) → flatten (unplaced_trees ts) ≡ map unplaced_entry (flatten ts)
+flat_unplaced no_trees = refl
+flat_unplaced (token k rest) = ap (λ l. entry.Token (unplaced_token k) ∷ l) (flat_unplaced rest)
+flat_unplaced (group d from inside upto rest) =
+    ap₂ (λ x y. entry.Open d nowhere (length x + 1) ∷ (x ++ entry.Close d nowhere ∷ y)) (flat_unplaced inside) (flat_unplaced rest) ∙
+    ap₂ (λ n l. entry.Open d nowhere (n + 1) ∷ l) (length-map (flatten inside) unplaced_entry)
+    (sym (map-append unplaced_entry (flatten inside) (entry.Close d upto ∷ flatten rest)))
+
+token_again : (k l : Token) → same_token k (unplaced_token l) ≡ same_token k l
+token_again (t.Ident i) (t.Ident j) = refl
+token_again (t.Lifetime l) (t.Lifetime k) = refl
+token_again (t.Literal l) (t.Literal k) = refl
+token_again (t.Punct p) (t.Punct q) = refl
+token_again _ _ = refl
+
+entry_again : (e f : Entry) → same_entry e (unplaced_entry f) ≡ same_entry e f
+entry_again (entry.Token k) (entry.Token l) = token_again k l
+entry_again (entry.Open d from n) (entry.Open e upto m) = refl
+entry_again (entry.Close d from) (entry.Close e upto) = refl
+entry_again _ _ = refl
+
+stream_again : (s u : Stream) → same_stream s (unplaced_stream u) ≡ same_stream s u
+stream_again s u =
+    ap (λ l. all_same same_entry (flatten s.trees) l) (flat_unplaced u.trees) ∙
+    list_again same_entry unplaced_entry entry_again (flatten s.trees) (flatten u.trees)
+
+args_again : (a b : AttrArgs) → same_args a (unplaced_args b) ≡ same_args a b
+args_again (args.List d s) (args.List e u) = both refl (stream_again s u)
+args_again (args.Value o) (args.Value p) = stream_again o.tokens p.tokens
+args_again args.Absent args.Absent = refl
+args_again _ _ = refl
+
+plain_again : (p q : PlainPath) → same_plain p (unplaced_plain q) ≡ same_plain p q
+plain_again p q = both refl (list_again same_name unplaced_ident (λ i j. refl) p.segments q.segments)
+
+attribute_again : (a b : Attribute) → same_attribute a (unplaced_attribute b) ≡ same_attribute a b
+attribute_again a b = both (plain_again a.path b.path) (args_again a.args b.args)
+
+lifetimes_again : (a b : Lifetimes) → same_lifetimes a (unplaced_lifetimes b) ≡ same_lifetimes a b
+lifetimes_again (Some ls) (Some ks) = both (list_again same_lifetime unplaced_lifetime (λ l k. refl) ls.items ks.items) refl
+lifetimes_again None None = refl
+lifetimes_again _ _ = refl
+
+abi_again : (a b : Option (Option Literal)) → same_abi a (unplaced_abi b) ≡ same_abi a b
+abi_again a b =
+    option_again (same_option same_literal) (unplaced_option unplaced_literal) (option_again same_literal unplaced_literal (λ l k. refl)) a b
+
+constant_again : (a b : ConstArg) → same_constant a (unplaced_constant b) ≡ same_constant a b
+constant_again (constant.Block s) (constant.Block u) = stream_again s u
+constant_again (constant.Literal m l) (constant.Literal n k) = refl
+constant_again (constant.Bool i) (constant.Bool j) = refl
+constant_again (constant.Name i) (constant.Name j) = refl
+constant_again _ _ = refl
+
+mutual
+  same_again : (a b : TypeTree) → same_type a (unplaced_type b) ≡ same_type a b
+  same_again (type_tree n s) (type_tree k r) = node_again n k
+
+  node_again : (n k : TypeNode) → same_node n (unplaced_node k) ≡ same_node n k
+  node_again (paren x) (paren y) = same_again x y
+  node_again (tuple xs a) (tuple ys b) = both (types_again xs ys) refl
+  node_again (slice x) (slice y) = same_again x y
+  node_again (array x o) (array y p) = both (same_again x y) (stream_again o.tokens p.tokens)
+  node_again (reference l m x) (reference k n y) = both (both (option_again same_lifetime unplaced_lifetime (λ _ _. refl) l k) refl) (same_again x y)
+  node_again (pointer m x) (pointer n y) = both refl (same_again x y)
+  node_again (bare_fn f) (bare_fn g) = fn_again f g
+  node_again (trait_object bs a) (trait_object cs b) = both (bounds_again bs cs) refl
+  node_again (impl_trait bs a) (impl_trait cs b) = both (bounds_again bs cs) refl
+  node_again (path q p) (path w o) = both (self_again q w) (path_again p o)
+  node_again (macro_type p d s) (macro_type o e u) = both (both (plain_again p o) refl) (stream_again s u)
+  node_again infer infer = refl
+  node_again never never = refl
+  node_again _ _ = refl
+
+  types_again : (xs ys : TypeTrees) → same_types xs (unplaced_types ys) ≡ same_types xs ys
+  types_again (type_then x xs) (type_then y ys) = both (same_again x y) (types_again xs ys)
+  types_again no_types no_types = refl
+  types_again _ _ = refl
+
+  maybe_type_again : (a b : MaybeType) → same_maybe_type a (unplaced_maybe_type b) ≡ same_maybe_type a b
+  maybe_type_again (some_type x) (some_type y) = same_again x y
+  maybe_type_again no_type no_type = refl
+  maybe_type_again _ _ = refl
+
+  self_again : (q w : MaybeSelf) → same_self q (unplaced_self w) ≡ same_self q w
+  self_again (some_self x n) (some_self y k) = both (same_again x y) refl
+  self_again no_self no_self = refl
+  self_again _ _ = refl
+
+  bound_again : (b c : BoundTree) → same_bound b (unplaced_bound c) ≡ same_bound b c
+  bound_again (implements b) (implements c) = trait_bound_again b c
+  bound_again (outlives l) (outlives k) = refl
+  bound_again _ _ = refl
+
+  bounds_again : (bs cs : BoundTrees) → same_bounds bs (unplaced_bounds cs) ≡ same_bounds bs cs
+  bounds_again (bound_then b bs) (bound_then c cs) = both (bound_again b c) (bounds_again bs cs)
+  bounds_again no_bounds no_bounds = refl
+  bounds_again _ _ = refl
+
+  trait_bound_again : (b c : TraitBoundTree) → same_trait_bound b (unplaced_trait c) ≡ same_trait_bound b c
+  trait_bound_again (trait_bound a m ls p) (trait_bound b n ks o) = both (both refl (lifetimes_again ls ks)) (path_again p o)
+
+  fn_again : (f g : FnTree) → same_fn f (unplaced_fn g) ≡ same_fn f g
+  fn_again (fn_tree ls m abi is a out) (fn_tree ks n called js b into) =
+      both (both (both (both (both (lifetimes_again ls ks) refl) (abi_again abi called)) (inputs_again is js)) refl) (maybe_type_again out into)
+
+  input_again : (i j : InputTree) → same_input i (unplaced_input j) ≡ same_input i j
+  input_again (input xs i x) (input ys j y) =
+      both (both (list_again same_attribute unplaced_attribute attribute_again xs ys) (option_again same_name unplaced_ident (λ _ _. refl) i j)) (same_again x y)
+
+  inputs_again : (is js : InputTrees) → same_inputs is (unplaced_inputs js) ≡ same_inputs is js
+  inputs_again (input_then i is) (input_then j js) = both (input_again i j) (inputs_again is js)
+  inputs_again no_inputs no_inputs = refl
+  inputs_again _ _ = refl
+
+  path_again : (p o : PathTree) → same_path p (unplaced_path o) ≡ same_path p o
+  path_again (path_tree a ss) (path_tree b us) = both refl (segments_again ss us)
+
+  segments_again : (ss us : SegmentTrees) → same_segments ss (unplaced_segments us) ≡ same_segments ss us
+  segments_again (segment_then x ss) (segment_then y us) = both (segment_again x y) (segments_again ss us)
+  segments_again no_segments no_segments = refl
+  segments_again _ _ = refl
+
+  segment_again : (x y : SegmentTree) → same_segment x (unplaced_segment y) ≡ same_segment x y
+  segment_again (segment i gs) (segment j hs) = both refl (arguments_of_again gs hs)
+
+  arguments_of_again : (a b : ArgumentsTree) → same_arguments_of a (unplaced_arguments_of b) ≡ same_arguments_of a b
+  arguments_of_again (angle c gs a) (angle d hs b) = both (both refl (arguments_again gs hs)) refl
+  arguments_of_again (parens xs a out) (parens ys b into) = both (both (types_again xs ys) refl) (maybe_type_again out into)
+  arguments_of_again absent absent = refl
+  arguments_of_again _ _ = refl
+
+  argument_again : (g h : ArgumentTree) → same_argument g (unplaced_argument h) ≡ same_argument g h
+  argument_again (type_arg x) (type_arg y) = same_again x y
+  argument_again (const_arg c) (const_arg d) = constant_again c d
+  argument_again (assoc_type i gs x) (assoc_type j hs y) = both (both refl (maybe_arguments_again gs hs)) (same_again x y)
+  argument_again (assoc_const i gs c) (assoc_const j hs d) = both (both refl (maybe_arguments_again gs hs)) (constant_again c d)
+  argument_again (constraint i gs bs a) (constraint j hs cs b) = both (both refl (maybe_arguments_again gs hs)) (both (bounds_again bs cs) refl)
+  argument_again (lifetime_arg l) (lifetime_arg k) = refl
+  argument_again _ _ = refl
+
+  arguments_again : (gs hs : ArgumentTrees) → same_arguments gs (unplaced_arguments hs) ≡ same_arguments gs hs
+  arguments_again (argument_then g gs) (argument_then h hs) = both (argument_again g h) (arguments_again gs hs)
+  arguments_again no_arguments no_arguments = refl
+  arguments_again _ _ = refl
+
+  maybe_arguments_again : (a b : MaybeArguments) → same_maybe_arguments a (unplaced_maybe_arguments b) ≡ same_maybe_arguments a b
+  maybe_arguments_again (some_arguments gs a) (some_arguments hs b) = both (arguments_again gs hs) refl
+  maybe_arguments_again arguments_absent arguments_absent = refl
+  maybe_arguments_again _ _ = refl
+
+-- ---- what is the same as itself
+
+flag_itself : (b : Bool) → same_flag b b ≡ true
+flag_itself true = refl
+flag_itself false = refl
+
+number_itself : (n : ℕ) → nat_eq n n ≡ true
+number_itself n = (Decides-eqb n n).1 refl
+
+text_itself : (text : List ℕ) → bytes_eq text text ≡ true
+text_itself text = (bytes_eq-Decides text text).1 refl
+
+option_itself : {A : Type 0} (same : A → A → Bool) → ((a : A) → same a a ≡ true) → (a : Option A) → same_option same a a ≡ true
+option_itself same h None = refl
+option_itself same h (Some a) = h a
+
+list_itself : {A : Type 0} (same : A → A → Bool) → ((a : A) → same a a ≡ true) → (xs : List A) → all_same same xs xs ≡ true
+list_itself same h [] = refl
+list_itself same h (x ∷ xs) = both (h x) (list_itself same h xs)
+
+name_itself : (i : Ident) → same_name i i ≡ true
+name_itself i = both (flag_itself i.raw) (text_itself i.name)
+
+lifetime_itself : (l : Lifetime) → same_lifetime l l ≡ true
+lifetime_itself l = text_itself l.name
+
+literal_itself : (l : Literal) → same_literal l l ≡ true
+literal_itself l = both (number_itself (kind_number l.kind)) (text_itself l.text)
+
+spacing_itself : (s : Spacing) → same_spacing s s ≡ true
+spacing_itself Joint = refl
+spacing_itself Alone = refl
+
+delim_itself : (d : Delim) → same_delim d d ≡ true
+delim_itself Paren = refl
+delim_itself Bracket = refl
+delim_itself Brace = refl
+
+token_itself : (k : Token) → same_token k k ≡ true
+token_itself (t.Ident i) = name_itself i
+token_itself (t.Lifetime l) = lifetime_itself l
+token_itself (t.Literal l) = literal_itself l
+token_itself (t.Punct p) = both (number_itself p.ch) (spacing_itself p.spacing)
+
+entry_itself : (e : Entry) → same_entry e e ≡ true
+entry_itself (entry.Token k) = token_itself k
+entry_itself (entry.Open d from n) = delim_itself d
+entry_itself (entry.Close d upto) = delim_itself d
+
+stream_itself : (s : Stream) → same_stream s s ≡ true
+stream_itself s = list_itself same_entry entry_itself (flatten s.trees)
+
+lifetimes_itself : (a : Lifetimes) → same_lifetimes a a ≡ true
+lifetimes_itself a =
+    option_itself (same_list same_lifetime) (λ ls. both (list_itself same_lifetime lifetime_itself ls.items) (flag_itself ls.trailing)) a
+
+plain_itself : (p : PlainPath) → same_plain p p ≡ true
+plain_itself p = both (flag_itself p.leading_colon) (list_itself same_name name_itself p.segments)
+
+args_itself : (a : AttrArgs) → same_args a a ≡ true
+args_itself args.Absent = refl
+args_itself (args.List d s) = both (delim_itself d) (stream_itself s)
+args_itself (args.Value o) = stream_itself o.tokens
+
+attribute_itself : (a : Attribute) → same_attribute a a ≡ true
+attribute_itself a = both (plain_itself a.path) (args_itself a.args)
+
+constant_itself : (a : ConstArg) → same_constant a a ≡ true
+constant_itself (constant.Literal m l) = both (flag_itself m) (literal_itself l)
+constant_itself (constant.Bool i) = name_itself i
+constant_itself (constant.Block s) = stream_itself s
+constant_itself (constant.Name i) = name_itself i
+
+abi_itself : (a : Option (Option Literal)) → same_abi a a ≡ true
+abi_itself a = option_itself (same_option same_literal) (option_itself same_literal literal_itself) a
+
+mutual
+  same_itself : (a : TypeTree) → same_type a a ≡ true
+  same_itself (type_tree n s) = node_itself n
+
+  node_itself : (n : TypeNode) → same_node n n ≡ true
+  node_itself (paren x) = same_itself x
+  node_itself (tuple xs a) = both (types_itself xs) (flag_itself a)
+  node_itself (slice x) = same_itself x
+  node_itself (array x o) = both (same_itself x) (stream_itself o.tokens)
+  node_itself (reference l m x) = both (both (option_itself same_lifetime lifetime_itself l) (flag_itself m)) (same_itself x)
+  node_itself (pointer m x) = both (flag_itself m) (same_itself x)
+  node_itself (bare_fn f) = fn_itself f
+  node_itself (trait_object bs a) = both (bounds_itself bs) (flag_itself a)
+  node_itself (impl_trait bs a) = both (bounds_itself bs) (flag_itself a)
+  node_itself infer = refl
+  node_itself never = refl
+  node_itself (path q p) = both (self_itself q) (path_itself p)
+  node_itself (macro_type p d s) = both (both (plain_itself p) (delim_itself d)) (stream_itself s)
+
+  types_itself : (xs : TypeTrees) → same_types xs xs ≡ true
+  types_itself no_types = refl
+  types_itself (type_then x xs) = both (same_itself x) (types_itself xs)
+
+  maybe_type_itself : (a : MaybeType) → same_maybe_type a a ≡ true
+  maybe_type_itself no_type = refl
+  maybe_type_itself (some_type x) = same_itself x
+
+  self_itself : (q : MaybeSelf) → same_self q q ≡ true
+  self_itself no_self = refl
+  self_itself (some_self x n) = both (same_itself x) (number_itself n)
+
+  bound_itself : (b : BoundTree) → same_bound b b ≡ true
+  bound_itself (outlives l) = lifetime_itself l
+  bound_itself (implements b) = trait_bound_itself b
+
+  bounds_itself : (bs : BoundTrees) → same_bounds bs bs ≡ true
+  bounds_itself no_bounds = refl
+  bounds_itself (bound_then b bs) = both (bound_itself b) (bounds_itself bs)
+
+  trait_bound_itself : (b : TraitBoundTree) → same_trait_bound b b ≡ true
+  trait_bound_itself (trait_bound a m ls p) = both (both (both (flag_itself a) (flag_itself m)) (lifetimes_itself ls)) (path_itself p)
+
+  fn_itself : (f : FnTree) → same_fn f f ≡ true
+  fn_itself (fn_tree ls m abi is a out) =
+      both (both (both (both (both (lifetimes_itself ls) (flag_itself m)) (abi_itself abi)) (inputs_itself is)) (flag_itself a)) (maybe_type_itself out)
+
+  input_itself : (i : InputTree) → same_input i i ≡ true
+  input_itself (input xs i x) =
+      both (both (list_itself same_attribute attribute_itself xs) (option_itself same_name name_itself i)) (same_itself x)
+
+  inputs_itself : (is : InputTrees) → same_inputs is is ≡ true
+  inputs_itself no_inputs = refl
+  inputs_itself (input_then i is) = both (input_itself i) (inputs_itself is)
+
+  path_itself : (p : PathTree) → same_path p p ≡ true
+  path_itself (path_tree a ss) = both (flag_itself a) (segments_itself ss)
+
+  segments_itself : (ss : SegmentTrees) → same_segments ss ss ≡ true
+  segments_itself no_segments = refl
+  segments_itself (segment_then x ss) = both (segment_itself x) (segments_itself ss)
+
+  segment_itself : (x : SegmentTree) → same_segment x x ≡ true
+  segment_itself (segment i gs) = both (name_itself i) (arguments_of_itself gs)
+
+  arguments_of_itself : (a : ArgumentsTree) → same_arguments_of a a ≡ true
+  arguments_of_itself absent = refl
+  arguments_of_itself (angle c gs a) = both (both (flag_itself c) (arguments_itself gs)) (flag_itself a)
+  arguments_of_itself (parens xs a out) = both (both (types_itself xs) (flag_itself a)) (maybe_type_itself out)
+
+  argument_itself : (g : ArgumentTree) → same_argument g g ≡ true
+  argument_itself (lifetime_arg l) = lifetime_itself l
+  argument_itself (type_arg x) = same_itself x
+  argument_itself (const_arg c) = constant_itself c
+  argument_itself (assoc_type i gs x) = both (both (name_itself i) (maybe_arguments_itself gs)) (same_itself x)
+  argument_itself (assoc_const i gs c) = both (both (name_itself i) (maybe_arguments_itself gs)) (constant_itself c)
+  argument_itself (constraint i gs bs a) = both (both (name_itself i) (maybe_arguments_itself gs)) (both (bounds_itself bs) (flag_itself a))
+
+  arguments_itself : (gs : ArgumentTrees) → same_arguments gs gs ≡ true
+  arguments_itself no_arguments = refl
+  arguments_itself (argument_then g gs) = both (argument_itself g) (arguments_itself gs)
+
+  maybe_arguments_itself : (a : MaybeArguments) → same_maybe_arguments a a ≡ true
+  maybe_arguments_itself arguments_absent = refl
+  maybe_arguments_itself (some_arguments gs a) = both (arguments_itself gs) (flag_itself a)
+
+-- ---- both ways
+
+pub same_unplaced : (a b : TypeTree) → unplaced_type a ≡ unplaced_type b → same_type a b ≡ true
+same_unplaced a b e = sym (same_again a b) ∙ ap (same_type a) (sym e) ∙ same_again a a ∙ same_itself a
+
+-- ---- trees without their places
+
+unplaced_join : (x y : Trees) → unplaced_trees (join x y) ≡ join (unplaced_trees x) (unplaced_trees y)
+unplaced_join no_trees y = refl
+unplaced_join (token k rest) y = ap (token (unplaced_token k)) (unplaced_join rest y)
+unplaced_join (group d from inside upto rest) y = ap (group d nowhere (unplaced_trees inside) nowhere) (unplaced_join rest y)
+
+joined : (x y : Trees) {v w : Trees} → unplaced_trees x ≡ v → unplaced_trees y ≡ w → unplaced_trees (join x y) ≡ join v w
+joined x y e f = unplaced_join x y ∙ ap₂ join e f
+
+chosen : (b : Bool) (x y : Trees) → unplaced_trees (cond b x y) ≡ cond b (unplaced_trees x) (unplaced_trees y)
+chosen true x y = refl
+chosen false x y = refl
+
+spaced_spelled : (between : Trees) (first : Bool) (xs : List Trees) →
+    unplaced_trees (spell.spaced between first xs) ≡ spell.spaced (unplaced_trees between) first (map unplaced_trees xs)
+spaced_spelled between first [] = refl
+spaced_spelled between first (x ∷ xs) = joined _ _ (chosen first no_trees between) (joined _ _ refl (spaced_spelled between false xs))
+
+listed_spelled : (c : ℕ) (s : Span) (xs ys : List Trees) (trailing : Bool) → map unplaced_trees xs ≡ ys →
+    unplaced_trees (spell.listed c s xs trailing) ≡ spell.listed c nowhere ys trailing
+listed_spelled c s xs ys trailing e =
+    joined _ _ (spaced_spelled (spell.punct c s) true xs ∙ ap (spell.spaced (spell.punct c nowhere) true) e) (chosen trailing (spell.punct c s) no_trees)
+
+angles_spelled : (s : Span) (xs ys : List Trees) (trailing : Bool) → map unplaced_trees xs ≡ ys →
+    unplaced_trees (spell.angle_trees s xs trailing) ≡ spell.angle_trees nowhere ys trailing
+angles_spelled s xs ys trailing e = ap (join (spell.punct 60 nowhere)) (joined _ (spell.punct 62 s) (listed_spelled 44 s xs ys trailing e) refl)
+
+-- the types in parentheses, and what follows them
+inputs_and : (s : Span) (xs ys : List Trees) (trailing : Bool) (x y : Trees) → map unplaced_trees xs ≡ ys → unplaced_trees x ≡ y →
+    unplaced_trees (join (spell.grouped Paren (spell.listed 44 s xs trailing)) x) ≡ join (spell.grouped Paren (spell.listed 44 nowhere ys trailing)) y
+inputs_and s xs ys trailing x y e f = ap₂ (λ a b. join (spell.grouped Paren a) b) (listed_spelled 44 s xs ys trailing e) f
+
+-- the parts of a path
+parts_spelled : (s : Span) (first : Bool) (xs ys : List Trees) → map unplaced_trees xs ≡ ys →
+    unplaced_trees (spell.spaced (spell.colons s) first xs) ≡ spell.spaced (spell.colons nowhere) first ys
+parts_spelled s first xs ys e = spaced_spelled (spell.colons s) first xs ∙ ap (spell.spaced (spell.colons nowhere) first) e
+
+each_spelled : {A : Type 0} (spelled : A → Trees) (f : A → A) → ((a : A) → unplaced_trees (spelled a) ≡ spelled (f a)) → (xs : List A) →
+    map unplaced_trees (map spelled xs) ≡ map spelled (map f xs)
+each_spelled spelled f h [] = refl
+each_spelled spelled f h (x ∷ xs) = ap₂ (λ a b. a ∷ b) (h x) (each_spelled spelled f h xs)
+
+plain_spelled : (s : Span) (p : PlainPath) → unplaced_trees (spell.plain_trees s p) ≡ spell.plain_trees nowhere (unplaced_plain p)
+plain_spelled s p =
+    joined _ _ (chosen p.leading_colon (spell.colons s) no_trees)
+    (parts_spelled s true _ _ (each_spelled spell.name unplaced_ident (λ i. refl) p.segments))
+
+for_spelled : (s : Span) (a : Lifetimes) → unplaced_trees (spell.for_trees s a) ≡ spell.for_trees nowhere (unplaced_lifetimes a)
+for_spelled s None = refl
+for_spelled s (Some ls) =
+    ap (join (spell.word (codes "for") nowhere))
+    (angles_spelled s _ _ ls.trailing (each_spelled spell.lifetime unplaced_lifetime (λ l. refl) ls.items))
+
+constant_spelled : (s : Span) (a : ConstArg) → unplaced_trees (spell.const_trees s a) ≡ spell.const_trees nowhere (unplaced_constant a)
+constant_spelled s (constant.Literal minus l) = joined _ (spell.literal l) (chosen minus (spell.punct 45 s) no_trees) refl
+constant_spelled s (constant.Bool i) = refl
+constant_spelled s (constant.Block ts) = refl
+constant_spelled s (constant.Name i) = refl
+
+args_spelled : (s : Span) (a : AttrArgs) → unplaced_trees (spell.attr_args_trees s a) ≡ spell.attr_args_trees nowhere (unplaced_args a)
+args_spelled s args.Absent = refl
+args_spelled s (args.List d ts) = refl
+args_spelled s (args.Value o) = refl
+
+attribute_spelled : (a : Attribute) → unplaced_trees (spell.attribute_trees a) ≡ spell.attribute_trees (unplaced_attribute a)
+attribute_spelled a =
+    ap (λ x. join (spell.punct 35 nowhere) (spell.grouped Bracket x)) (joined _ _ (plain_spelled a.span a.path) (args_spelled a.span a.args))
+
+attributes_spelled : (xs : List Attribute) → unplaced_trees (spell.attributes_trees xs) ≡ spell.attributes_trees (map unplaced_attribute xs)
+attributes_spelled [] = refl
+attributes_spelled (x ∷ xs) = joined (spell.attribute_trees x) (spell.attributes_trees xs) (attribute_spelled x) (attributes_spelled xs)
+
+maybe_lifetime_spelled : (l : Option Lifetime) → unplaced_trees (spell.maybe_lifetime l) ≡ spell.maybe_lifetime (unplaced_option unplaced_lifetime l)
+maybe_lifetime_spelled None = refl
+maybe_lifetime_spelled (Some l) = refl
+
+abi_spelled : (s : Span) (a : Option (Option Literal)) → unplaced_trees (spell.abi_trees s a) ≡ spell.abi_trees nowhere (unplaced_abi a)
+abi_spelled s None = refl
+abi_spelled s (Some None) = refl
+abi_spelled s (Some (Some l)) = refl
+
+input_name_spelled : (s : Span) (i : Option Ident) → unplaced_trees (spell.input_name_trees s i) ≡ spell.input_name_trees nowhere (unplaced_option unplaced_ident i)
+input_name_spelled s None = refl
+input_name_spelled s (Some i) = refl
+
+qualified_spelled : (s : Span) (x y : Trees) (n : ℕ) (leading : Bool) (xs ys : List Trees) → unplaced_trees x ≡ y → map unplaced_trees xs ≡ ys →
+    unplaced_trees (spell.qualified_trees s x n leading xs) ≡ spell.qualified_trees nowhere y n leading ys
+qualified_spelled s x y n leading xs ys e f =
+    ap (join (spell.punct 60 nowhere))
+    (joined _ _ e
+    (joined _ _
+    (chosen (n == 0) no_trees (join (spell.word (codes "as") s) (join (spell.given leading (spell.colons s)) (spell.spaced (spell.colons s) true (take n xs)))) ∙
+    ap (cond (n == 0) no_trees)
+    (ap (join (spell.word (codes "as") nowhere))
+    (joined _ _ (chosen leading (spell.colons s) no_trees) (parts_spelled s true (take n xs) (take n ys) (sym (take-map unplaced_trees n xs) ∙ ap (take n) f)))))
+    (ap (join (spell.punct 62 nowhere)) (parts_spelled s false (drop n xs) (drop n ys) (sym (drop-map unplaced_trees n xs) ∙ ap (drop n) f)))))
+
+mutual
+  unplaced_spelled : (a : TypeTree) → unplaced_trees (spell.type_trees a) ≡ spell.type_trees (unplaced_type a)
+  unplaced_spelled (type_tree n s) = node_spelled s n
+
+  node_spelled : (s : Span) (n : TypeNode) → unplaced_trees (spell.node_trees s n) ≡ spell.node_trees nowhere (unplaced_node n)
+  node_spelled s (paren x) = ap (spell.grouped Paren) (unplaced_spelled x)
+  node_spelled s (tuple xs trailing) = ap (spell.grouped Paren) (listed_spelled 44 s _ _ trailing (types_spelled xs))
+  node_spelled s (slice x) = ap (spell.grouped Bracket) (unplaced_spelled x)
+  node_spelled s (array x o) = ap (spell.grouped Bracket) (joined _ (join (spell.punct 59 s) o.tokens.trees) (unplaced_spelled x) refl)
+  node_spelled s (reference l m x) =
+      ap (join (spell.punct 38 nowhere))
+      (joined _ _ (maybe_lifetime_spelled l) (joined _ _ (chosen m (spell.word (codes "mut") s) no_trees) (unplaced_spelled x)))
+  node_spelled s (pointer m x) =
+      ap (join (spell.punct 42 nowhere)) (joined _ _ (chosen m (spell.word (codes "mut") s) (spell.word (codes "const") s)) (unplaced_spelled x))
+  node_spelled s (bare_fn f) = fn_spelled s f
+  node_spelled s (trait_object bs trailing) = ap (join (spell.word (codes "dyn") nowhere)) (listed_spelled 43 s _ _ trailing (bounds_spelled s bs))
+  node_spelled s (impl_trait bs trailing) = ap (join (spell.word (codes "impl") nowhere)) (listed_spelled 43 s _ _ trailing (bounds_spelled s bs))
+  node_spelled s infer = refl
+  node_spelled s never = refl
+  node_spelled s (path no_self p) = path_spelled s p
+  node_spelled s (path (some_self x n) (path_tree leading ss)) = qualified_spelled s _ _ n leading _ _ (unplaced_spelled x) (segments_spelled s ss)
+  node_spelled s (macro_type p d ts) = joined _ (join (spell.punct 33 s) (spell.grouped d ts.trees)) (plain_spelled s p) refl
+
+  types_spelled : (xs : TypeTrees) → map unplaced_trees (spell.each_type xs) ≡ spell.each_type (unplaced_types xs)
+  types_spelled no_types = refl
+  types_spelled (type_then x xs) = ap₂ (λ a b. a ∷ b) (unplaced_spelled x) (types_spelled xs)
+
+  output_spelled : (s : Span) (a : MaybeType) → unplaced_trees (spell.output_trees s a) ≡ spell.output_trees nowhere (unplaced_maybe_type a)
+  output_spelled s no_type = refl
+  output_spelled s (some_type x) = ap (join (spell.arrow nowhere)) (unplaced_spelled x)
+
+  bounds_spelled : (s : Span) (bs : BoundTrees) → map unplaced_trees (spell.each_bound s bs) ≡ spell.each_bound nowhere (unplaced_bounds bs)
+  bounds_spelled s no_bounds = refl
+  bounds_spelled s (bound_then b bs) = ap₂ (λ x y. x ∷ y) (bound_spelled s b) (bounds_spelled s bs)
+
+  bound_spelled : (s : Span) (b : BoundTree) → unplaced_trees (spell.bound_trees s b) ≡ spell.bound_trees nowhere (unplaced_bound b)
+  bound_spelled s (outlives l) = refl
+  bound_spelled s (implements b) = trait_bound_spelled s b
+
+  trait_bound_spelled : (s : Span) (b : TraitBoundTree) → unplaced_trees (spell.trait_bound_trees s b) ≡ spell.trait_bound_trees nowhere (unplaced_trait b)
+  trait_bound_spelled s (trait_bound in_parens maybe ls p) =
+      let inside = join (spell.given maybe (spell.punct 63 s)) (join (spell.for_trees s ls) (spell.path_trees s p)) in
+      chosen in_parens (spell.grouped Paren inside) inside ∙
+      ap (λ x. cond in_parens (spell.grouped Paren x) x)
+      (joined _ _ (chosen maybe (spell.punct 63 s) no_trees) (joined _ _ (for_spelled s ls) (path_spelled s p)))
+
+  fn_spelled : (s : Span) (f : FnTree) → unplaced_trees (spell.fn_trees s f) ≡ spell.fn_trees nowhere (unplaced_fn f)
+  fn_spelled s (fn_tree ls m abi is trailing out) =
+      joined _ _ (for_spelled s ls) (joined _ _ (chosen m (spell.word (codes "unsafe") s) no_trees) (joined _ _ (abi_spelled s abi)
+      (ap (join (spell.word (codes "fn") nowhere))
+      (inputs_and s _ _ trailing _ _ (inputs_spelled s is) (output_spelled s out)))))
+
+  inputs_spelled : (s : Span) (is : InputTrees) → map unplaced_trees (spell.each_input s is) ≡ spell.each_input nowhere (unplaced_inputs is)
+  inputs_spelled s no_inputs = refl
+  inputs_spelled s (input_then i is) = ap₂ (λ x y. x ∷ y) (input_spelled s i) (inputs_spelled s is)
+
+  input_spelled : (s : Span) (i : InputTree) → unplaced_trees (spell.input_trees s i) ≡ spell.input_trees nowhere (unplaced_input i)
+  input_spelled s (input attrs i x) = joined _ _ (attributes_spelled attrs) (joined _ _ (input_name_spelled s i) (unplaced_spelled x))
+
+  path_spelled : (s : Span) (p : PathTree) → unplaced_trees (spell.path_trees s p) ≡ spell.path_trees nowhere (unplaced_path p)
+  path_spelled s (path_tree leading ss) =
+      joined _ _ (chosen leading (spell.colons s) no_trees) (parts_spelled s true _ _ (segments_spelled s ss))
+
+  segments_spelled : (s : Span) (ss : SegmentTrees) → map unplaced_trees (spell.each_segment s ss) ≡ spell.each_segment nowhere (unplaced_segments ss)
+  segments_spelled s no_segments = refl
+  segments_spelled s (segment_then x ss) = ap₂ (λ a b. a ∷ b) (segment_spelled s x) (segments_spelled s ss)
+
+  segment_spelled : (s : Span) (x : SegmentTree) → unplaced_trees (spell.segment_trees s x) ≡ spell.segment_trees nowhere (unplaced_segment x)
+  segment_spelled s (segment i gs) = ap (join (spell.name (unplaced_ident i))) (arguments_of_spelled s gs)
+
+  arguments_of_spelled : (s : Span) (a : ArgumentsTree) → unplaced_trees (spell.arguments_trees s a) ≡ spell.arguments_trees nowhere (unplaced_arguments_of a)
+  arguments_of_spelled s absent = refl
+  arguments_of_spelled s (angle double gs trailing) =
+      joined _ _ (chosen double (spell.colons s) no_trees) (angles_spelled s _ _ trailing (arguments_spelled s gs))
+  arguments_of_spelled s (parens xs trailing out) = inputs_and s _ _ trailing _ _ (types_spelled xs) (output_spelled s out)
+
+  maybe_angles_spelled : (s : Span) (a : MaybeArguments) →
+      unplaced_trees (spell.maybe_angle_trees s a) ≡ spell.maybe_angle_trees nowhere (unplaced_maybe_arguments a)
+  maybe_angles_spelled s arguments_absent = refl
+  maybe_angles_spelled s (some_arguments gs trailing) = angles_spelled s _ _ trailing (arguments_spelled s gs)
+
+  arguments_spelled : (s : Span) (gs : ArgumentTrees) → map unplaced_trees (spell.each_argument s gs) ≡ spell.each_argument nowhere (unplaced_arguments gs)
+  arguments_spelled s no_arguments = refl
+  arguments_spelled s (argument_then g gs) = ap₂ (λ a b. a ∷ b) (argument_spelled s g) (arguments_spelled s gs)
+
+  argument_spelled : (s : Span) (g : ArgumentTree) → unplaced_trees (spell.argument_trees s g) ≡ spell.argument_trees nowhere (unplaced_argument g)
+  argument_spelled s (lifetime_arg l) = refl
+  argument_spelled s (type_arg x) = unplaced_spelled x
+  argument_spelled s (const_arg c) = constant_spelled s c
+  argument_spelled s (assoc_type i gs x) =
+      ap (join (spell.name (unplaced_ident i))) (joined _ _ (maybe_angles_spelled s gs) (ap (join (spell.punct 61 nowhere)) (unplaced_spelled x)))
+  argument_spelled s (assoc_const i gs c) =
+      ap (join (spell.name (unplaced_ident i))) (joined _ _ (maybe_angles_spelled s gs) (ap (join (spell.punct 61 nowhere)) (constant_spelled s c)))
+  argument_spelled s (constraint i gs bs trailing) =
+      ap (join (spell.name (unplaced_ident i)))
+      (joined _ _ (maybe_angles_spelled s gs) (ap (join (spell.punct 58 nowhere)) (listed_spelled 43 s _ _ trailing (bounds_spelled s bs))))
+
+-- ---- trees again, from their tokens
+
+-- what a reader from the back has: the trees of the list that it is in, and those that follow each list around it
+abbrev Reading : Type 0
+Reading = Trees × List Trees
+
+abbrev opened : Delim → Trees → List Trees → Reading
+opened d inside [] = (inside, [])
+opened d inside (rest ∷ around) = (group d nowhere inside nowhere rest, around)
+
+abbrev one_back : Bare → Reading → Reading
+one_back (bare_name text raw) r = (token (t.Ident (record { name = text; raw = raw; span = nowhere })) r.0, r.1)
+one_back (bare_lifetime text) r = (token (t.Lifetime (record { name = text; span = nowhere })) r.0, r.1)
+one_back (bare_literal kind text) r = (token (t.Literal (record { kind = kind; text = text; span = nowhere })) r.0, r.1)
+one_back (bare_punct c spacing) r = (token (t.Punct (record { ch = c; spacing = spacing; span = nowhere })) r.0, r.1)
+one_back (opening d) r = opened d r.0 r.1
+one_back (closing d) r = (no_trees, r.0 ∷ r.1)
+
+abbrev read_back : List Bare → Reading
+read_back [] = (no_trees, [])
+read_back (k ∷ ks) = one_back k (read_back ks)
+
+abbrev after : Trees → Reading → Reading
+after ts r = (join (unplaced_trees ts) r.0, r.1)
+
+one_again : (k : Token) (r : Reading) → one_back (bare k) r ≡ (token (unplaced_token k) r.0, r.1)
+one_again (t.Ident i) r = refl
+one_again (t.Lifetime l) r = refl
+one_again (t.Literal l) r = refl
+one_again (t.Punct p) r = refl
+
+tokens_again : (ts : Trees) (ks : List Bare) → read_back (tokens_of ts ++ ks) ≡ after ts (read_back ks)
+tokens_again no_trees ks = refl
+tokens_again (token k rest) ks = one_again k (read_back (tokens_of rest ++ ks)) ∙ ap (λ r. (token (unplaced_token k) r.0, r.1)) (tokens_again rest ks)
+tokens_again (group d from inside upto rest) ks =
+    ap (λ l. one_back (opening d) (read_back l)) (append_assoc (tokens_of inside) (closing d ∷ tokens_of rest) ks) ∙
+    ap (one_back (opening d)) (tokens_again inside (closing d ∷ (tokens_of rest ++ ks)) ∙ ap (λ r. after inside (one_back (closing d) r)) (tokens_again rest ks)) ∙
+    ap (λ x. opened d x (join (unplaced_trees rest) (read_back ks).0 ∷ (read_back ks).1)) (join-no_trees (unplaced_trees inside))
+
+trees_again : (ts : Trees) → (read_back (tokens_of ts)).0 ≡ unplaced_trees ts
+trees_again ts =
+    ap (λ l. (read_back l).0) (sym (append-nil (tokens_of ts))) ∙ ap (λ r. r.0) (tokens_again ts []) ∙ join-no_trees (unplaced_trees ts)
+
+same_bare : (x y : Trees) → tokens_of x ≡ tokens_of y → unplaced_trees x ≡ unplaced_trees y
+same_bare x y e = sym (trees_again x) ∙ ap (λ l. (read_back l).0) e ∙ trees_again y
+
+pub unplaced_tokens : (a b : TypeTree) → tokens_of (spell.type_trees a) ≡ tokens_of (spell.type_trees b) →
+    spell.type_trees (unplaced_type a) ≡ spell.type_trees (unplaced_type b)
+unplaced_tokens a b e = sym (unplaced_spelled a) ∙ same_bare (spell.type_trees a) (spell.type_trees b) e ∙ unplaced_spelled b

@@ -1,0 +1,3 @@
+pub mod BareTokens
+pub mod SameTypes
+pub mod Shapes
