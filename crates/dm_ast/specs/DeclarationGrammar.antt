@@ -1,12 +1,11 @@
 -- The grammar of declarations: generics, fields, variants and the three shapes.
-use Rattle.std.specs.Prelude.{◌≡◌, ℕ, Bool, true, false, not, ◌&&◌, ◌||◌, List, [], codes, Option, Some, None, Result, Ok, Err}
+use Rattle.std.specs.Prelude.{◌≡◌, ℕ, Bool, true, false, not, ◌&&◌, ◌||◌, List, [], codes, Option, Some, None}
 use Rattle.dm_stream.specs.declared.seq.Punctuated.{Punctuated}
 use Rattle.dm_stream.specs.declared.tokens.Span.{Span}
 use Rattle.dm_stream.specs.declared.tokens.Delim.TheVariants.{Paren, Brace}
 use Rattle.dm_stream.specs.declared.tokens.Ident.{Ident}
 use Rattle.dm_stream.specs.declared.tokens.Lifetime.{Lifetime}
 use Rattle.dm_stream.specs.declared.tokens.Token.TheVariants as t
-use Rattle.dm_stream.specs.declared.error.Refusal.{Refusal}
 use Rattle.dm_stream.specs.declared.error.Kind.{Kind}
 use Rattle.dm_stream.specs.declared.error.Kind.TheVariants.{TooDeep, Syntax}
 use Rattle.dm_stream.specs.Trees.{Trees, no_trees, token, group}
@@ -164,7 +163,3 @@ abbrev pub IsNoDeclaration : (Opaque → Where → Spelling) → Kind → Span �
 IsNoDeclaration run TooDeep span limit ts = (d : Declaration) (m : Marks) → DeclarationOf run d limit ts m → first_too_deep m ≡ Some span
 IsNoDeclaration run Syntax span limit ts = (d : Declaration) (m : Marks) → DeclarationOf run d limit ts m → ⊥
 IsNoDeclaration run _ span limit ts = ⊥
-
-abbrev pub DecidesDeclaration : (Opaque → Where → Spelling) → ℕ → Trees → Result Declaration Refusal → Type 0
-DecidesDeclaration run limit ts (Ok d) = IsDeclaration run d limit ts
-DecidesDeclaration run limit ts (Err r) = IsNoDeclaration run r.kind r.span limit ts

@@ -1,5 +1,5 @@
 -- Places in a list of trees, and how deep it may be there.
-use Rattle.std.specs.Prelude.{◌≡◌, ◌<◌, ◌≤◌, ℕ, ◌+◌, ◌||◌, if◌then◌else◌, List, [], ◌∷◌, ◌++◌, codes, Ok, Err}
+use Rattle.std.specs.Prelude.{◌≡◌, ◌<◌, ◌≤◌, ℕ, ◌+◌, ◌||◌, if◌then◌else◌, List, [], ◌∷◌, ◌++◌, codes}
 use Rattle.dm_stream.specs.declared.tokens.Span.{Span}
 use Rattle.dm_stream.specs.declared.tokens.Token.TheVariants as t
 use Rattle.dm_stream.specs.declared.tokens.Entry.{Entry}
@@ -8,8 +8,7 @@ use Rattle.dm_stream.specs.declared.error.Kind.TheVariants.{TooDeep}
 use Rattle.dm_stream.specs.declared.error.Refusal.{Refusal}
 use Rattle.dm_stream.specs.Trees.{Trees, flatten}
 use Rattle.dm_stream.specs.Cursors.{token_span}
-use Rattle.dm_ast.specs.Spelling.{Where, deepest, one_of, is_word}
-use Rattle.dm_ast.specs.Readers.{Outcome}
+use Rattle.dm_ast.specs.Spelling.{deepest, one_of, is_word}
 
 -- ---- openers: a delimiter that opens, `<`, `&`, `*`, and the words `fn`, `dyn` and `impl`
 
@@ -54,8 +53,3 @@ pub record IsBehind (count : ℕ) (ts others : Trees) : Type 0 where
 pub record IsRefusedAt (level limit : ℕ) (r : Refusal) (ts : Trees) : Type 0 where
   pub place : IsPlaceIn limit ts r.span
   pub deep : r.kind ≡ TooDeep → deepest < level + openers place.front
-
--- an outcome that passes so many openers, or is refused only where it may be
-abbrev pub Licensed : {A : Type 0} → ℕ → Where → Trees → Outcome A → Type 0
-Licensed count w ts (Ok p) = IsBehind count ts p.1
-Licensed count w ts (Err r) = IsRefusedAt w.level w.limit r ts

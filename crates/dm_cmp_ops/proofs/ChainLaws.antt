@@ -1,15 +1,16 @@
 -- What a chain of tests gives.
 use Rattle.std.proofs.Common.{◌≡◌, ℕ, zero, suc, ◌+◌, List, [], ◌∷◌, length, Bool, true, false, cond, ◌&&◌, ◌||◌, Option, Some, None, slice_get, refl, ap, ◌∙◌, arith}
 use Rattle.dm_ast.specs.Declarations.{Declaration, FieldTree}
-use Rattle.dm_emit.specs.Output.{ExprTree, exprs_of}
-use Rattle.dm_emit.specs.Values.{mine, theirs, Thing, truth, value, pair, place, discriminant, term}
-use Rattle.dm_emit.specs.Run.{Env, Setting, bound, run, if_truth}
+use Rattle.dm_output.specs.Output.{ExprTree, exprs_of}
+use Rattle.dm_output.specs.Values.{mine, theirs, Thing, truth, value, pair, place, discriminant, term}
+use Rattle.dm_output.specs.Run.{Env, Setting, bound, run, if_truth}
 use Rattle.dm_cmp_ops.specs.declared.partial_eq.Comparing.{Comparing}
 use Rattle.dm_cmp_ops.specs.declared.partial_eq.Comparing.TheVariants.{Equal, Unequal}
-use Rattle.dm_cmp_ops.specs.Skips.{is_skipped}
+use Rattle.dm_attr.specs.Skips.{is_skipped}
 use Rattle.dm_cmp_ops.specs.Direct.{all_kept}
-use Rattle.dm_cmp_ops.specs.Emitted.{says, neutral_of, join_of, self_name, other_name, binds, test, tests, chain}
-use Rattle.dm_cmp_ops.proofs.BindingLaws.{Knows, eqb-same}
+use Rattle.dm_cmp_ops.specs.Emitted.{says, neutral_of, join_of, test, tests, chain}
+use Rattle.dm_operands.specs.Numbered.{self_name, other_name, binds}
+use Rattle.dm_operands.proofs.BindingLaws.{Knows, eqb-same}
 
 abbrev pub setting : Declaration → List Bool → Setting
 setting d os = record { decl = d; outcomes = os }

@@ -7,9 +7,10 @@ use Rattle.dm_stream.specs.declared.error.Kind.TheVariants.{AttrSyntax}
 use Rattle.dm_stream.specs.declared.error.Refusal.{Refusal}
 use Rattle.dm_ast.specs.declared.plain.Attribute.{Attribute}
 use Rattle.dm_ast.specs.Declarations.{Declaration, FieldTree, ShapeTree, struct_shape, enum_shape, union_shape}
-use Rattle.dm_emit.specs.Values.{Text, Case, cases, field_list}
-use Rattle.dm_cmp_ops.specs.Skips.{Skipping, no, yes, bad, reads_skip, is_examined, skip_among, skip, or_else, is_skipped}
-use Rattle.dm_cmp_ops.specs.Checks.{refusal_at, repeated, refusal_among, or_those, place_refusal, attrs_of, places, first_refusal, refusal_of_shape, refusal, IsGood, IsGoodCase, IsNoUnion, IsValid}
+use Rattle.dm_output.specs.Values.{Text, Case, cases, field_list}
+use Rattle.dm_attr.specs.Skips.{Skipping, no, yes, bad, reads_skip, is_examined, skip_among, skip, or_else, is_skipped}
+use Rattle.dm_attr.specs.SkipRefusals.{refusal_at, repeated, refusal_among, or_those, place_refusal}
+use Rattle.dm_cmp_ops.specs.Checks.{attrs_of, places, first_refusal, refusal_of_shape, refusal, IsGood, IsGoodCase, IsNoUnion, IsValid}
 use Rattle.dm_cmp_ops.proofs.CheckSteps.{or_none, first-append}
 
 -- ---- what is refused of a place, and what its attributes say

@@ -4,9 +4,10 @@ use Rattle.std.specs.Option.{option_or}
 use Rattle.std.proofs.lemmas.Grind.{common_steps}
 use Rattle.dm_stream.specs.declared.error.Refusal.{Refusal}
 use Rattle.dm_ast.specs.declared.plain.Attribute.{Attribute}
-use Rattle.dm_emit.specs.Values.{Case, field_list}
-use Rattle.dm_cmp_ops.specs.Skips.{Skipping, no, yes, bad, partial_eq_skip, is_yes, is_skipped}
-use Rattle.dm_cmp_ops.specs.Checks.{place_refusal, attrs_of, places, first_refusal}
+use Rattle.dm_output.specs.Values.{Case, field_list}
+use Rattle.dm_attr.specs.Skips.{Skipping, no, yes, bad, partial_eq_skip, is_yes, is_skipped}
+use Rattle.dm_attr.specs.SkipRefusals.{place_refusal}
+use Rattle.dm_cmp_ops.specs.Checks.{attrs_of, places, first_refusal}
 
 pub or_none : (o : Option Refusal) → option_or o None ≡ o
 or_none None = refl

@@ -3,16 +3,17 @@ use Rattle.std.proofs.Common.{◌≡◌, ℕ, List, [], ◌∷◌, map, true, fa
 use Rattle.std.specs.Prelude.{IfOk, String, string_bytes}
 use Rattle.std.specs.declared.alloc.Global.{Global}
 use Rattle.dm_ast.specs.Declarations.{Declaration}
-use Rattle.dm_emit.specs.declared.print.Expansion.{Expansion}
-use Rattle.dm_emit.specs.Output.{ItemTree, item_view}
-use Rattle.dm_emit.specs.Values.{cases}
-use Rattle.dm_emit.specs.Tokens.{printed}
+use Rattle.dm_print.specs.declared.expansion.Expansion.{Expansion}
+use Rattle.dm_output.specs.Output.{ItemTree, item_view}
+use Rattle.dm_output.specs.Values.{cases}
+use Rattle.dm_output.specs.Tokens.{printed}
 use Rattle.dm_cmp_ops.specs.declared.partial_eq.Comparing.{Comparing}
 use Rattle.dm_cmp_ops.specs.declared.partial_eq.Comparing.TheVariants.{Equal, Unequal}
 use Rattle.dm_cmp_ops.specs.Direct.{Gives, direct_eq, direct_ne}
-use Rattle.dm_cmp_ops.specs.Heads.{IsComparison, AreMethods, IsPartialEq, some_compared}
+use Rattle.dm_cmp_ops.specs.Heads.{IsComparison, AreMethods, IsPartialEq}
+use Rattle.dm_operands.specs.Kept.{some_compared}
 use Rattle.dm_cmp_ops.specs.Emitted.{item, method, method_name, methods}
-use Rattle.dm_cmp_ops.specs.Named.{AreNamed, AreSmall}
+use Rattle.dm_operands.specs.Named.{AreNamed}
 use Rattle.dm_cmp_ops.specs.Expanded.{IsExpanded, IsReadable, IsText}
 use Rattle.dm_cmp_ops.proofs.PartialEqLaws.{eq-gives, ne-gives}
 use Rattle.dm_cmp_ops.proofs.ReadNames.{readable-named}
@@ -22,22 +23,22 @@ use Rattle.dm_cmp_ops.proofs.ReadNames.{readable-named}
 is-method : (c : Comparing) (d : Declaration) → IsComparison (method_name c) (method c d)
 is-method c d = record { attrs = refl; is_const = refl; name_is = refl; receiver = refl; param = refl; output = refl }
 
-eq-method : (d : Declaration) → AreNamed d → AreSmall (cases d) → IsComparison (codes "eq") (method Equal d) × Gives d (method Equal d) direct_eq
-eq-method d names small = (is-method Equal d, eq-gives d names small (method Equal d) (is-method Equal d) refl)
+eq-method : (d : Declaration) → AreNamed d → IsComparison (codes "eq") (method Equal d) × Gives d (method Equal d) direct_eq
+eq-method d names = (is-method Equal d, eq-gives d names (method Equal d) (is-method Equal d) refl)
 
-ne-method : (d : Declaration) → AreNamed d → AreSmall (cases d) → IsComparison (codes "ne") (method Unequal d) × Gives d (method Unequal d) direct_ne
-ne-method d names small = (is-method Unequal d, ne-gives d names small (method Unequal d) (is-method Unequal d) refl)
+ne-method : (d : Declaration) → AreNamed d → IsComparison (codes "ne") (method Unequal d) × Gives d (method Unequal d) direct_ne
+ne-method d names = (is-method Unequal d, ne-gives d names (method Unequal d) (is-method Unequal d) refl)
 
-are-methods : (d : Declaration) → AreNamed d → AreSmall (cases d) → AreMethods d (some_compared (cases d)) (methods d)
-are-methods d names small =
+are-methods : (d : Declaration) → AreNamed d → AreMethods d (some_compared (cases d)) (methods d)
+are-methods d names =
     elim (some_compared (cases d)) as (λ b. AreMethods d b (cond b (method Equal d ∷ method Unequal d ∷ []) (method Equal d ∷ []))) [
-      | true ↦ (eq-method d names small, ne-method d names small)
-      | false ↦ eq-method d names small
+      | true ↦ (eq-method d names, ne-method d names)
+      | false ↦ eq-method d names
     ]
 
-expanded : (d : Declaration) (i : ItemTree) (items : List ItemTree) (text : List ℕ) → IsReadable d → AreSmall (cases d) → i ≡ item d →
+expanded : (d : Declaration) (i : ItemTree) (items : List ItemTree) (text : List ℕ) → IsReadable d → i ≡ item d →
     items ≡ i ∷ [] → text ≡ printed (i ∷ []) → IsExpanded d items text
-expanded d i items text s small is one t =
+expanded d i items text s is one t =
     let P : ItemTree → Type 0 = IsPartialEq d in
     let whole : IsPartialEq d (item d) = record {
       attrs = refl;
@@ -46,23 +47,23 @@ expanded d i items text s small is one t =
       ty = refl;
       predicates = refl;
       assocs = refl;
-      methods = are-methods d (readable-named d s) small;
+      methods = are-methods d (readable-named d s);
     } in
     record { item = i; one = one; is_emitted = is; is_partial_eq = subst P (sym is) whole; text_is = t }
 
 -- the text alone
-pub prints : {E : Type 0} (d : Declaration) (r : Result (String Global) E) → IsReadable d → AreSmall (cases d) →
+pub prints : {E : Type 0} (d : Declaration) (r : Result (String Global) E) → IsReadable d →
     IfOk r (λ s. string_bytes s ≡ printed (item d ∷ [])) → IfOk r (λ s. IsText d (string_bytes s))
-prints d (Ok s) readable small h = (item d ∷ [], expanded d (item d) (item d ∷ []) (string_bytes s) readable small refl refl h)
-prints d (Err e) readable small h = tt
+prints d (Ok s) readable h = (item d ∷ [], expanded d (item d) (item d ∷ []) (string_bytes s) readable refl refl h)
+prints d (Err e) readable h = tt
 
 -- a declaration has one text
 pub text-once : (d : Declaration) (x y : List ℕ) → IsText d x → IsText d y → x ≡ y
 text-once d x y a b =
     a.1.text_is ∙ ap (λ (i : ItemTree). printed (i ∷ [])) (a.1.is_emitted ∙ sym b.1.is_emitted) ∙ sym b.1.text_is
 
-pub expands : {E : Type 0} (d : Declaration) (i : ItemTree) (r : Result Expansion E) → IsReadable d → AreSmall (cases d) → i ≡ item d →
+pub expands : {E : Type 0} (d : Declaration) (i : ItemTree) (r : Result Expansion E) → IsReadable d → i ≡ item d →
     IfOk r (λ x. (map item_view x.items ≡ i ∷ []) × (x.text ≡ printed (i ∷ []))) →
     IfOk r (λ x. IsExpanded d (map item_view x.items) x.text)
-expands d i (Ok x) s small is h = expanded d i (map item_view x.items) x.text s small is h.0 h.1
-expands d i (Err e) s small is h = tt
+expands d i (Ok x) s is h = expanded d i (map item_view x.items) x.text s is h.0 h.1
+expands d i (Err e) s is h = tt

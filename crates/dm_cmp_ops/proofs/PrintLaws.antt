@@ -5,20 +5,20 @@ use Rattle.dm_stream.specs.declared.tokens.Delim.TheVariants.{Brace}
 use Rattle.dm_stream.specs.Trees.{Trees, no_trees}
 use Rattle.dm_stream.specs.Layout.{Laid, laid_start, layout}
 use Rattle.dm_ast.specs.Declarations.{Declaration, FieldTree}
-use Rattle.dm_emit.specs.Laying.{lay, begun, done}
-use Rattle.dm_emit.specs.Output.{ExprTree}
-use Rattle.dm_emit.specs.Tokens.{expr_trees, word, enclosed, in_turn, method_trees, head_trees, item_trees}
-use Rattle.dm_emit.specs.Values.{Case, field_list}
-use Rattle.dm_emit.proofs.Laying.{print_steps, lay-join, lay-text}
+use Rattle.dm_print.specs.Laying.{lay, begun, done}
+use Rattle.dm_output.specs.Output.{ExprTree}
+use Rattle.dm_output.specs.Tokens.{expr_trees, word, enclosed, in_turn, method_trees, head_trees, item_trees}
+use Rattle.dm_output.specs.Values.{Case, field_list}
+use Rattle.dm_print.proofs.Laying.{print_steps, lay-join, lay-text}
 use Rattle.dm_cmp_ops.specs.declared.partial_eq.Comparing.{Comparing}
 use Rattle.dm_cmp_ops.specs.declared.partial_eq.Comparing.TheVariants.{Equal, Unequal}
-use Rattle.dm_cmp_ops.specs.Skips.{is_skipped}
-use Rattle.dm_cmp_ops.specs.Heads.{keeps_some, is_compared}
+use Rattle.dm_attr.specs.Skips.{is_skipped}
+use Rattle.dm_operands.specs.Kept.{keeps_some, is_compared}
 use Rattle.dm_cmp_ops.specs.Emitted.{test, tests, chain, methods, item}
-use Rattle.dm_cmp_ops.specs.declared.sides.Operand.TheVariants.{Mine, Theirs}
-use Rattle.dm_cmp_ops.specs.CaseViews.{naming}
+use Rattle.dm_operands.specs.declared.sides.Operand.TheVariants.{Mine, Theirs}
+use Rattle.dm_operands.specs.CaseViews.{naming}
 use Rattle.dm_cmp_ops.specs.Printed.{sign_trees, joined}
-use Rattle.dm_cmp_ops.proofs.Builders.{segments_of_plain}
+use Rattle.dm_operands.proofs.Builders.{segments_of_plain}
 
 pub ruleset printing_steps = (print_steps, segments_of_plain)
 

@@ -12,12 +12,12 @@ use Rattle.dm_ast.specs.Spelling.{Where, Marks, Spelling, items, items_left}
 use Rattle.dm_ast.specs.DeclarationGrammar as grammar
 use Rattle.dm_ast.specs.Runs.{run}
 use Rattle.dm_ast.specs.Names.{Found, name_at, variants, fields, declared, is_again, in_some, in_type, in_param, in_where, in_field, in_fields, in_variants, in_shape, found}
-use Rattle.dm_emit.specs.Values.{Text, Case, case_of_variant, cases_of_shape}
-use Rattle.dm_emit.specs.Run.{brace_fields}
-use Rattle.dm_cmp_ops.specs.Sides.{field_ident}
-use Rattle.dm_cmp_ops.specs.Named.{AreDistinct, HasName, case_name, field_name, AreFieldsNamed, AreNamed}
+use Rattle.dm_output.specs.Values.{Text, Case, case_of_variant, cases_of_shape}
+use Rattle.dm_output.specs.Run.{brace_fields}
+use Rattle.dm_operands.specs.Sides.{field_ident}
+use Rattle.dm_operands.specs.Named.{AreDistinct, HasName, case_name, field_name, AreFieldsNamed, AreNamed}
 use Rattle.dm_cmp_ops.specs.Expanded.{IsReadable}
-use Rattle.dm_cmp_ops.proofs.BindingLaws.{eqb-same}
+use Rattle.dm_operands.proofs.BindingLaws.{eqb-same}
 
 -- ---- what holds of each item
 

@@ -1,10 +1,10 @@
 -- What `eq` and `ne` mean: the trait's operation, field by field over the fields that aren't skipped.
 use Rattle.std.specs.Prelude.{◌≡◌, List, [], ◌∷◌, length, Bool, true, not, ◌&&◌, ◌||◌, eqb, Option, Some, None, slice_get}
 use Rattle.dm_ast.specs.Declarations.{Declaration, FieldTree}
-use Rattle.dm_emit.specs.Output.{MethodTree}
-use Rattle.dm_emit.specs.Values.{Value, Case, cases, field_list, truth, IsValue}
-use Rattle.dm_emit.specs.Run.{run_method}
-use Rattle.dm_cmp_ops.specs.Skips.{is_skipped}
+use Rattle.dm_output.specs.Output.{MethodTree}
+use Rattle.dm_output.specs.Values.{Value, Case, cases, field_list, truth, IsValue}
+use Rattle.dm_output.specs.Run.{run_method}
+use Rattle.dm_attr.specs.Skips.{is_skipped}
 
 -- every outcome of a kept field is true
 abbrev pub all_kept : List FieldTree → List Bool → Bool

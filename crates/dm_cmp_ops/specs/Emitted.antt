@@ -1,19 +1,21 @@
 -- The bodies that are emitted for `eq` and `ne`: one form, with the test, the join and the neutral truth of each.
 use Rattle.std.specs.Prelude.{ℕ, ◌+◌, List, [], ◌∷◌, ◌++◌, length, Bool, true, false, not, cond, ◌&&◌, ◌||◌, eqb, nat_lt, Some, codes}
-use Rattle.std.specs.Fmt.{decimal}
 use Rattle.dm_ast.specs.Tree.{no_self}
 use Rattle.dm_ast.specs.Declarations.{Declaration, FieldTree}
 use Rattle.dm_ast.specs.Implementors.{plain_path, name_type, params_of, predicates_of, implementor}
-use Rattle.dm_emit.specs.Output.{wild, patterns_of, ExprTree, or_expr, and_expr, equal, unequal, deref, path_expr, call, tuple, bool, match_expr, unsafe_expr, ExprTrees, no_exprs, expr_then, exprs_of, no_expr, some_expr, ArmTree, no_arms, arms_of, expr_body, BlockTree, last_expr, MethodTree, ItemTree}
-use Rattle.dm_emit.specs.Values.{Text, Case, cases, is_enum, field_list}
-use Rattle.dm_emit.specs.Run.{discriminant_names}
+use Rattle.dm_output.specs.Output.{wild, patterns_of, ExprTree, or_expr, and_expr, equal, unequal, deref, path_expr, call, tuple, bool, match_expr, unsafe_expr, ExprTrees, no_exprs, expr_then, exprs_of, no_expr, some_expr, ArmTree, no_arms, arms_of, expr_body, BlockTree, last_expr, MethodTree, ItemTree}
+use Rattle.dm_output.specs.Values.{Text, Case, cases, is_enum, field_list}
+use Rattle.dm_output.specs.Run.{discriminant_names}
 use Rattle.dm_cmp_ops.specs.declared.partial_eq.Comparing.{Comparing}
 use Rattle.dm_cmp_ops.specs.declared.partial_eq.Comparing.TheVariants.{Equal, Unequal}
-use Rattle.dm_cmp_ops.specs.Skips.{is_skipped, skips_field}
-use Rattle.dm_cmp_ops.specs.Heads.{word, words, is_compared, some_compared, ref_self, partial_eq_path}
-use Rattle.dm_cmp_ops.specs.Sides.{Binds, PairArms, pair_arm, pair_arms}
-use Rattle.dm_emit.specs.declared.item.ItemAttr.TheVariants.{AllowPrivateBounds, AutomaticallyDerived, Inline}
-use Rattle.dm_emit.specs.declared.item.Receiver.TheVariants.{Ref}
+use Rattle.dm_operands.specs.Numbered.{self_name, other_name, binds}
+use Rattle.dm_attr.specs.Skips.{is_skipped}
+use Rattle.dm_operands.specs.Heads.{word, words, ref_self}
+use Rattle.dm_operands.specs.Kept.{is_compared, some_compared, all_compared, some_skipped_case}
+use Rattle.dm_cmp_ops.specs.Heads.{partial_eq_path}
+use Rattle.dm_operands.specs.Sides.{PairArms, pair_arm, pair_arms}
+use Rattle.dm_output.specs.declared.item.ItemAttr.TheVariants.{AllowPrivateBounds, AutomaticallyDerived, Inline}
+use Rattle.dm_output.specs.declared.item.Receiver.TheVariants.{Ref}
 
 -- ---- `eq` and `ne`
 
@@ -36,18 +38,8 @@ says Unequal b = not b
 
 -- ---- names
 
-abbrev pub self_name : ℕ → Text
-self_name n = codes "__self_" ++ decimal n
-
-abbrev pub other_name : ℕ → Text
-other_name n = codes "__other_" ++ decimal n
-
 abbrev pub name : Text → ExprTree
 name x = path_expr no_self (plain_path (word x ∷ []))
-
--- the fields that aren't skipped, by these names
-abbrev pub binds : (ℕ → Text) → Binds
-binds names = record { skips = skips_field; naming = names }
 
 -- ---- one arm for each variant that is compared
 
@@ -75,10 +67,6 @@ arms c d vs more = pair_arms (compared_arms c) d vs more
 
 -- ---- the last arm
 
-abbrev pub all_compared : List Case → Bool
-all_compared [] = true
-all_compared (v ∷ vs) = is_compared v && all_compared vs
-
 -- derive_more::core::hint::unreachable_unchecked()
 abbrev pub unreachable_call : ExprTree
 unreachable_call = call no_self (plain_path (words (codes "derive_more" ∷ codes "core" ∷ codes "hint" ∷ codes "unreachable_unchecked" ∷ []))) no_exprs
@@ -103,10 +91,6 @@ discriminant_call x = call no_self (plain_path (words discriminant_names)) (expr
 
 abbrev pub discriminants : Comparing → ExprTree
 discriminants c = test_of c (discriminant_call (codes "self")) (discriminant_call (codes "__other"))
-
-abbrev pub some_skipped_case : List Case → Bool
-some_skipped_case [] = false
-some_skipped_case (v ∷ vs) = is_skipped v.attrs || some_skipped_case vs
 
 -- an enum with a skipped variant or with several
 abbrev pub needs_discriminants : Declaration → Bool

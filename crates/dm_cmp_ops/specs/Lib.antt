@@ -1,11 +1,6 @@
-pub mod Skips
 pub mod Checks
-pub mod Merged
 pub mod Direct
 pub mod Heads
-pub mod Sides
 pub mod Emitted
-pub mod Named
-pub mod CaseViews
 pub mod Expanded
 pub mod Printed

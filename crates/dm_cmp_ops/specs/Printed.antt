@@ -3,8 +3,8 @@ use Rattle.std.specs.Prelude.{Bool, List, cond}
 use Rattle.dm_stream.specs.Trees.{Trees, no_trees, join}
 use Rattle.dm_ast.specs.Declarations.{Declaration}
 use Rattle.dm_ast.specs.TypeTokens.{spaced}
-use Rattle.dm_emit.specs.Output.{ExprTree, exprs_of}
-use Rattle.dm_emit.specs.Tokens.{joint, each_expr, expr_trees}
+use Rattle.dm_output.specs.Output.{ExprTree, exprs_of}
+use Rattle.dm_output.specs.Tokens.{joint, each_expr, expr_trees}
 use Rattle.dm_cmp_ops.specs.declared.partial_eq.Comparing.{Comparing}
 use Rattle.dm_cmp_ops.specs.declared.partial_eq.Comparing.TheVariants.{Equal, Unequal}
 use Rattle.dm_cmp_ops.specs.Emitted.{discriminants, matching, needs_discriminants}

@@ -4,13 +4,13 @@
 ghost use Rattle.std.specs.Prelude.{◌≡◌, ◌↔◌, None, map, flat_map};
 ghost use Rattle.dm_stream.specs.declared.error.Kind.TheVariants.{WrongShape};
 ghost use Rattle.dm_ast.specs.Declarations.{declaration_view, variant_view, field_view};
-ghost use Rattle.dm_emit.specs.Values as values;
-ghost use Rattle.dm_cmp_ops.specs.CaseViews.{case_view, fields_ref_view};
+ghost use Rattle.dm_output.specs.Values as values;
+ghost use Rattle.dm_operands.specs.CaseViews.{case_view, fields_ref_view};
 ghost use Rattle.dm_cmp_ops.specs.Checks as spec;
 
-use crate::cases::{CaseRef, FieldsRef, case_of_struct, case_of_variant};
-use crate::skips::{place_refusal, skip_of};
 use dm_ast::{Data, DeriveInput, Field, Variant};
+use dm_attr::skips::{place_refusal, skip_of};
+use dm_operands::cases::{CaseRef, FieldsRef, case_of_struct, case_of_variant};
 use dm_stream::{Kind, Refusal, Span};
 
 fn fields_refusal(fields: &[Field<'_>]) -> Option<Refusal>

@@ -3,19 +3,19 @@
 
 ghost use Rattle.std.specs.Prelude.{◌≡◌, ◌∷◌, ◌++◌, [], cond, map, IfOk, OnOk};
 ghost use Rattle.dm_ast.specs.Declarations.{declaration_view, field_view};
-ghost use Rattle.dm_emit.specs.Output.{expr_view, arm_view, block_view, pattern_view, exprs_of, last_expr, some_expr, no_expr, unsafe_expr, body_view, block_body, patterns_of};
-ghost use Rattle.dm_emit.specs.Values as values;
-ghost use Rattle.dm_cmp_ops.specs.Sides as sides;
+ghost use Rattle.dm_output.specs.Output.{expr_view, arm_view, block_view, pattern_view, exprs_of, last_expr, some_expr, no_expr, unsafe_expr, body_view, block_body, patterns_of};
+ghost use Rattle.dm_output.specs.Values as values;
+ghost use Rattle.dm_operands.specs.Sides as sides;
 ghost use Rattle.dm_cmp_ops.specs.Emitted as spec;
-ghost use Rattle.dm_cmp_ops.specs.CaseViews.{case_view, fields_ref_view, naming};
+ghost use Rattle.dm_operands.specs.CaseViews.{case_view, fields_ref_view, naming};
 
-use crate::cases::{CaseRef, FieldsRef, all_compared, is_compared};
-use crate::names::{boxed, name, one, path_of};
 use crate::partial_eq::Comparing;
-use crate::sides::{Operand, numbered, side};
-use crate::skips::is_skipped;
 use dm_ast::{DeriveInput, Field};
-use dm_emit::{Arm, ArmBody, Block, Expr, PathExpr, Pattern};
+use dm_attr::skips::is_skipped;
+use dm_operands::cases::{CaseRef, FieldsRef, all_compared, is_compared};
+use dm_operands::names::{boxed, name, one, path_of};
+use dm_operands::sides::{Operand, numbered, side};
+use dm_output::{Arm, ArmBody, Block, Expr, PathExpr, Pattern};
 use dm_stream::Seq;
 use std::alloc::{AllocError, Global};
 
@@ -85,7 +85,7 @@ fn add_test<'a>(
     out.add(next)
 }
 
-#[tactic(auto, using(crate::proofs::Joined::joined_steps))]
+#[tactic(auto, using(crate::proofs::Builders::joined_steps))]
 fn tests<'a>(
     alloc: Global,
     comparing: Comparing,

@@ -4,30 +4,32 @@
 ghost use Rattle.std.specs.Prelude.{◌≡◌, ◌∷◌, [], map, ◌++◌, codes, IfOk, OnOk, string_bytes};
 ghost use Rattle.dm_ast.specs.Tree.{path_view, no_self};
 ghost use Rattle.dm_ast.specs.Declarations.{declaration_view};
-ghost use Rattle.dm_emit.specs.Output.{expr_view, block_view, method_view, item_view, match_expr, deref, no_arms, call, exprs_of, tuple, expr_then, no_exprs};
-ghost use Rattle.dm_emit.specs.Values as values;
-ghost use Rattle.dm_emit.specs.Tokens.{printed};
-ghost use Rattle.dm_cmp_ops.specs.Heads as heads;
+ghost use Rattle.dm_output.specs.Output.{expr_view, block_view, method_view, item_view, match_expr, deref, no_arms, call, exprs_of, tuple, expr_then, no_exprs};
+ghost use Rattle.dm_output.specs.Values as values;
+ghost use Rattle.dm_output.specs.Tokens.{printed};
+ghost use Rattle.dm_cmp_ops.specs.Heads.{partial_eq_path};
+ghost use Rattle.dm_operands.specs.Heads as heads;
+ghost use Rattle.dm_operands.specs.Kept as kept;
 ghost use Rattle.dm_cmp_ops.specs.Emitted as spec;
-ghost use Rattle.dm_cmp_ops.specs.CaseViews.{case_view, IsCasesOf};
-ghost use Rattle.dm_cmp_ops.specs.Named.{AreSmall};
+ghost use Rattle.dm_operands.specs.CaseViews.{case_view, IsCasesOf};
 ghost use Rattle.dm_cmp_ops.specs.Expanded.{IsAnswer, IsExpanded, IsPrinted, IsReadable, IsText};
 
-use crate::cases::{CaseRef, cases_of, count_fields, is_enum, some_compared, some_skipped_case};
 use crate::checks::refusal;
 use crate::comparing::{arms, block_of, chain, test_of};
-use crate::generics::{implementor, params, predicates};
-use crate::heads::{other_param, partial_eq_path, word_type};
-use crate::names::{boxed, name, one, path_of, two, word};
 use crate::printing::printed_item;
 use dm_ast::{DeriveInput, Path};
-use dm_emit::{Block, Expansion, Expr, Item, ItemAttr, Method, PathExpr, Receiver, with_text};
+use dm_operands::cases::{CaseRef, cases_of, is_enum, some_compared, some_skipped_case};
+use dm_operands::generics::{implementor, params, predicates};
+use dm_operands::heads::{other_param, word_type};
+use dm_operands::names::{boxed, name, one, path_of, two, word};
+use dm_output::{Block, Expr, Item, ItemAttr, Method, PathExpr, Receiver};
+use dm_print::{Expansion, with_text};
 use dm_stream::{Error, Ident, Seq};
 use std::alloc::{AllocError, Global};
 
 /// Which of the two methods is made.
 #[derive(Clone, Copy, Debug, PartialEq, Eq)]
-pub enum Comparing {
+pub(crate) enum Comparing {
     Equal,
     Unequal,
 }
@@ -75,7 +77,7 @@ fn matching<'a>(
     Ok(Expr::Match(operands, all))
 }
 
-#[tactic(auto, using(crate::proofs::Joined::joined_steps))]
+#[tactic(auto, using(crate::proofs::Builders::joined_steps))]
 fn call_of<'a>(path: Path<'a>, operands: Seq<Expr<'a>>) -> Expr<'a>
     ensures { expr_view result ≡ call no_self (path_view path.entry) (exprs_of (map expr_view operands.entry)) }
 {
@@ -122,7 +124,7 @@ fn match_part<'a>(
     parts: &mut Seq<Expr<'a>>,
 ) -> Result<(), AllocError>
     requires { IsCasesOf input.now cases.now }
-    ensures { OnOk result (map expr_view parts.new ≡ map expr_view parts.old ++ spec.match_part comparing (declaration_view input.now) (heads.some_compared (values.cases (declaration_view input.now)))) }
+    ensures { OnOk result (map expr_view parts.new ≡ map expr_view parts.old ++ spec.match_part comparing (declaration_view input.now) (kept.some_compared (values.cases (declaration_view input.now)))) }
 {
     if some_compared(cases) {
         let next = matching(alloc, comparing, input, cases)?;
@@ -277,6 +279,13 @@ fn methods<'a>(
     one(alloc, equal)
 }
 
+/// `derive_more::core::cmp::PartialEq`.
+fn trait_path<'a>(alloc: Global) -> Result<Path<'a>, AllocError>
+    ensures { IfOk result (λ p. path_view p ≡ partial_eq_path) }
+{
+    path_of(alloc, &["derive_more", "core", "cmp", "PartialEq"])
+}
+
 /// The implementation with these methods.
 pub(crate) fn with_methods<'a>(
     alloc: Global,
@@ -288,7 +297,7 @@ pub(crate) fn with_methods<'a>(
     let private = ItemAttr::AllowPrivateBounds;
     let attrs = two(alloc, private, ItemAttr::AutomaticallyDerived)?;
     let params = params(alloc, input)?;
-    let path = partial_eq_path(alloc)?;
+    let path = trait_path(alloc)?;
     let predicates = predicates(alloc, input)?;
     let ty = implementor(alloc, input, params.as_slice())?;
     Ok(Item {
@@ -311,15 +320,6 @@ pub(crate) fn item<'a>(alloc: Global, input: &DeriveInput<'a>) -> Result<Item<'a
     with_methods(alloc, input, methods)
 }
 
-/// The fields of each variant can be counted.
-fn counted(alloc: Global, input: &DeriveInput<'_>) -> Result<(), AllocError>
-    ensures { IfOk result (λ _. AreSmall (values.cases (declaration_view input.now))) }
-{
-    let cases = cases_of(alloc, input)?;
-    count_fields(cases.as_slice());
-    Ok(())
-}
-
 fn expansion_of<'a>(alloc: Global, item: Item<'a>) -> Result<Expansion<'a>, AllocError>
     ensures { IfOk result (λ x. (map item_view x.items ≡ item_view item.entry ∷ []) × (x.text ≡ printed (item_view item.entry ∷ []))) }
 {
@@ -331,7 +331,6 @@ fn expanded<'a>(alloc: Global, input: &DeriveInput<'a>) -> Result<Expansion<'a>,
     requires { IsReadable (declaration_view input.now) }
     ensures { IfOk result (λ x. IsExpanded (declaration_view input.now) (map item_view x.items) x.text) }
 {
-    counted(alloc, input)?;
     let made = item(alloc, input)?;
     expansion_of(alloc, made)
 }
@@ -363,7 +362,6 @@ fn printed<'a>(alloc: Global, input: &DeriveInput<'a>) -> Result<String, AllocEr
     requires { IsReadable (declaration_view input.now) }
     ensures { IfOk result (λ text. IsText (declaration_view input.now) (string_bytes text)) }
 {
-    counted(alloc, input)?;
     printed_item(alloc, input)
 }
 

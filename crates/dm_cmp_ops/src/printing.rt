@@ -5,27 +5,27 @@
 
 ghost use Rattle.std.specs.Prelude.{◌≡◌, ◌∷◌, [], map, IfOk, OnOk, string_bytes};
 ghost use Rattle.dm_ast.specs.Declarations.{declaration_view};
-ghost use Rattle.dm_emit.specs.Output.{last_expr, no_expr};
-ghost use Rattle.dm_emit.specs.Tokens as tokens;
-ghost use Rattle.dm_emit.specs.Laying.{lay};
+ghost use Rattle.dm_output.specs.Output.{last_expr, no_expr};
+ghost use Rattle.dm_output.specs.Tokens as tokens;
+ghost use Rattle.dm_print.specs.Laying.{lay};
 ghost use Rattle.dm_cmp_ops.specs.Emitted as spec;
 ghost use Rattle.dm_cmp_ops.specs.Printed as printed;
-ghost use Rattle.dm_cmp_ops.specs.CaseViews.{IsCasesOf};
+ghost use Rattle.dm_operands.specs.CaseViews.{IsCasesOf};
 
 mod arms;
 mod sides;
 
-use crate::cases::{CaseRef, cases_of, some_compared};
 use crate::partial_eq::{
     Comparing, body_expr, both_expr, discriminants, method_with, needs_discriminants, with_methods,
 };
 use arms::{arms, join};
 use dm_ast::DeriveInput;
-use dm_emit::Block;
-use dm_emit::print::expr::expr;
-use dm_emit::print::item::{head, signature};
-use dm_emit::print::token::{close, open, word};
 use dm_layout::Layout;
+use dm_operands::cases::{CaseRef, cases_of, some_compared};
+use dm_output::Block;
+use dm_print::expr::expr;
+use dm_print::item::{head, signature};
+use dm_print::token::{close, open, word};
 use dm_stream::{Delim, Seq};
 use std::alloc::{AllocError, Global};
 

@@ -12,8 +12,8 @@ use Rattle.dm_ast.specs.Declarations.{Declaration, declaration_view}
 use Rattle.dm_ast.specs.Spelling.{Marks, first_too_deep}
 use Rattle.dm_ast.specs.Parsed.{SpelledBy, IsTheDeclaration, IsUnread}
 use Rattle.dm_ast.specs.Names.{Named, names_refusal}
-use Rattle.dm_emit.specs.declared.print.Expansion.{Expansion}
-use Rattle.dm_emit.specs.Output.{ItemTree, item_view}
+use Rattle.dm_print.specs.declared.expansion.Expansion.{Expansion}
+use Rattle.dm_output.specs.Output.{ItemTree, item_view}
 use Rattle.dm_cmp_ops.specs.Checks.{refusal, IsValid}
 use Rattle.dm_cmp_ops.specs.Expanded.{IsExpanded, IsText}
 

@@ -1,15 +1,9 @@
-//! The output language: implementations as trees, what their methods give, and their text.
+//! The output language and its text, gathered from the crates that have them.
 #![tactic(auto)]
 
-mod copy_expr;
-mod copy_item;
-mod copy_pattern;
-mod expr;
-mod item;
-mod pattern;
-pub mod print;
-
-pub use expr::{Arm, ArmBody, Block, Expr, PathExpr, Stmt};
-pub use item::{Assoc, Item, ItemAttr, Method, MethodParam, Receiver};
-pub use pattern::{Binding, NamedPattern, Pattern};
-pub use print::{Expansion, print_items, with_text};
+pub use dm_copy::CloneIn;
+pub use dm_output::{
+    Arm, ArmBody, Assoc, Binding, Block, Expr, Item, ItemAttr, Method, MethodParam, NamedPattern,
+    PathExpr, Pattern, Receiver, Stmt,
+};
+pub use dm_print::{Expansion, print_items, with_text};

@@ -1,11 +1,11 @@
 -- What is taken from a list and what is left make up the list.
 use Rattle.std.specs.Prelude.{◌≡◌, ℕ, zero, suc, true, Option, None, Some, [], ◌∷◌, refl}
-use Rattle.std.proofs.Common.{ap, ◌∙◌, subst}
+use Rattle.std.proofs.Common.{ap, ◌∙◌, subst, sym}
 use Rattle.dm_stream.specs.declared.tokens.Token.{Token}
-use Rattle.dm_stream.specs.Trees.{Trees, no_trees, token, group, join}
+use Rattle.dm_stream.specs.Trees.{Trees, no_trees, token, group, join, join-no_trees}
 use Rattle.dm_stream.specs.Cursors.{split_trees, before}
 use Rattle.dm_expr.specs.Cuts.{Front, run_at, split_at}
-use Rattle.dm_expr.specs.Lists.{cuts_none, cuts_last, cuts_more, IsJoined, NothingIsLost}
+use Rattle.dm_expr.specs.Lists.{cuts_none, cuts_last, cuts_more, IsJoined, joined_none, joined_last, joined_more, NothingIsLost}
 
 -- a list of which the first trees are split off
 abbrev Makes : Trees → Option (Trees × Trees) → Type 0
@@ -36,18 +36,10 @@ pub split_joins : (f : Front) (ts run rest : Trees) → split_at f ts ≡ Some (
 split_joins f ts run rest e = subst (Makes ts) e (front-makes f ts)
 
 pub nothing-lost : NothingIsLost
-nothing-lost no_trees [] cuts_none = record { commas = []; are_commas = tt; trees_are = refl }
+nothing-lost no_trees [] cuts_none = joined_none
 nothing-lost (token k rest) [] c = elim c [ ]
 nothing-lost (group d from i upto rest) [] c = elim c [ ]
-nothing-lost ts (run ∷ []) (cuts_last e) = record {
-  commas = [];
-  are_commas = tt;
-  trees_are = split_joins (run_at true ts) ts run no_trees e;
-}
+nothing-lost ts (run ∷ []) (cuts_last e) =
+    subst (λ t. IsJoined t (run ∷ [])) (sym (split_joins (run_at true ts) ts run no_trees e ∙ join-no_trees run)) (joined_last run)
 nothing-lost ts (run ∷ others) (cuts_more {rest = rest} comma e k more) =
-    let j : IsJoined rest others = nothing-lost rest others more in
-    record {
-      commas = comma ∷ j.commas;
-      are_commas = (k, j.are_commas);
-      trees_are = split_joins (run_at true ts) ts run (token comma rest) e ∙ ap (λ t. join run (token comma t)) j.trees_are;
-    }
+    joined_more comma k (split_joins (run_at true ts) ts run (token comma rest) e) (nothing-lost rest others more)

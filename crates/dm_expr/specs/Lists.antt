@@ -11,21 +11,12 @@ pub data Cuts : Trees → List Trees → Type 0 where
   cuts_more : {ts run rest : Trees} {runs : List Trees} (comma : Token) →
       split_at (run_at true ts) ts ≡ Some (run, token comma rest) → is_char 44 comma ≡ true → Cuts rest runs → Cuts ts (run ∷ runs)
 
--- the runs, each with its comma behind it while there are commas
-abbrev pub with_commas : List Trees → List Token → Trees
-with_commas [] commas = no_trees
-with_commas (run ∷ runs) [] = join run (with_commas runs [])
-with_commas (run ∷ runs) (comma ∷ commas) = join run (token comma (with_commas runs commas))
-
-abbrev pub AreCommas : List Token → Type 0
-AreCommas [] = Unit {0}
-AreCommas (k ∷ ks) = (is_char 44 k ≡ true) × AreCommas ks
-
--- the trees are the runs and commas, and nothing else
-pub record IsJoined (ts : Trees) (runs : List Trees) : Type 0 where
-  pub commas : List Token
-  pub are_commas : AreCommas commas
-  pub trees_are : ts ≡ with_commas runs commas
+-- the trees are these runs, a comma between each two, perhaps one behind the last, and nothing else
+pub data IsJoined : Trees → List Trees → Type 0 where
+  joined_none : IsJoined no_trees []
+  joined_last : (run : Trees) → IsJoined run (run ∷ [])
+  joined_more : {ts run rest : Trees} {runs : List Trees} (comma : Token) → is_char 44 comma ≡ true → ts ≡ join run (token comma rest) →
+      IsJoined rest runs → IsJoined ts (run ∷ runs)
 
 -- no token of a list is lost
 abbrev pub NothingIsLost : Type 0

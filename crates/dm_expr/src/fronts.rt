@@ -1,5 +1,5 @@
 ghost use Rattle.std.specs.Prelude.{◌≡◌, ◌+◌, ◌<◌, ◌≤◌, ◌^◌, None, Some, MatchOption, IfSome};
-ghost use Rattle.dm_stream.specs.Cursors.{left, end_of, sound, trees_in, piece_end, sound_piece, first_tree, IsPlaceAfter};
+ghost use Rattle.dm_stream.specs.Cursors.{left, end_of, sound, trees_in, piece_end, sound_piece, first_tree, SharesEnd};
 ghost use Rattle.dm_stream.specs.Sizes.{size};
 ghost use Rattle.dm_expr.specs.Cuts.{punct_at, spaced_at, path_sep_at, tree_at, pair_at, closed_at, after_tree, split_at};
 
@@ -11,7 +11,7 @@ pub fn path_sep<'t, 'a>(c: Cursor<'t, 'a>) -> Option<(Piece<'t, 'a>, Cursor<'t, 
     ensures gives { MatchOption result (split_at (path_sep_at (left c.entry)) (left c.entry) ≡ None) (λ r. split_at (path_sep_at (left c.entry)) (left c.entry) ≡ Some (trees_in r.0, left r.1)) }
     ensures sound { IfSome result (λ r. sound_piece r.0) }
     ensures piece_end { IfSome result (λ r. piece_end r.0 ≡ end_of c.entry) }
-    ensures place { IfSome result (λ r. IsPlaceAfter c.entry r.1) }
+    ensures place { IfSome result (λ r. SharesEnd c.entry r.1) }
 {
     let (count, _) = path_sep_size(c)?;
     c.take(count)
@@ -27,7 +27,7 @@ pub fn punct_with_spacing<'t, 'a>(
     ensures gives { MatchOption result (split_at (spaced_at p spacing (left c.entry)) (left c.entry) ≡ None) (λ r. split_at (spaced_at p spacing (left c.entry)) (left c.entry) ≡ Some (trees_in r.0, left r.1)) }
     ensures sound { IfSome result (λ r. sound_piece r.0) }
     ensures piece_end { IfSome result (λ r. piece_end r.0 ≡ end_of c.entry) }
-    ensures place { IfSome result (λ r. IsPlaceAfter c.entry r.1) }
+    ensures place { IfSome result (λ r. SharesEnd c.entry r.1) }
 {
     let (count, _) = spaced_size(p, spacing, c)?;
     c.take(count)
@@ -39,7 +39,7 @@ pub fn punct<'t, 'a>(p: char, c: Cursor<'t, 'a>) -> Option<(Piece<'t, 'a>, Curso
     ensures gives { MatchOption result (split_at (punct_at p (left c.entry)) (left c.entry) ≡ None) (λ r. split_at (punct_at p (left c.entry)) (left c.entry) ≡ Some (trees_in r.0, left r.1)) }
     ensures sound { IfSome result (λ r. sound_piece r.0) }
     ensures piece_end { IfSome result (λ r. piece_end r.0 ≡ end_of c.entry) }
-    ensures place { IfSome result (λ r. IsPlaceAfter c.entry r.1) }
+    ensures place { IfSome result (λ r. SharesEnd c.entry r.1) }
 {
     let (count, _) = punct_size(p, c)?;
     c.take(count)
@@ -51,7 +51,7 @@ pub fn token_tree<'t, 'a>(c: Cursor<'t, 'a>) -> Option<(Piece<'t, 'a>, Cursor<'t
     ensures gives { MatchOption result (first_tree (left c.entry) ≡ None) (λ r. first_tree (left c.entry) ≡ Some (trees_in r.0, left r.1)) }
     ensures sound { IfSome result (λ r. sound_piece r.0) }
     ensures piece_end { IfSome result (λ r. piece_end r.0 ≡ end_of c.entry) }
-    ensures place { IfSome result (λ r. IsPlaceAfter c.entry r.1) }
+    ensures place { IfSome result (λ r. SharesEnd c.entry r.1) }
 {
     c.token_tree()
 }
@@ -67,7 +67,7 @@ pub fn balanced_pair<'t, 'a>(
     ensures gives { MatchOption result (split_at (pair_at opener closer (left c.entry)) (left c.entry) ≡ None) (λ r. split_at (pair_at opener closer (left c.entry)) (left c.entry) ≡ Some (trees_in r.0, left r.1)) }
     ensures sound { IfSome result (λ r. sound_piece r.0) }
     ensures piece_end { IfSome result (λ r. piece_end r.0 ≡ end_of c.entry) }
-    ensures place { IfSome result (λ r. IsPlaceAfter c.entry r.1) }
+    ensures place { IfSome result (λ r. SharesEnd c.entry r.1) }
 {
     let (count, _) = pair_size(opener, closer, c)?;
     c.take(count)
@@ -77,7 +77,7 @@ pub(crate) fn path_sep_size<'t, 'a>(c: Cursor<'t, 'a>) -> Option<(usize, Cursor<
     requires { sound c }
     ensures gives { MatchOption result (path_sep_at (left c.entry) ≡ None) (λ r. path_sep_at (left c.entry) ≡ Some (r.0, left r.1)) }
     ensures counts { IfSome result (λ r. r.0 + size (left r.1) ≡ size (left c.entry)) }
-    ensures place { IfSome result (λ r. IsPlaceAfter c.entry r.1) }
+    ensures place { IfSome result (λ r. SharesEnd c.entry r.1) }
 {
     let (_, rest) = spaced_size(':', Spacing::Joint, c)?;
     let (_, rest) = punct_size(':', rest)?;
@@ -92,7 +92,7 @@ fn spaced_size<'t, 'a>(
     requires { sound c }
     ensures gives { MatchOption result (spaced_at p spacing (left c.entry) ≡ None) (λ r. spaced_at p spacing (left c.entry) ≡ Some (r.0, left r.1)) }
     ensures counts { IfSome result (λ r. r.0 + size (left r.1) ≡ size (left c.entry)) }
-    ensures place { IfSome result (λ r. IsPlaceAfter c.entry r.1) }
+    ensures place { IfSome result (λ r. SharesEnd c.entry r.1) }
 {
     let (found, rest) = c.punct()?;
     if found.ch == p && found.spacing == spacing {
@@ -106,7 +106,7 @@ pub(crate) fn punct_size<'t, 'a>(p: char, c: Cursor<'t, 'a>) -> Option<(usize, C
     requires { sound c }
     ensures gives { MatchOption result (punct_at p (left c.entry) ≡ None) (λ r. punct_at p (left c.entry) ≡ Some (r.0, left r.1)) }
     ensures counts { IfSome result (λ r. r.0 + size (left r.1) ≡ size (left c.entry)) }
-    ensures place { IfSome result (λ r. IsPlaceAfter c.entry r.1) }
+    ensures place { IfSome result (λ r. SharesEnd c.entry r.1) }
 {
     let (found, rest) = c.punct()?;
     if found.ch == p { Some((1, rest)) } else { None }
@@ -121,7 +121,7 @@ pub(crate) fn pair_size<'t, 'a>(
     requires { sound c }
     ensures gives { MatchOption result (pair_at opener closer (left c.entry) ≡ None) (λ r. pair_at opener closer (left c.entry) ≡ Some (r.0, left r.1)) }
     ensures counts { IfSome result (λ r. r.0 + size (left r.1) ≡ size (left c.entry)) }
-    ensures place { IfSome result (λ r. IsPlaceAfter c.entry r.1) }
+    ensures place { IfSome result (λ r. SharesEnd c.entry r.1) }
 {
     let (mut count, mut at) = punct_size(opener, c)?;
     let mut depth = 1;
@@ -146,7 +146,7 @@ fn open_after<'t, 'a>(
     requires some { 0 < depth }
     requires fits { depth + size (left c) < 2 ^ 64 }
     ensures gives { MatchOption result (after_tree opener closer depth (left c.entry) ≡ None) (λ r. after_tree opener closer depth (left c.entry) ≡ Some (r.0, left r.1)) }
-    ensures place { IfSome result (λ r. IsPlaceAfter c.entry r.1) }
+    ensures place { IfSome result (λ r. SharesEnd c.entry r.1) }
 {
     if let Some((found, rest)) = c.punct() {
         if found.ch == closer {

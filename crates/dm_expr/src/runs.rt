@@ -1,5 +1,5 @@
 ghost use Rattle.std.specs.Prelude.{◌≡◌, ◌+◌, ◌-◌, ◌^◌, ◌<◌, ◌≤◌, true, false, None, Some, MatchOption, IfSome};
-ghost use Rattle.dm_stream.specs.Cursors.{left, end_of, sound, trees_in, piece_end, sound_piece, IsPlaceAfter};
+ghost use Rattle.dm_stream.specs.Cursors.{left, end_of, sound, trees_in, piece_end, sound_piece, SharesEnd};
 ghost use Rattle.dm_stream.specs.Sizes.{size};
 ghost use Rattle.dm_expr.specs.Cuts.{run_at, split_at};
 ghost use Rattle.dm_expr.specs.Reach.{reach, closes, pairs_behind};
@@ -18,7 +18,7 @@ pub fn take_until1<'t, 'a>(c: Cursor<'t, 'a>) -> Option<(Piece<'t, 'a>, Cursor<'
     ensures gives { MatchOption result (split_at (run_at true (left c.entry)) (left c.entry) ≡ None) (λ r. split_at (run_at true (left c.entry)) (left c.entry) ≡ Some (trees_in r.0, left r.1)) }
     ensures sound { IfSome result (λ r. sound_piece r.0) }
     ensures piece_end { IfSome result (λ r. piece_end r.0 ≡ end_of c.entry) }
-    ensures place { IfSome result (λ r. IsPlaceAfter c.entry r.1) }
+    ensures place { IfSome result (λ r. SharesEnd c.entry r.1) }
 {
     let (count, _) = run_size(true, c)?;
     c.take(count)
@@ -31,7 +31,7 @@ pub fn discriminant_end<'t, 'a>(c: Cursor<'t, 'a>) -> Option<(Piece<'t, 'a>, Cur
     ensures gives { MatchOption result (split_at (run_at false (left c.entry)) (left c.entry) ≡ None) (λ r. split_at (run_at false (left c.entry)) (left c.entry) ≡ Some (trees_in r.0, left r.1)) }
     ensures sound { IfSome result (λ r. sound_piece r.0) }
     ensures piece_end { IfSome result (λ r. piece_end r.0 ≡ end_of c.entry) }
-    ensures place { IfSome result (λ r. IsPlaceAfter c.entry r.1) }
+    ensures place { IfSome result (λ r. SharesEnd c.entry r.1) }
 {
     let (count, _) = run_size(false, c)?;
     c.take(count)
@@ -41,7 +41,7 @@ pub fn discriminant_end<'t, 'a>(c: Cursor<'t, 'a>) -> Option<(Piece<'t, 'a>, Cur
 fn run_size<'t, 'a>(with_bars: bool, c: Cursor<'t, 'a>) -> Option<(usize, Cursor<'t, 'a>)>
     requires { sound c }
     ensures gives { MatchOption result (run_at with_bars (left c.entry) ≡ None) (λ r. run_at with_bars (left c.entry) ≡ Some (r.0, left r.1)) }
-    ensures place { IfSome result (λ r. IsPlaceAfter c.entry r.1) }
+    ensures place { IfSome result (λ r. SharesEnd c.entry r.1) }
 {
     let most = c.len();
     let mut ends = PairEnds {

@@ -1,5 +1,5 @@
 ghost use Rattle.std.specs.Prelude.{◌≡◌, ◌+◌, true, false, None, Some, MatchOption, IfSome};
-ghost use Rattle.dm_stream.specs.Cursors.{left, end_of, sound, trees_in, piece_end, sound_piece, IsPlaceAfter};
+ghost use Rattle.dm_stream.specs.Cursors.{left, end_of, sound, trees_in, piece_end, sound_piece, SharesEnd};
 ghost use Rattle.dm_stream.specs.Sizes.{size};
 ghost use Rattle.dm_expr.specs.Cuts.{sep_args_at, args_sep_at, bars_at, unit_at, split_unit};
 ghost use Rattle.dm_expr.specs.Reach.{reach};
@@ -28,7 +28,7 @@ pub fn next_unit<'t, 'a>(c: Cursor<'t, 'a>) -> Option<(Unit, Piece<'t, 'a>, Curs
     ensures gives { MatchOption result (split_unit (unit_at true (left c.entry)) (left c.entry) ≡ None) (λ r. split_unit (unit_at true (left c.entry)) (left c.entry) ≡ Some (r.0, trees_in r.1, left r.2)) }
     ensures sound { IfSome result (λ r. sound_piece r.1) }
     ensures piece_end { IfSome result (λ r. piece_end r.1 ≡ end_of c.entry) }
-    ensures place { IfSome result (λ r. IsPlaceAfter c.entry r.2) }
+    ensures place { IfSome result (λ r. SharesEnd c.entry r.2) }
 {
     let (unit, count, _) = unit_here(true, EVERY_PAIR, c)?;
     let (piece, rest) = c.take(count)?;
@@ -59,7 +59,7 @@ pub(crate) fn unit_here<'t, 'a>(
     requires none_before_sep { OnFalse pairs.closed_before_sep (reach true (left c) ≡ 0) }
     ensures gives { MatchOption result (unit_at with_bars (left c.entry) ≡ None) (λ r. unit_at with_bars (left c.entry) ≡ Some (r.0, r.1, left r.2)) }
     ensures counts { IfSome result (λ r. r.1 + size (left r.2) ≡ size (left c.entry)) }
-    ensures place { IfSome result (λ r. IsPlaceAfter c.entry r.2) }
+    ensures place { IfSome result (λ r. SharesEnd c.entry r.2) }
 {
     if punct_size(',', c).is_some() {
         return None;
@@ -84,7 +84,7 @@ fn sep_args_size<'t, 'a>(closed: bool, c: Cursor<'t, 'a>) -> Option<(usize, Curs
     requires none { OnFalse closed (reach false (left c) ≡ 0) }
     ensures gives { MatchOption result (sep_args_at (left c.entry) ≡ None) (λ r. sep_args_at (left c.entry) ≡ Some (r.0, left r.1)) }
     ensures counts { IfSome result (λ r. r.0 + size (left r.1) ≡ size (left c.entry)) }
-    ensures place { IfSome result (λ r. IsPlaceAfter c.entry r.1) }
+    ensures place { IfSome result (λ r. SharesEnd c.entry r.1) }
 {
     if !closed {
         return None;
@@ -104,7 +104,7 @@ fn args_sep_size<'t, 'a>(
     requires none { OnFalse closed_before_sep (reach true (left c) ≡ 0) }
     ensures gives { MatchOption result (args_sep_at (left c.entry) ≡ None) (λ r. args_sep_at (left c.entry) ≡ Some (r.0, left r.1)) }
     ensures counts { IfSome result (λ r. r.0 + size (left r.1) ≡ size (left c.entry)) }
-    ensures place { IfSome result (λ r. IsPlaceAfter c.entry r.1) }
+    ensures place { IfSome result (λ r. SharesEnd c.entry r.1) }
 {
     if !closed_before_sep {
         return None;
@@ -119,7 +119,7 @@ fn bars_size<'t, 'a>(with_bars: bool, c: Cursor<'t, 'a>) -> Option<(usize, Curso
     requires { sound c }
     ensures gives { MatchOption result (bars_at with_bars (left c.entry) ≡ None) (λ r. bars_at with_bars (left c.entry) ≡ Some (r.0, left r.1)) }
     ensures counts { IfSome result (λ r. r.0 + size (left r.1) ≡ size (left c.entry)) }
-    ensures place { IfSome result (λ r. IsPlaceAfter c.entry r.1) }
+    ensures place { IfSome result (λ r. SharesEnd c.entry r.1) }
 {
     if !with_bars {
         return None;

@@ -17,7 +17,8 @@ use Rattle.dm_read.specs.DeclarationReaders.{read_listed, read_predicate}
 use Rattle.dm_ast.specs.Runs.{run, read_run}
 use Rattle.dm_ast.specs.Readers.{Outcome, Reads}
 use Rattle.dm_meta.specs.Fronts.{IsFront, IsUnreadFront, NoFront, ToEnd}
-use Rattle.dm_ast.specs.Places.{IsPlaceIn, IsRefusedAt, Licensed}
+use Rattle.dm_ast.specs.Places.{IsPlaceIn, IsRefusedAt}
+use Rattle.dm_read_decl.proofs.LicensedSteps.{Licensed}
 use Rattle.dm_read_types.specs.WholeReaders.{whole_type, whole_bound, parts}
 use Rattle.dm_read_types.proofs.PlainParts.{nothing_left}
 use Rattle.dm_read.proofs.Deciding.{Same, IsRead, IsRefused, Decides, Reader}

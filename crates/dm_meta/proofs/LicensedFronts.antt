@@ -9,7 +9,7 @@ use Rattle.dm_ast.specs.Readers.{Outcome, mapped, read_any, read_rest, inside_at
 use Rattle.dm_read_types.specs.TypeReaders.{segment_of, path_of, read_type}
 use Rattle.dm_meta.specs.Metas.{PathOrKeywordTree, path_meta}
 use Rattle.dm_meta.specs.MetaReaders.{is_syntax, keyword_of, if_no_path, read_keyword, read_path_or_keyword, read_enclosed, list_of, read_meta_list, list_behind, behind_path, read_meta, lit_of, nested_of, read_nested_meta}
-use Rattle.dm_ast.specs.Places.{Licensed}
+use Rattle.dm_read_decl.proofs.LicensedSteps.{Licensed}
 use Rattle.dm_ast.specs.TypeGrammar.{is_path_word}
 use Rattle.dm_read_decl.proofs.Licensing.{Licenses, licensed_any, licensed_gives, licensed_and, licensed_bind, licensed_test, licensed_either, licensed_nothing, licensed_any_ident, licensed_ident, licensed_literal, licensed_group, licensed_rest, licensed_chain}
 use Rattle.dm_read_decl.proofs.LicensedParts.{licensed_leading, licensed_colons}

@@ -4,7 +4,7 @@
 ghost use Rattle.std.specs.Prelude.{◌≡◌, ◌<◌, ℕ, Result, IfOk, IfErr, OnOk};
 ghost use Rattle.dm_stream.specs.declared.error.Refusal.{Refusal};
 ghost use Rattle.dm_stream.specs.Trees.{Trees, join};
-ghost use Rattle.dm_stream.specs.Cursors.{left, end_of, sound, IsPlaceAfter};
+ghost use Rattle.dm_stream.specs.Cursors.{left, end_of, sound, SharesEnd};
 ghost use Rattle.dm_ast.specs.Readers.{place, Reads};
 ghost use Rattle.dm_meta.specs.Fronts.{IsFront};
 ghost use Rattle.dm_meta.specs.ArgReaders.{Within};
@@ -62,9 +62,9 @@ fn enclosed<'t, 'a>(
     c: Cursor<'t, 'a>,
 ) -> Result<(TokenStream<'a>, Cursor<'t, 'a>), Error>
     requires here { sound c }
-    requires fits { level < 400 }
+    requires fits { level < 130 }
     ensures reads { Reads (λ s. s) (spec.read_enclosed (place level c.entry) (left c.entry)) result }
-    ensures place { IfOk result (λ r. IsPlaceAfter c.entry r.1) }
+    ensures place { IfOk result (λ r. SharesEnd c.entry r.1) }
 {
     kept_in(alloc, Delim::Paren, level, c)
 }
@@ -76,9 +76,9 @@ fn meta_list<'t, 'a>(
     c: Cursor<'t, 'a>,
 ) -> Result<(MetaList<'a>, Cursor<'t, 'a>), Error>
     requires here { sound c }
-    requires fits { level < 400 }
+    requires fits { level < 130 }
     ensures reads { Reads metas.meta_list_view (spec.read_meta_list (place level c.entry) (left c.entry)) result }
-    ensures place { IfOk result (λ r. IsPlaceAfter c.entry r.1) }
+    ensures place { IfOk result (λ r. SharesEnd c.entry r.1) }
 {
     let (path, behind) = path_or_keyword(alloc, level, c)?;
     let (tokens, rest) = enclosed(alloc, level, behind)?;
@@ -93,9 +93,9 @@ fn behind_path<'t, 'a>(
     c: Cursor<'t, 'a>,
 ) -> Result<(Meta<'a>, Cursor<'t, 'a>), Error>
     requires here { sound c }
-    requires fits { level < 400 }
+    requires fits { level < 130 }
     ensures reads { Reads metas.meta_view (spec.behind_path (place level c.entry) (metas.path_or_keyword_view path.entry) (left c.entry)) result }
-    ensures place { IfOk result (λ r. IsPlaceAfter c.entry r.1) }
+    ensures place { IfOk result (λ r. SharesEnd c.entry r.1) }
 {
     if !sees_group(Delim::Paren, c) {
         return Ok((Meta::Path(path), c));
@@ -111,9 +111,9 @@ fn one_meta<'t, 'a>(
     c: Cursor<'t, 'a>,
 ) -> Result<(Meta<'a>, Cursor<'t, 'a>), Error>
     requires here { sound c }
-    requires fits { level < 400 }
+    requires fits { level < 130 }
     ensures reads { Reads metas.meta_view (spec.read_meta (place level c.entry) (left c.entry)) result }
-    ensures place { IfOk result (λ r. IsPlaceAfter c.entry r.1) }
+    ensures place { IfOk result (λ r. SharesEnd c.entry r.1) }
 {
     let (path, behind) = path_or_keyword(alloc, level, c)?;
     behind_path(alloc, path, level, behind)
@@ -127,7 +127,7 @@ fn nested_literal<'t, 'a>(
 ) -> Result<(NestedMeta<'a>, Cursor<'t, 'a>), Error>
     requires { sound c }
     ensures reads { Reads metas.nested_meta_view (spec.read_lit (place level c.entry) (left c.entry)) result }
-    ensures place { IfOk result (λ r. IsPlaceAfter c.entry r.1) }
+    ensures place { IfOk result (λ r. SharesEnd c.entry r.1) }
 {
     let (found, rest) = literal(level, c)?;
     let own = found.clone_in(alloc)?;
@@ -141,9 +141,9 @@ fn nested_meta<'t, 'a>(
     c: Cursor<'t, 'a>,
 ) -> Result<(NestedMeta<'a>, Cursor<'t, 'a>), Error>
     requires here { sound c }
-    requires fits { level < 400 }
+    requires fits { level < 130 }
     ensures reads { Reads metas.nested_meta_view (spec.read_nested_meta (place level c.entry) (left c.entry)) result }
-    ensures place { IfOk result (λ r. IsPlaceAfter c.entry r.1) }
+    ensures place { IfOk result (λ r. SharesEnd c.entry r.1) }
 {
     if sees_literal(c) {
         return nested_literal(alloc, level, c);
@@ -178,7 +178,7 @@ impl<'a> MetaList<'a> {
         requires { sound c }
         ensures found { IfOk result (λ r. IsFront (λ l. metas.meta_list l (place 0 c.entry)) (left c.entry) (metas.meta_list_view r.0) (left r.1)) }
         ensures refused { IfErr result (λ e. NoMeta (λ l. metas.meta_list l (place 0 c.entry)) metas.list_begins_path e (end_of c.entry) (left c.entry)) }
-        ensures place { IfOk result (λ r. IsPlaceAfter c.entry r.1) }
+        ensures place { IfOk result (λ r. SharesEnd c.entry r.1) }
     {
         match meta_list(alloc, 0, c) {
             Ok(read) => Ok(read),
@@ -217,7 +217,7 @@ impl<'a> Meta<'a> {
         requires { sound c }
         ensures found { IfOk result (λ r. IsFront (λ m. metas.meta_spelled m (place 0 c.entry)) (left c.entry) (metas.meta_view r.0) (left r.1)) }
         ensures refused { IfErr result (λ e. NoMeta (λ m. metas.meta_spelled m (place 0 c.entry)) metas.meta_begins_path e (end_of c.entry) (left c.entry)) }
-        ensures place { IfOk result (λ r. IsPlaceAfter c.entry r.1) }
+        ensures place { IfOk result (λ r. SharesEnd c.entry r.1) }
     {
         match one_meta(alloc, 0, c) {
             Ok(read) => Ok(read),
@@ -255,7 +255,7 @@ impl<'a> NestedMeta<'a> {
         requires { sound c }
         ensures found { IfOk result (λ r. IsFront (λ m. metas.nested_meta m (place 0 c.entry)) (left c.entry) (metas.nested_meta_view r.0) (left r.1)) }
         ensures refused { IfErr result (λ e. NoMeta (λ m. metas.nested_meta m (place 0 c.entry)) metas.nested_begins_path e (end_of c.entry) (left c.entry)) }
-        ensures place { IfOk result (λ r. IsPlaceAfter c.entry r.1) }
+        ensures place { IfOk result (λ r. SharesEnd c.entry r.1) }
     {
         match nested_meta(alloc, 0, c) {
             Ok(read) => Ok(read),

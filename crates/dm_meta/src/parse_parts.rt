@@ -1,28 +1,41 @@
-//! Reading types, paths and lists of predicates where they stand alone.
+//! Reading types, paths and lists of predicates where they stand alone: docs/FORMATS.md, "Types, paths and metas that stand alone".
 #![tactic(auto)]
 
-ghost use Rattle.std.specs.Prelude.{◌<◌, false, IfOk, IfErr};
+ghost use Rattle.std.specs.Prelude.{false, IfOk, IfErr};
 ghost use Rattle.dm_stream.specs.Trees.{no_trees};
-ghost use Rattle.dm_stream.specs.Cursors.{left, end_of, sound, IsPlaceAfter};
+ghost use Rattle.dm_stream.specs.Cursors.{left, end_of, sound, SharesEnd};
 ghost use Rattle.dm_ast.specs.Spelling.{at_end as ends};
 ghost use Rattle.dm_ast.specs.TypeGrammar as grammar;
 ghost use Rattle.dm_read_types.specs.BarePaths.{bare_path as bare_spelled};
 ghost use Rattle.dm_ast.specs.DeclarationGrammar as declarations;
 ghost use Rattle.dm_read.specs.DeclarationReaders as spec;
-ghost use Rattle.dm_read_types.specs.WholeReaders.{parts};
+ghost use Rattle.dm_read_types.specs.WholeReaders.{whole_type, parts};
 ghost use Rattle.dm_ast.specs.Declarations as tree;
 ghost use Rattle.dm_ast.specs.Tree.{ty_view, path_view};
 ghost use Rattle.dm_ast.specs.Readers.{place, Reads};
 ghost use Rattle.dm_meta.specs.Fronts.{IsFront, NoFront, ToEnd};
 
 use dm_ast::{Path, Ty, WherePredicate};
+use dm_input::Input;
 use dm_read::group::close;
-use dm_read::list::{Rule, Stop, listed};
-use dm_read_decl::generics::predicate;
+use dm_read::list::Stop;
+use dm_read_decl::forms::commas;
+use dm_read_decl::generics::PredicateRule;
 use dm_read_types::bare::bare_path;
 use dm_read_types::entry::ty;
 use dm_stream::{Cursor, Error, Punctuated};
 use std::alloc::Global;
+
+/// A type, and the place behind it.
+fn one_type<'t, 'a>(alloc: Global, c: Cursor<'t, 'a>) -> Result<(Ty<'a>, Cursor<'t, 'a>), Error>
+    requires { sound c }
+    ensures reads { Reads ty_view (whole_type (place 0 c.entry) (left c.entry)) result }
+    ensures place { IfOk result (λ r. SharesEnd c.entry r.1) }
+{
+    let mut input = Input::new(alloc, 0, c);
+    let found = ty(&mut input)?;
+    Ok((found, input.cursor()))
+}
 
 /// The longest type that the trees begin with (Rust Reference, Types), and the place behind it. What could go on has to: `a < 3`
 /// begins with no type.
@@ -36,9 +49,9 @@ pub fn parse_type<'t, 'a>(
     requires { sound c }
     ensures found { IfOk result (λ r. IsFront (λ t. grammar.type_spelled t false (place 0 c.entry)) (left c.entry) (ty_view r.0) (left r.1)) }
     ensures refused { IfErr result (λ e. NoFront (λ t. grammar.type_spelled t false (place 0 c.entry)) e (end_of c.entry) (left c.entry)) }
-    ensures place { IfOk result (λ r. IsPlaceAfter c.entry r.1) }
+    ensures place { IfOk result (λ r. SharesEnd c.entry r.1) }
 {
-    ty(alloc, 0, c)
+    one_type(alloc, c)
 }
 
 /// The longest path that the trees begin with and that has no list in parentheses of its own, and the place behind it. So a group in
@@ -52,40 +65,9 @@ pub fn parse_path<'t, 'a>(
     requires { sound c }
     ensures found { IfOk result (λ r. IsFront (λ p. bare_spelled p (place 0 c.entry)) (left c.entry) (path_view r.0) (left r.1)) }
     ensures refused { IfErr result (λ e. NoFront (λ p. bare_spelled p (place 0 c.entry)) e (end_of c.entry) (left c.entry)) }
-    ensures place { IfOk result (λ r. IsPlaceAfter c.entry r.1) }
+    ensures place { IfOk result (λ r. SharesEnd c.entry r.1) }
 {
     bare_path(alloc, 0, c)
-}
-
-/// Predicates at this level.
-#[derive(Clone, Copy)]
-struct PredicateRule {
-    alloc: Global,
-}
-
-impl<'a> Rule<'a> for PredicateRule {
-    ghost use Rattle.std.specs.Prelude.{◌<◌};
-    ghost use Rattle.dm_ast.specs.Declarations.{PredicateTree, predicate_view};
-    ghost use Rattle.dm_read.specs.DeclarationReaders as spec;
-    ghost use Rattle.dm_read_types.specs.WholeReaders.{parts};
-
-    type Part = WherePredicate<'a>;
-
-    ghost Tree = { PredicateTree };
-
-    ghost view = { predicate_view };
-
-    ghost usable = { λ _ level. level < 400 };
-
-    ghost reader = { λ _ w. spec.read_predicate parts w };
-
-    fn read<'t>(
-        &self,
-        level: usize,
-        c: Cursor<'t, 'a>,
-    ) -> Result<(WherePredicate<'a>, Cursor<'t, 'a>), Error> {
-        predicate(self.alloc, level, c)
-    }
 }
 
 /// Predicates with commas between, and perhaps one behind the last.
@@ -95,9 +77,11 @@ fn predicates<'t, 'a>(
 ) -> Result<(Punctuated<WherePredicate<'a>>, Cursor<'t, 'a>), Error>
     requires { sound c }
     ensures reads { Reads (tree.listed tree.predicate_view) (spec.read_listed ends (spec.read_predicate parts) (place 0 c.entry) (left c.entry)) result }
-    ensures place { IfOk result (λ r. IsPlaceAfter c.entry r.1) }
+    ensures place { IfOk result (λ r. SharesEnd c.entry r.1) }
 {
-    listed(alloc, &PredicateRule { alloc }, ',', Stop::End, 0, c)
+    let mut input = Input::new(alloc, 0, c);
+    let found = commas(&PredicateRule, Stop::End, &mut input)?;
+    Ok((found, input.cursor()))
 }
 
 /// The predicates that the trees are, all of them, with commas between and perhaps one behind the last (Rust Reference, Where clauses).

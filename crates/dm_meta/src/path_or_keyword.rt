@@ -3,7 +3,7 @@
 
 ghost use Rattle.std.specs.Prelude.{◌≡◌, ◌<◌, IfOk, IfErr, map};
 ghost use Rattle.std.specs.Option.{option_copied};
-ghost use Rattle.dm_stream.specs.Cursors.{left, end_of, sound, first_span, IsPlaceAfter};
+ghost use Rattle.dm_stream.specs.Cursors.{left, end_of, sound, first_span, SharesEnd};
 ghost use Rattle.dm_ast.specs.Tree.{path_view, segment_view, segments_of};
 ghost use Rattle.dm_ast.specs.Readers.{place, Reads};
 ghost use Rattle.dm_meta.specs.Fronts.{IsFront};
@@ -61,7 +61,7 @@ fn keyword<'t, 'a>(
 ) -> Result<(PathOrKeyword<'a>, Cursor<'t, 'a>), Error>
     requires { sound c }
     ensures reads { Reads metas.path_or_keyword_view (spec.read_keyword (place level c.entry) (left c.entry)) result }
-    ensures place { IfOk result (λ r. IsPlaceAfter c.entry r.1) }
+    ensures place { IfOk result (λ r. SharesEnd c.entry r.1) }
 {
     let (found, rest) = ident(level, c)?;
     let own = found.clone_in(alloc)?;
@@ -75,9 +75,9 @@ pub fn path_or_keyword<'t, 'a>(
     c: Cursor<'t, 'a>,
 ) -> Result<(PathOrKeyword<'a>, Cursor<'t, 'a>), Error>
     requires here { sound c }
-    requires fits { level < 400 }
+    requires fits { level < 130 }
     ensures reads { Reads metas.path_or_keyword_view (spec.read_path_or_keyword (place level c.entry) (left c.entry)) result }
-    ensures place { IfOk result (λ r. IsPlaceAfter c.entry r.1) }
+    ensures place { IfOk result (λ r. SharesEnd c.entry r.1) }
 {
     match bare_path(alloc, level, c) {
         Ok((found, rest)) => Ok((PathOrKeyword::Path(found), rest)),
@@ -138,7 +138,7 @@ impl<'a> PathOrKeyword<'a> {
         requires { sound c }
         ensures found { IfOk result (λ r. IsFront (λ p. metas.path_or_keyword p (place 0 c.entry)) (left c.entry) (metas.path_or_keyword_view r.0) (left r.1)) }
         ensures refused { IfErr result (λ e. NoMeta (λ p. metas.path_or_keyword p (place 0 c.entry)) metas.begins_path e (end_of c.entry) (left c.entry)) }
-        ensures place { IfOk result (λ r. IsPlaceAfter c.entry r.1) }
+        ensures place { IfOk result (λ r. SharesEnd c.entry r.1) }
     {
         match path_or_keyword(alloc, 0, c) {
             Ok(read) => Ok(read),

@@ -6,7 +6,7 @@ use Rattle.dm_stream.specs.declared.error.Error.TheVariants as error
 use Rattle.dm_stream.specs.declared.error.Refusal.{Refusal}
 use Rattle.dm_stream.specs.declared.cursor.Cursor.{Cursor}
 use Rattle.dm_stream.specs.Trees.{Trees}
-use Rattle.dm_stream.specs.Cursors.{left, IsPlaceAfter}
+use Rattle.dm_stream.specs.Cursors.{left, SharesEnd}
 use Rattle.dm_ast.specs.Spelling.{Where}
 use Rattle.dm_ast.specs.Readers.{Outcome, Parser, and_then, mapped, place, Reads}
 use Rattle.dm_read.proofs.Deciding.{pair}
@@ -24,7 +24,7 @@ still_err make seen passes o (error.Refused r) h = ap make h ∙ passes r
 
 -- the second part depends on the first one, and ends the function
 module _ {A B X : Type 0} (view : X → B) (p : Where → Parser A) (q : Where → A → Parser B) (n : ℕ) (c d : Cursor) (a : A) where
-  pub last_part : IsPlaceAfter c d → p (place n c) (left c) ≡ Ok (pair a (left d)) → (res : Result (X × Cursor) Error) →
+  pub last_part : SharesEnd c d → p (place n c) (left c) ≡ Ok (pair a (left d)) → (res : Result (X × Cursor) Error) →
       Reads view (q (place n d) a (left d)) res → Reads view (and_then (p (place n c) (left c)) (q (place n c))) res
   last_part after first res h =
       subst (λ o. Reads view (and_then o (q (place n c))) res) (sym first)
@@ -35,17 +35,17 @@ module _ {A B C : Type 0} (build : Outcome B → Outcome C) (p : Where → Parse
   abbrev pub next_by : Outcome C
   next_by = build (and_then (p (place n c) (left c)) (q (place n c)))
 
-  behind_first : IsPlaceAfter c d → p (place n c) (left c) ≡ Ok (pair a (left d)) → next_by ≡ build (q (place n d) a (left d))
+  behind_first : SharesEnd c d → p (place n c) (left c) ≡ Ok (pair a (left d)) → next_by ≡ build (q (place n d) a (left d))
   behind_first after first =
       ap (λ o. build (and_then o (q (place n c)))) first ∙ ap (λ w. build (q w a (left d))) (sym (place_same n c d after.same_limit))
 
   -- the second part is read
-  pub next_read : IsPlaceAfter c d → p (place n c) (left c) ≡ Ok (pair a (left d)) → (b : B) (rest : Trees) → q (place n d) a (left d) ≡ Ok (pair b rest) →
+  pub next_read : SharesEnd c d → p (place n c) (left c) ≡ Ok (pair a (left d)) → (b : B) (rest : Trees) → q (place n d) a (left d) ≡ Ok (pair b rest) →
       next_by ≡ build (Ok (pair b rest))
   next_read after first b rest h = behind_first after first ∙ ap build h
 
   -- it is refused, or memory fails there
-  pub next_err : {X Y : Type 0} (view : X → C) (seen : Y → B) → ((r : Refusal) → build (Err r) ≡ Err r) → IsPlaceAfter c d →
+  pub next_err : {X Y : Type 0} (view : X → C) (seen : Y → B) → ((r : Refusal) → build (Err r) ≡ Err r) → SharesEnd c d →
       p (place n c) (left c) ≡ Ok (pair a (left d)) → (e : Error) → Reads {A = B} {X = Y} seen (q (place n d) a (left d)) (Err e) →
       (res : Result (X × Cursor) Error) → IsErrAnd res (λ x. x ≡ e) → Reads view next_by res
   next_err view seen passes after first e h =
@@ -60,12 +60,12 @@ module _ {A B C : Type 0} (build : Outcome (A × B) → Outcome C) (p : Where �
   both_by = build (and_then (p (place n c) (left c)) (λ x rest. mapped (pair x) (q (place n c) rest)))
 
   -- both are read
-  pub both_read : IsPlaceAfter c d → p (place n c) (left c) ≡ Ok (pair a (left d)) → (b : B) (rest : Trees) → q (place n d) (left d) ≡ Ok (pair b rest) →
+  pub both_read : SharesEnd c d → p (place n c) (left c) ≡ Ok (pair a (left d)) → (b : B) (rest : Trees) → q (place n d) (left d) ≡ Ok (pair b rest) →
       both_by ≡ build (Ok (pair (pair a b) rest))
   both_read after first b rest h = next_read build p behind n c d a after first (pair a b) rest (ap (mapped (pair a)) h)
 
   -- the second part is refused, or memory fails there
-  pub second_err : {X Y : Type 0} (view : X → C) (seen : Y → B) → ((r : Refusal) → build (Err r) ≡ Err r) → IsPlaceAfter c d →
+  pub second_err : {X Y : Type 0} (view : X → C) (seen : Y → B) → ((r : Refusal) → build (Err r) ≡ Err r) → SharesEnd c d →
       p (place n c) (left c) ≡ Ok (pair a (left d)) → (e : Error) → Reads {A = B} {X = Y} seen (q (place n d) (left d)) (Err e) →
       (res : Result (X × Cursor) Error) → IsErrAnd res (λ x. x ≡ e) → Reads view both_by res
   second_err view seen passes after first e h =

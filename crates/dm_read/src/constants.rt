@@ -2,7 +2,7 @@
 #![tactic(auto)]
 
 ghost use Rattle.std.specs.Prelude.{◌≡◌, ◌<◌, IfOk};
-ghost use Rattle.dm_stream.specs.Cursors.{left, sound, IsPlaceAfter};
+ghost use Rattle.dm_stream.specs.Cursors.{left, sound, SharesEnd};
 ghost use Rattle.dm_ast.specs.PlainReaders as plain;
 ghost use Rattle.dm_ast.specs.Readers.{place, Reads};
 
@@ -17,7 +17,7 @@ use std::alloc::Global;
 fn minus<'t, 'a>(level: usize, c: Cursor<'t, 'a>) -> Result<(bool, Cursor<'t, 'a>), Error>
     requires { sound c }
     ensures reads { Reads (λ b. b) (plain.read_minus (place level c.entry) (left c.entry)) result }
-    ensures place { IfOk result (λ r. IsPlaceAfter c.entry r.1) }
+    ensures place { IfOk result (λ r. SharesEnd c.entry r.1) }
 {
     if !sees('-', c) {
         return Ok((false, c));
@@ -34,7 +34,7 @@ fn signed<'t, 'a>(
 ) -> Result<((bool, Literal<'a>), Cursor<'t, 'a>), Error>
     requires { sound c }
     ensures reads { Reads (λ v. v) (plain.read_signed (place level c.entry) (left c.entry)) result }
-    ensures place { IfOk result (λ r. IsPlaceAfter c.entry r.1) }
+    ensures place { IfOk result (λ r. SharesEnd c.entry r.1) }
 {
     let (negative, behind) = minus(level, c)?;
     let (found, rest) = literal(level, behind)?;
@@ -63,7 +63,7 @@ pub fn constant<'t, 'a>(
     requires here { sound c }
     requires fits { level < 1000 }
     ensures reads { Reads (λ v. v) (plain.read_constant (place level c.entry) (left c.entry)) result }
-    ensures place { IfOk result (λ r. IsPlaceAfter c.entry r.1) }
+    ensures place { IfOk result (λ r. SharesEnd c.entry r.1) }
 {
     if sees('-', c) || sees_literal(c) {
         let ((negative, found), rest) = signed(alloc, level, c)?;

@@ -2,7 +2,7 @@
 #![tactic(auto)]
 
 ghost use Rattle.std.specs.Prelude.{◌≡◌, true, false, IfOk, MatchResult};
-ghost use Rattle.dm_stream.specs.Cursors.{left, end_of, sound, front_span, IsPlaceAfter};
+ghost use Rattle.dm_stream.specs.Cursors.{left, end_of, sound, front_span, SharesEnd};
 ghost use Rattle.dm_stream.specs.declared.error.Error.TheVariants.{Refused};
 ghost use Rattle.dm_stream.specs.declared.error.Kind.TheVariants.{Syntax};
 ghost use Rattle.dm_ast.specs.Spelling as spelling;
@@ -23,7 +23,7 @@ pub fn open<'t, 'a>(
     requires { sound c }
     ensures opens { Opens (spec.open_group delim (place level c.entry) (left c.entry)) result }
     ensures inside { IfOk result (λ r. sound r.0) }
-    ensures place { IfOk result (λ r. IsPlaceAfter c.entry r.1) }
+    ensures place { IfOk result (λ r. SharesEnd c.entry r.1) }
 {
     let Some((inside, rest)) = c.group(delim) else {
         return Err(refused(c));

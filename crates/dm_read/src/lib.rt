@@ -1,4 +1,5 @@
-//! Reading tokens: single tokens, groups, lists and the parts without types.
+//! Reading tokens: single tokens, groups, lists and the parts without types. The rule is docs/FORMATS.md, "Read"; its source is the Rust
+//! Reference, "Items", "Attributes", "Names and paths".
 #![tactic(auto)]
 
 pub mod constants;

@@ -2,7 +2,7 @@
 #![tactic(auto)]
 
 ghost use Rattle.std.specs.Prelude.{◌<◌, IfOk};
-ghost use Rattle.dm_stream.specs.Cursors.{left, sound, IsPlaceAfter};
+ghost use Rattle.dm_stream.specs.Cursors.{left, sound, SharesEnd};
 ghost use Rattle.dm_ast.specs.Readers as spec;
 ghost use Rattle.dm_ast.specs.PlainReaders as plain;
 ghost use Rattle.dm_read.specs.DeclarationReaders.{read_lifetime_bounds};
@@ -52,7 +52,7 @@ fn lifetimes<'t, 'a>(
 ) -> Result<(Punctuated<Lifetime<'a>>, Cursor<'t, 'a>), Error>
     requires { sound c }
     ensures reads { Reads (λ l. l) (plain.read_lifetimes (place level c.entry) (left c.entry)) result }
-    ensures place { IfOk result (λ r. IsPlaceAfter c.entry r.1) }
+    ensures place { IfOk result (λ r. SharesEnd c.entry r.1) }
 {
     listed(alloc, &LifetimeRule { alloc }, ',', Stop::Angle, level, c)
 }
@@ -66,7 +66,7 @@ fn some_for<'t, 'a>(
     requires here { sound c }
     requires fits { level < 1000 }
     ensures reads { Reads (λ l. l) (plain.read_some_for (place level c.entry) (left c.entry)) result }
-    ensures place { IfOk result (λ r. IsPlaceAfter c.entry r.1) }
+    ensures place { IfOk result (λ r. SharesEnd c.entry r.1) }
 {
     let behind = word("for", level, c)?;
     let begun = punct('<', level, behind)?;
@@ -84,7 +84,7 @@ pub fn for_lifetimes<'t, 'a>(
     requires here { sound c }
     requires fits { level < 1000 }
     ensures reads { Reads (λ l. l) (plain.read_for (place level c.entry) (left c.entry)) result }
-    ensures place { IfOk result (λ r. IsPlaceAfter c.entry r.1) }
+    ensures place { IfOk result (λ r. SharesEnd c.entry r.1) }
 {
     if !sees_word("for", c) {
         return Ok((None, c));
@@ -102,7 +102,7 @@ pub fn lifetime_bounds<'t, 'a>(
 ) -> Result<(Punctuated<Lifetime<'a>>, Cursor<'t, 'a>), Error>
     requires { sound c }
     ensures reads { Reads (λ ls. ls) (read_lifetime_bounds (place level c.entry) (left c.entry)) result }
-    ensures place { IfOk result (λ r. IsPlaceAfter c.entry r.1) }
+    ensures place { IfOk result (λ r. SharesEnd c.entry r.1) }
 {
     listed(
         alloc,

@@ -2,7 +2,7 @@
 
 ghost use Rattle.std.specs.Prelude.{◌≡◌, ℕ, Result, IfOk, map};
 ghost use Rattle.dm_stream.specs.Trees.{Trees};
-ghost use Rattle.dm_stream.specs.Cursors.{left, sound, IsPlaceAfter};
+ghost use Rattle.dm_stream.specs.Cursors.{left, sound, SharesEnd};
 ghost use Rattle.dm_stream.specs.declared.error.Refusal.{Refusal};
 ghost use Rattle.dm_ast.specs.Spelling.{Where};
 ghost use Rattle.dm_ast.specs.Readers as spec;
@@ -38,7 +38,7 @@ pub trait Rule<'a> {
         requires here { sound c }
         requires can { usable self.now level }
         ensures reads { Reads view (reader self.now (place level c.entry) (left c.entry)) result }
-        ensures place { IfOk result (λ r. IsPlaceAfter c.entry r.1) };
+        ensures place { IfOk result (λ r. SharesEnd c.entry r.1) };
 }
 
 /// Where a list ends.
@@ -81,7 +81,7 @@ pub fn listed<'t, 'a, R: Rule<'a>>(
     requires here { sound c }
     requires can { R.usable rule.now level }
     ensures reads { Reads (list_view R.view) (spec.read_list (place level c.entry) separator (stops stop) (R.reader rule.now (place level c.entry)) (left c.entry)) result }
-    ensures place { IfOk result (λ r. IsPlaceAfter c.entry r.1) }
+    ensures place { IfOk result (λ r. SharesEnd c.entry r.1) }
 {
     let mut items = Seq::new(alloc);
     let mut rest = c;
@@ -129,7 +129,7 @@ fn begins(link: Link, c: Cursor<'_, '_>) -> bool
 fn past<'t, 'a>(link: Link, level: usize, c: Cursor<'t, 'a>) -> Result<Cursor<'t, 'a>, Error>
     requires { sound c }
     ensures reads { Passes (reads_link link (place level c.entry) (left c.entry)) result }
-    ensures place { IfOk result (λ r. IsPlaceAfter c.entry r) }
+    ensures place { IfOk result (λ r. SharesEnd c.entry r) }
 {
     match link {
         Link::Colons => colons(level, c),
@@ -147,7 +147,7 @@ fn linked<'t, 'a, R: Rule<'a>>(
     requires here { sound c }
     requires can { R.usable rule.now level }
     ensures reads { Reads R.view ((reads_link link (place level c.entry) next R.reader rule.now (place level c.entry)) (left c.entry)) result }
-    ensures place { IfOk result (λ r. IsPlaceAfter c.entry r.1) }
+    ensures place { IfOk result (λ r. SharesEnd c.entry r.1) }
 {
     let rest = past(link, level, c)?;
     rule.read(level, rest)
@@ -164,7 +164,7 @@ fn continued<'t, 'a, R: Rule<'a>>(
     requires here { sound c }
     requires can { R.usable rule.now level }
     ensures reads { Reads (map R.view) (spec.read_repeated (place level c.entry) (begins_link link) (reads_link link (place level c.entry) next R.reader rule.now (place level c.entry)) (map R.view begun) (left c.entry)) result }
-    ensures place { IfOk result (λ r. IsPlaceAfter c.entry r.1) }
+    ensures place { IfOk result (λ r. SharesEnd c.entry r.1) }
 {
     let mut items = begun;
     let mut rest = c;
@@ -190,7 +190,7 @@ pub fn chained<'t, 'a, R: Rule<'a>>(
     requires here { sound c }
     requires can { R.usable rule.now level }
     ensures reads { Reads (map R.view) (spec.read_chain (place level c.entry) (reads_link link (place level c.entry)) (begins_link link) (R.reader rule.now (place level c.entry)) (left c.entry)) result }
-    ensures place { IfOk result (λ r. IsPlaceAfter c.entry r.1) }
+    ensures place { IfOk result (λ r. SharesEnd c.entry r.1) }
 {
     let (first, rest) = rule.read(level, c)?;
     let mut begun = Seq::new(alloc);

@@ -2,7 +2,7 @@
 #![tactic(auto)]
 
 ghost use Rattle.std.specs.Prelude.{◌≡◌, Some};
-ghost use Rattle.dm_stream.specs.Cursors.{left, sound, IsPlaceAfter};
+ghost use Rattle.dm_stream.specs.Cursors.{left, sound, SharesEnd};
 ghost use Rattle.dm_read.specs.Links as links;
 ghost use Rattle.dm_ast.specs.TypeGrammar as grammar;
 
@@ -34,7 +34,7 @@ fn sees_link(c: Cursor<'_, '_>) -> bool
 pub fn behind_idents<'t, 'a>(c: Cursor<'t, 'a>) -> Cursor<'t, 'a>
     requires { sound c }
     ensures left { left result ≡ grammar.behind_idents (left c.entry) }
-    ensures place { IsPlaceAfter c.entry result }
+    ensures place { SharesEnd c.entry result }
 {
     let mut rest = c;
     for _turn in 0..c.len() {
@@ -51,7 +51,7 @@ pub fn behind_idents<'t, 'a>(c: Cursor<'t, 'a>) -> Cursor<'t, 'a>
 pub fn behind_colons<'t, 'a>(c: Cursor<'t, 'a>) -> Cursor<'t, 'a>
     requires { sound c }
     ensures left { left result ≡ grammar.behind_colons (left c.entry) }
-    ensures place { IsPlaceAfter c.entry result }
+    ensures place { SharesEnd c.entry result }
 {
     if sees_colons(c) { behind_two(c) } else { c }
 }

@@ -2,7 +2,7 @@
 #![tactic(auto)]
 
 ghost use Rattle.std.specs.Prelude.{◌<◌, IfOk};
-ghost use Rattle.dm_stream.specs.Cursors.{left, sound, IsPlaceAfter};
+ghost use Rattle.dm_stream.specs.Cursors.{left, sound, SharesEnd};
 ghost use Rattle.dm_ast.specs.Readers as spec;
 ghost use Rattle.dm_ast.specs.PlainReaders as plain;
 ghost use Rattle.dm_ast.specs.Readers.{place, Reads};
@@ -50,7 +50,7 @@ impl<'a> Rule<'a> for IdentRule {
 pub fn leading<'t, 'a>(level: usize, c: Cursor<'t, 'a>) -> Result<(bool, Cursor<'t, 'a>), Error>
     requires { sound c }
     ensures reads { Reads (λ b. b) (plain.read_leading (place level c.entry) (left c.entry)) result }
-    ensures place { IfOk result (λ r. IsPlaceAfter c.entry r.1) }
+    ensures place { IfOk result (λ r. SharesEnd c.entry r.1) }
 {
     if !sees_colons(c) {
         return Ok((false, c));
@@ -68,7 +68,7 @@ fn idents<'t, 'a>(
 ) -> Result<(Seq<Ident<'a>>, Cursor<'t, 'a>), Error>
     requires { sound c }
     ensures reads { Reads (λ l. l) (plain.read_idents (place level c.entry) (left c.entry)) result }
-    ensures place { IfOk result (λ r. IsPlaceAfter c.entry r.1) }
+    ensures place { IfOk result (λ r. SharesEnd c.entry r.1) }
 {
     chained(alloc, &IdentRule { alloc }, Link::Colons, level, c)
 }
@@ -81,7 +81,7 @@ pub fn plain_path<'t, 'a>(
 ) -> Result<(PlainPath<'a>, Cursor<'t, 'a>), Error>
     requires { sound c }
     ensures reads { Reads (λ p. p) (plain.read_plain (place level c.entry) (left c.entry)) result }
-    ensures place { IfOk result (λ r. IsPlaceAfter c.entry r.1) }
+    ensures place { IfOk result (λ r. SharesEnd c.entry r.1) }
 {
     let (leading_colon, rest) = leading(level, c)?;
     let (segments, rest) = idents(alloc, level, rest)?;
@@ -104,7 +104,7 @@ pub fn kept_in<'t, 'a>(
     requires here { sound c }
     requires fits { level < 1000 }
     ensures reads { Reads (λ s. s) (spec.read_group delim spec.read_rest (place level c.entry) (left c.entry)) result }
-    ensures place { IfOk result (λ r. IsPlaceAfter c.entry r.1) }
+    ensures place { IfOk result (λ r. SharesEnd c.entry r.1) }
 {
     let (inside, rest) = open(delim, level, c)?;
     let (kept, left) = rest_of(alloc, level + 1, inside)?;
@@ -121,7 +121,7 @@ pub fn kept<'t, 'a>(
     requires here { sound c }
     requires fits { level < 1000 }
     ensures reads { Reads (λ v. v) (plain.read_kept (place level c.entry) (left c.entry)) result }
-    ensures place { IfOk result (λ r. IsPlaceAfter c.entry r.1) }
+    ensures place { IfOk result (λ r. SharesEnd c.entry r.1) }
 {
     let Some(found) = delim(c) else {
         return Err(refused(c));
@@ -138,7 +138,7 @@ pub fn opaque<'t, 'a>(
 ) -> Result<(Opaque<'a>, Cursor<'t, 'a>), Error>
     requires { sound c }
     ensures reads { Reads (λ o. o) (plain.read_opaque (place level c.entry) (left c.entry)) result }
-    ensures place { IfOk result (λ r. IsPlaceAfter c.entry r.1) }
+    ensures place { IfOk result (λ r. SharesEnd c.entry r.1) }
 {
     if at_end(c) {
         return Err(refused(c));
@@ -155,7 +155,7 @@ fn value<'t, 'a>(
 ) -> Result<(Opaque<'a>, Cursor<'t, 'a>), Error>
     requires { sound c }
     ensures reads { Reads (λ o. o) (plain.read_value (place level c.entry) (left c.entry)) result }
-    ensures place { IfOk result (λ r. IsPlaceAfter c.entry r.1) }
+    ensures place { IfOk result (λ r. SharesEnd c.entry r.1) }
 {
     let rest = equals(level, c)?;
     opaque(alloc, level, rest)
@@ -170,7 +170,7 @@ fn arguments<'t, 'a>(
     requires here { sound c }
     requires fits { level < 1000 }
     ensures reads { Reads (λ a. a) (plain.read_args (place level c.entry) (left c.entry)) result }
-    ensures place { IfOk result (λ r. IsPlaceAfter c.entry r.1) }
+    ensures place { IfOk result (λ r. SharesEnd c.entry r.1) }
 {
     if at_end(c) {
         return Ok((AttrArgs::Absent, c));
@@ -192,7 +192,7 @@ fn inside<'t, 'a>(
     requires here { sound c }
     requires fits { level < 1000 }
     ensures reads { Reads (λ v. v) (plain.read_inside (place level c.entry) (left c.entry)) result }
-    ensures place { IfOk result (λ r. IsPlaceAfter c.entry r.1) }
+    ensures place { IfOk result (λ r. SharesEnd c.entry r.1) }
 {
     let (path, rest) = plain_path(alloc, level, c)?;
     let (args, rest) = arguments(alloc, level, rest)?;
@@ -208,7 +208,7 @@ fn bracketed<'t, 'a>(
     requires here { sound c }
     requires fits { level < 999 }
     ensures reads { Reads (λ v. v) (plain.read_bracketed (place level c.entry) (left c.entry)) result }
-    ensures place { IfOk result (λ r. IsPlaceAfter c.entry r.1) }
+    ensures place { IfOk result (λ r. SharesEnd c.entry r.1) }
 {
     let behind = punct('#', level, c)?;
     let (within, rest) = open(Delim::Bracket, level, behind)?;
@@ -226,7 +226,7 @@ pub fn attribute<'t, 'a>(
     requires here { sound c }
     requires fits { level < 999 }
     ensures reads { Reads (λ a. a) (plain.read_attribute (place level c.entry) (left c.entry)) result }
-    ensures place { IfOk result (λ r. IsPlaceAfter c.entry r.1) }
+    ensures place { IfOk result (λ r. SharesEnd c.entry r.1) }
 {
     let ((path, args), rest) = bracketed(alloc, level, c)?;
     let span = range_between(c, rest);
@@ -242,7 +242,7 @@ pub fn attributes<'t, 'a>(
     requires here { sound c }
     requires fits { level < 999 }
     ensures reads { Reads (λ l. l) (plain.read_attributes (place level c.entry) (left c.entry)) result }
-    ensures place { IfOk result (λ r. IsPlaceAfter c.entry r.1) }
+    ensures place { IfOk result (λ r. SharesEnd c.entry r.1) }
 {
     let mut items = Seq::new(alloc);
     let mut rest = c;

@@ -2,7 +2,7 @@
 #![tactic(auto)]
 
 ghost use Rattle.std.specs.Prelude.{◌≡◌, ◌≤◌, IfOk};
-ghost use Rattle.dm_stream.specs.Cursors.{left, sound, IsPlaceAfter};
+ghost use Rattle.dm_stream.specs.Cursors.{left, sound, SharesEnd};
 ghost use Rattle.dm_ast.specs.Readers as spec;
 ghost use Rattle.dm_ast.specs.Readers.{place, Reads};
 ghost use Rattle.dm_read.specs.Deep as deep;
@@ -72,7 +72,7 @@ pub fn rest_of<'t, 'a>(
 ) -> Result<(TokenStream<'a>, Cursor<'t, 'a>), Error>
     requires { sound c }
     ensures reads { Reads (λ s. s) (spec.read_rest (place level c.entry) (left c.entry)) result }
-    ensures place { IfOk result (λ r. IsPlaceAfter c.entry r.1) }
+    ensures place { IfOk result (λ r. SharesEnd c.entry r.1) }
 {
     if let Some(span) = first_deep(c.entries(), level) {
         return Err(too_deep(span));

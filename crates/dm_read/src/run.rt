@@ -2,7 +2,7 @@
 #![tactic(auto)]
 
 ghost use Rattle.std.specs.Prelude.{IfOk};
-ghost use Rattle.dm_stream.specs.Cursors.{left, sound, IsPlaceAfter};
+ghost use Rattle.dm_stream.specs.Cursors.{left, sound, SharesEnd};
 ghost use Rattle.dm_ast.specs.Runs as runs;
 ghost use Rattle.dm_ast.specs.Readers.{place, Reads};
 
@@ -21,7 +21,7 @@ pub fn run<'t, 'a>(
 ) -> Result<(Opaque<'a>, Cursor<'t, 'a>), Error>
     requires { sound c }
     ensures reads { Reads (λ o. o) (runs.read_run (place level c.entry) (left c.entry)) result }
-    ensures place { IfOk result (λ r. IsPlaceAfter c.entry r.1) }
+    ensures place { IfOk result (λ r. SharesEnd c.entry r.1) }
 {
     let Some((piece, rest)) = discriminant_end(c) else {
         return Err(refused(c));

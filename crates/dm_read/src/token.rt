@@ -4,7 +4,7 @@
 ghost use Rattle.std.specs.Prelude.{◌≡◌, IfOk};
 ghost use Rattle.dm_stream.specs.declared.error.Error.TheVariants.{Refused};
 ghost use Rattle.dm_stream.specs.declared.error.Kind.TheVariants.{Syntax, TooDeep};
-ghost use Rattle.dm_stream.specs.Cursors.{left, end_of, sound, front_span, IsPlaceAfter};
+ghost use Rattle.dm_stream.specs.Cursors.{left, end_of, sound, front_span, SharesEnd};
 ghost use Rattle.dm_ast.specs.Spelling as spelling;
 ghost use Rattle.dm_ast.specs.Readers as spec;
 ghost use Rattle.dm_ast.specs.Readers.{place, Reads, Passes};
@@ -164,7 +164,7 @@ pub fn at_end(c: Cursor<'_, '_>) -> bool
 pub fn behind<'t, 'a>(c: Cursor<'t, 'a>) -> Cursor<'t, 'a>
     requires { sound c }
     ensures left { left result ≡ spec.tail (left c.entry) }
-    ensures place { IsPlaceAfter c.entry result }
+    ensures place { SharesEnd c.entry result }
 {
     match c.token_tree() {
         Some((_, rest)) => rest,
@@ -176,7 +176,7 @@ pub fn behind<'t, 'a>(c: Cursor<'t, 'a>) -> Cursor<'t, 'a>
 pub fn behind_two<'t, 'a>(c: Cursor<'t, 'a>) -> Cursor<'t, 'a>
     requires { sound c }
     ensures left { left result ≡ spec.tail (spec.tail (left c.entry)) }
-    ensures place { IsPlaceAfter c.entry result }
+    ensures place { SharesEnd c.entry result }
 {
     behind(behind(c))
 }
@@ -189,9 +189,9 @@ fn pass<'t, 'a>(
     rest: Cursor<'t, 'a>,
 ) -> Result<Cursor<'t, 'a>, Error>
     requires here { sound c }
-    requires there { IsPlaceAfter c rest }
+    requires there { SharesEnd c rest }
     ensures reads { Passes (spec.if_seen seen (place level c.entry) (left c.entry) (left rest.entry)) result }
-    ensures place { IfOk result (λ r. IsPlaceAfter c.entry r) }
+    ensures place { IfOk result (λ r. SharesEnd c.entry r) }
 {
     if !seen {
         return Err(refused(c));
@@ -206,7 +206,7 @@ fn pass<'t, 'a>(
 pub fn punct<'t, 'a>(ch: char, level: usize, c: Cursor<'t, 'a>) -> Result<Cursor<'t, 'a>, Error>
     requires { sound c }
     ensures reads { Passes (spec.read_punct ch (place level c.entry) (left c.entry)) result }
-    ensures place { IfOk result (λ r. IsPlaceAfter c.entry r) }
+    ensures place { IfOk result (λ r. SharesEnd c.entry r) }
 {
     pass(sees(ch, c), level, c, behind(c))
 }
@@ -215,7 +215,7 @@ pub fn punct<'t, 'a>(ch: char, level: usize, c: Cursor<'t, 'a>) -> Result<Cursor
 pub fn word<'t, 'a>(word: &str, level: usize, c: Cursor<'t, 'a>) -> Result<Cursor<'t, 'a>, Error>
     requires { sound c }
     ensures reads { Passes (spec.read_word word.now (place level c.entry) (left c.entry)) result }
-    ensures place { IfOk result (λ r. IsPlaceAfter c.entry r) }
+    ensures place { IfOk result (λ r. SharesEnd c.entry r) }
 {
     pass(sees_word(word, c), level, c, behind(c))
 }
@@ -224,7 +224,7 @@ pub fn word<'t, 'a>(word: &str, level: usize, c: Cursor<'t, 'a>) -> Result<Curso
 pub fn colons<'t, 'a>(level: usize, c: Cursor<'t, 'a>) -> Result<Cursor<'t, 'a>, Error>
     requires { sound c }
     ensures reads { Passes (spec.read_colons (place level c.entry) (left c.entry)) result }
-    ensures place { IfOk result (λ r. IsPlaceAfter c.entry r) }
+    ensures place { IfOk result (λ r. SharesEnd c.entry r) }
 {
     pass(sees_colons(c), level, c, behind_two(c))
 }
@@ -233,7 +233,7 @@ pub fn colons<'t, 'a>(level: usize, c: Cursor<'t, 'a>) -> Result<Cursor<'t, 'a>,
 pub fn arrow<'t, 'a>(level: usize, c: Cursor<'t, 'a>) -> Result<Cursor<'t, 'a>, Error>
     requires { sound c }
     ensures reads { Passes (spec.read_arrow (place level c.entry) (left c.entry)) result }
-    ensures place { IfOk result (λ r. IsPlaceAfter c.entry r) }
+    ensures place { IfOk result (λ r. SharesEnd c.entry r) }
 {
     pass(sees_arrow(c), level, c, behind_two(c))
 }
@@ -242,7 +242,7 @@ pub fn arrow<'t, 'a>(level: usize, c: Cursor<'t, 'a>) -> Result<Cursor<'t, 'a>, 
 pub fn colon<'t, 'a>(level: usize, c: Cursor<'t, 'a>) -> Result<Cursor<'t, 'a>, Error>
     requires { sound c }
     ensures reads { Passes (spec.read_colon (place level c.entry) (left c.entry)) result }
-    ensures place { IfOk result (λ r. IsPlaceAfter c.entry r) }
+    ensures place { IfOk result (λ r. SharesEnd c.entry r) }
 {
     pass(sees_colon(c), level, c, behind(c))
 }
@@ -251,7 +251,7 @@ pub fn colon<'t, 'a>(level: usize, c: Cursor<'t, 'a>) -> Result<Cursor<'t, 'a>, 
 pub fn equals<'t, 'a>(level: usize, c: Cursor<'t, 'a>) -> Result<Cursor<'t, 'a>, Error>
     requires { sound c }
     ensures reads { Passes (spec.read_equals (place level c.entry) (left c.entry)) result }
-    ensures place { IfOk result (λ r. IsPlaceAfter c.entry r) }
+    ensures place { IfOk result (λ r. SharesEnd c.entry r) }
 {
     pass(sees_equals(c), level, c, behind(c))
 }
@@ -263,7 +263,7 @@ pub fn ident<'t, 'a>(
 ) -> Result<(&'t Ident<'a>, Cursor<'t, 'a>), Error>
     requires { sound c }
     ensures reads { Reads (λ i. i.now) (spec.read_any (place level c.entry) (left c.entry)) result }
-    ensures place { IfOk result (λ r. IsPlaceAfter c.entry r.1) }
+    ensures place { IfOk result (λ r. SharesEnd c.entry r.1) }
 {
     let Some((ident, rest)) = c.ident() else {
         return Err(refused(c));
@@ -280,7 +280,7 @@ pub fn lifetime<'t, 'a>(
 ) -> Result<(&'t Lifetime<'a>, Cursor<'t, 'a>), Error>
     requires { sound c }
     ensures reads { Reads (λ l. l.now) (spec.read_lifetime (place level c.entry) (left c.entry)) result }
-    ensures place { IfOk result (λ r. IsPlaceAfter c.entry r.1) }
+    ensures place { IfOk result (λ r. SharesEnd c.entry r.1) }
 {
     let Some((lifetime, rest)) = c.lifetime() else {
         return Err(refused(c));
@@ -297,7 +297,7 @@ pub fn literal<'t, 'a>(
 ) -> Result<(&'t Literal<'a>, Cursor<'t, 'a>), Error>
     requires { sound c }
     ensures reads { Reads (λ l. l.now) (spec.read_literal (place level c.entry) (left c.entry)) result }
-    ensures place { IfOk result (λ r. IsPlaceAfter c.entry r.1) }
+    ensures place { IfOk result (λ r. SharesEnd c.entry r.1) }
 {
     let Some((literal, rest)) = c.literal() else {
         return Err(refused(c));

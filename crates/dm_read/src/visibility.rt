@@ -2,7 +2,7 @@
 #![tactic(auto)]
 
 ghost use Rattle.std.specs.Prelude.{◌≡◌, ◌<◌, IfOk, codes};
-ghost use Rattle.dm_stream.specs.Cursors.{left, sound, IsPlaceAfter};
+ghost use Rattle.dm_stream.specs.Cursors.{left, sound, SharesEnd};
 ghost use Rattle.dm_ast.specs.TypeGrammar as grammar;
 ghost use Rattle.dm_ast.specs.DeclarationGrammar as declarations;
 ghost use Rattle.dm_ast.specs.Readers as spec;
@@ -67,7 +67,7 @@ fn in_path<'t, 'a>(
 ) -> Result<(PlainPath<'a>, Cursor<'t, 'a>), Error>
     requires { sound c }
     ensures reads { Reads (λ p. p) ((spec.read_word (codes "in") (place level c.entry) next plain.read_plain (place level c.entry)) (left c.entry)) result }
-    ensures place { IfOk result (λ r. IsPlaceAfter c.entry r.1) }
+    ensures place { IfOk result (λ r. SharesEnd c.entry r.1) }
 {
     let behind = word("in", level, c)?;
     plain_path(alloc, level, behind)
@@ -81,7 +81,7 @@ fn within<'t, 'a>(
 ) -> Result<(Vis<'a>, Cursor<'t, 'a>), Error>
     requires { sound c }
     ensures reads { Reads (λ v. v) (plain.read_within (place level c.entry) (left c.entry)) result }
-    ensures place { IfOk result (λ r. IsPlaceAfter c.entry r.1) }
+    ensures place { IfOk result (λ r. SharesEnd c.entry r.1) }
 {
     if sees_word("crate", c) {
         let rest = word("crate", level, c)?;
@@ -108,7 +108,7 @@ fn restriction<'t, 'a>(
     requires here { sound c }
     requires fits { level < 1000 }
     ensures reads { Reads (λ v. v) (plain.read_restriction (place level c.entry) (left c.entry)) result }
-    ensures place { IfOk result (λ r. IsPlaceAfter c.entry r.1) }
+    ensures place { IfOk result (λ r. SharesEnd c.entry r.1) }
 {
     if !sees_restriction(c) {
         return Ok((Vis::Public, c));
@@ -128,7 +128,7 @@ fn some_visibility<'t, 'a>(
     requires here { sound c }
     requires fits { level < 1000 }
     ensures reads { Reads (λ v. v) ((spec.read_word (codes "pub") (place level c.entry) next plain.read_restriction (place level c.entry)) (left c.entry)) result }
-    ensures place { IfOk result (λ r. IsPlaceAfter c.entry r.1) }
+    ensures place { IfOk result (λ r. SharesEnd c.entry r.1) }
 {
     let behind = word("pub", level, c)?;
     restriction(alloc, level, behind)
@@ -143,7 +143,7 @@ pub fn visibility<'t, 'a>(
     requires here { sound c }
     requires fits { level < 1000 }
     ensures reads { Reads (λ v. v) (plain.read_visibility (place level c.entry) (left c.entry)) result }
-    ensures place { IfOk result (λ r. IsPlaceAfter c.entry r.1) }
+    ensures place { IfOk result (λ r. SharesEnd c.entry r.1) }
 {
     if !sees_word("pub", c) {
         return Ok((None, c));

@@ -2,7 +2,7 @@
 
 ghost use Rattle.std.specs.Prelude.{◌≡◌, IfOk, bytes_eq};
 ghost use Rattle.std.specs.List.{list_any};
-ghost use Rattle.dm_stream.specs.Cursors.{left, sound, IsPlaceAfter};
+ghost use Rattle.dm_stream.specs.Cursors.{left, sound, SharesEnd};
 ghost use Rattle.dm_ast.specs.Keywords as spells;
 ghost use Rattle.dm_ast.specs.TypeGrammar as grammar;
 ghost use Rattle.dm_ast.specs.Readers as spec;
@@ -75,7 +75,7 @@ pub fn name<'t, 'a>(
 ) -> Result<(&'t Ident<'a>, Cursor<'t, 'a>), Error>
     requires { sound c }
     ensures reads { Reads (λ i. i.now) (spec.read_ident spells.is_name (place level c.entry) (left c.entry)) result }
-    ensures place { IfOk result (λ r. IsPlaceAfter c.entry r.1) }
+    ensures place { IfOk result (λ r. SharesEnd c.entry r.1) }
 {
     let Some((ident, rest)) = c.ident() else {
         return Err(refused(c));
@@ -96,7 +96,7 @@ pub fn truth<'t, 'a>(
 ) -> Result<(&'t Ident<'a>, Cursor<'t, 'a>), Error>
     requires { sound c }
     ensures reads { Reads (λ i. i.now) (spec.read_ident grammar.is_truth (place level c.entry) (left c.entry)) result }
-    ensures place { IfOk result (λ r. IsPlaceAfter c.entry r.1) }
+    ensures place { IfOk result (λ r. SharesEnd c.entry r.1) }
 {
     let Some((ident, rest)) = c.ident() else {
         return Err(refused(c));
@@ -158,7 +158,7 @@ pub fn input_name<'t, 'a>(
 ) -> Result<(&'t Ident<'a>, Cursor<'t, 'a>), Error>
     requires { sound c }
     ensures reads { Reads (λ i. i.now) (spec.read_ident grammar.is_input_name (place level c.entry) (left c.entry)) result }
-    ensures place { IfOk result (λ r. IsPlaceAfter c.entry r.1) }
+    ensures place { IfOk result (λ r. SharesEnd c.entry r.1) }
 {
     let Some((ident, rest)) = c.ident() else {
         return Err(refused(c));
@@ -179,7 +179,7 @@ pub fn path_word<'t, 'a>(
 ) -> Result<(&'t Ident<'a>, Cursor<'t, 'a>), Error>
     requires { sound c }
     ensures reads { Reads (λ i. i.now) (spec.read_ident grammar.is_path_word (place level c.entry) (left c.entry)) result }
-    ensures place { IfOk result (λ r. IsPlaceAfter c.entry r.1) }
+    ensures place { IfOk result (λ r. SharesEnd c.entry r.1) }
 {
     let Some((ident, rest)) = c.ident() else {
         return Err(refused(c));

@@ -12,7 +12,7 @@ use Rattle.dm_ast.specs.Tree.{TypeTree, BoundTree}
 use Rattle.dm_ast.specs.Declarations.{Listed, FieldTree, FieldsTree, named, unnamed, unit, ShapeTree, struct_shape, enum_shape, union_shape, ParamTree, PredicateTree, GenericsTree, Declaration}
 use Rattle.dm_ast.specs.Spelling.{Where, Marks, Spelling, ◌then◌, Nothing, Provided, at_end, sees_word, sees_group, punct, keyword}
 use Rattle.dm_ast.specs.TypeGrammar.{name, attributes, bound, type_spelled}
-use Rattle.dm_ast.specs.DeclarationGrammar.{listed, named_field, slot, ends_where, predicate, where_clause, visibility, generics, keyword_at, braced, slots, variants, struct_body, shape, declaration, IsNoDeclaration, DecidesDeclaration}
+use Rattle.dm_ast.specs.DeclarationGrammar.{listed, named_field, slot, ends_where, predicate, where_clause, visibility, generics, keyword_at, braced, slots, variants, struct_body, shape, declaration, IsNoDeclaration}
 use Rattle.dm_ast.specs.Readers.{Outcome, Parser, and_then, ◌and◌, ◌till◌, ◌gives◌, read_punct, ended}
 use Rattle.dm_read.specs.DeclarationReaders.{Parts, parts_of, read_name, read_word_at, read_generics, read_where, read_fields, read_slots, read_variants, read_named_or_unit, read_struct_body, Shaped, to_struct, to_braced, to_declaration, value_of, read_struct, read_braced, read_shape, read_front, read_declaration}
 use Rattle.dm_read.proofs.Deciding.{IsRead, IsRefused, Decides, Reader, Image, Both, decides_by, decides_test, pair, reads_and, reads_till}
@@ -20,6 +20,7 @@ use Rattle.dm_read.proofs.Tokens.{reads_punct}
 use Rattle.dm_read.proofs.Groups.{group_seen}
 use Rattle.dm_read_types.proofs.PlainParts.{reads_by, reads_attributes, reads_for}
 use Rattle.dm_read_types.proofs.Constants.{reads_constant, reads_visibility}
+use Rattle.dm_read_decl.proofs.DeclarationSteps.{DecidesDeclaration}
 use Rattle.dm_read_decl.proofs.TypeFronts.{Begins, behind_perhaps}
 use Rattle.dm_read_decl.proofs.DeclarationBounds.{reads_bound_list}
 use Rattle.dm_read_decl.proofs.DeclarationParts.{AreDecided, reads_either, both_ways, reads_name, reads_word_at, keyword_front}

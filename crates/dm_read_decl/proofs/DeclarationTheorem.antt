@@ -15,8 +15,9 @@ use Rattle.dm_read.specs.DeclarationReaders.{read_declaration}
 use Rattle.dm_ast.specs.Runs.{run}
 use Rattle.dm_ast.specs.Places.{IsRefusedAt}
 use Rattle.dm_ast.specs.Parsed.{IsTheDeclaration, IsUnread, IsRefusal}
-use Rattle.dm_read_types.specs.WholeReaders.{whole_type, whole_bound, parts, ReadsWhole, NoDeclaration}
+use Rattle.dm_read_types.specs.WholeReaders.{whole_type, whole_bound, parts, ReadsWhole}
 use Rattle.dm_read.proofs.Deciding.{Reader}
+use Rattle.dm_read_decl.proofs.DeclarationSteps.{NoDeclaration}
 use Rattle.dm_read_decl.proofs.WholeDeclarations.{whole_found, whole_refused}
 use Rattle.dm_read_types.proofs.TypeTheorem.{type_decided, bound_decided}
 use Rattle.dm_read_decl.proofs.LicensedDeclarations.{declaration_refused_at}

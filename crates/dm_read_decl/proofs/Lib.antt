@@ -3,12 +3,16 @@ pub mod DeclarationFields
 pub mod DeclarationGenerics
 pub mod DeclarationParts
 pub mod DeclarationRules
+pub mod DeclarationSteps
 pub mod DeclarationTheorem
 pub mod LicensedDeclarations
 pub mod LicensedParts
+pub mod LicensedSteps
 pub mod LicensedTypes
 pub mod Licensing
 pub mod Runs
+pub mod Sequels
 pub mod TypeFronts
 pub mod WholeDeclarations
 pub mod WholeSteps
+pub mod WordRanges

@@ -22,7 +22,8 @@ use Rattle.dm_read_types.specs.TypeReaders.{read_type, inner_path}
 use Rattle.dm_read.specs.DeclarationReaders.{Parts, read_name, read_word_at, to_listed, read_listed, read_bound_list, ends_lifetimes, read_lifetime_bounds, to_params, to_field, to_slot, to_variant, to_struct, to_braced, to_declaration, value_of, read_lifetime_param, read_const_param, read_type_param, read_param_behind, read_param, read_generics, read_lifetime_predicate, read_type_predicate, read_predicate, read_where, read_field, read_slot, read_fields, read_slots, read_variant_fields, read_discriminant, read_variant, read_variants, read_named_or_unit, read_struct_body, read_struct, read_braced, read_shape, read_front, read_declaration}
 use Rattle.dm_ast.specs.Runs.{cut_run, behind_run, if_cut, read_run}
 use Rattle.dm_read_types.specs.WholeReaders.{whole_type, whole_bound, parts}
-use Rattle.dm_ast.specs.Places.{IsBehind, IsRefusedAt, Licensed}
+use Rattle.dm_ast.specs.Places.{IsBehind, IsRefusedAt}
+use Rattle.dm_read_decl.proofs.LicensedSteps.{Licensed}
 use Rattle.dm_read.proofs.Deciding.{pair}
 use Rattle.dm_read_decl.proofs.Licensing.{Licenses, deep_by, all_behind, marks_deep, licensed_test, licensed_bind, licensed_any, licensed_gives, licensed_and, licensed_next, licensed_till, licensed_either, licensed_nothing, refused_outcome, licensed_ident, licensed_lifetime, licensed_punct, licensed_word, licensed_group, licensed_perhaps, licensed_list, licensed_ranged}
 use Rattle.dm_read_decl.proofs.LicensedParts.{licensed_colon, licensed_equals, licensed_attributes, licensed_angles, licensed_for, licensed_constant, licensed_visibility}

@@ -11,7 +11,7 @@ use Rattle.dm_ast.specs.TypeGrammar.{is_truth}
 use Rattle.dm_ast.specs.DeclarationGrammar.{sees_restriction}
 use Rattle.dm_ast.specs.Readers.{Parser, read_colons, read_colon, read_equals, read_arrow, inside_at, read_group, read_rest}
 use Rattle.dm_ast.specs.PlainReaders.{plain_path_of, read_leading, read_idents, read_plain, with_delim, delim_of, kept_by, read_kept, opaque_of, read_opaque, list_args, value_args, read_value, read_args, read_inside, attribute_of, read_attribute, read_attributes, read_angles, punctuated, read_lifetimes, read_some_for, read_for, literal_of, read_signed, truth_of, block_of, name_of, sees_truth, read_constant, as_crate, as_self, as_super, as_in, read_within, read_restriction, read_visibility}
-use Rattle.dm_ast.specs.Places.{Licensed}
+use Rattle.dm_read_decl.proofs.LicensedSteps.{Licensed}
 use Rattle.dm_read_decl.proofs.Licensing.{Licenses, licensed_any, licensed_raised, licensed_mapped, licensed_gives, licensed_and, licensed_next, licensed_next_deeper, licensed_till, licensed_either, licensed_nothing, licensed_refuse, refused_outcome, licensed_ident, licensed_any_ident, licensed_lifetime, licensed_literal, licensed_punct, licensed_word, licensed_lone, licensed_pair, licensed_opener, licensed_group, licensed_flag, licensed_perhaps, licensed_rest, licensed_list, licensed_repeated, licensed_chain, licensed_ranged}
 
 -- ---- pairs of puncts, and puncts that stand alone

@@ -14,7 +14,8 @@ use Rattle.dm_stream.specs.Trees.{Trees, no_trees, token, group, join, join-no_t
 use Rattle.dm_stream.specs.Cursors.{token_span, front_span, same_delim, first_ident, first_lifetime, first_literal}
 use Rattle.dm_ast.specs.Spelling.{Where, deeper, Marks, deepest, first_too_deep, marks_of, at_end, one_of, sees, sees_pair, sees_lone, sees_word, is_word}
 use Rattle.dm_ast.specs.Readers.{Outcome, Parser, too_deep_at, refuse, if_level, and_then, mapped, ◌and◌, ◌next◌, ◌till◌, ◌gives◌, if_found, read_found, if_ident, read_ident, read_any, read_lifetime, read_literal, read_seen, tail, read_punct, read_word, read_pair, read_lone, inside_at, ended, within_group, read_group, read_flag, read_perhaps, if_shallow, read_rest, turns, list_from, read_list, repeat_from, read_repeated, read_chain, range_between, ranged}
-use Rattle.dm_ast.specs.Places.{opens, openers, place_of, IsBehind, IsRefusedAt, Licensed}
+use Rattle.dm_ast.specs.Places.{opens, openers, place_of, IsBehind, IsRefusedAt}
+use Rattle.dm_read_decl.proofs.LicensedSteps.{Licensed}
 use Rattle.dm_read.proofs.Deciding.{deep_behind, deep_front, pair, some, const_at}
 
 -- a reader whose outcomes are all licensed

@@ -7,11 +7,12 @@ use Rattle.dm_ast.specs.declared.decl.DeriveInput.{DeriveInput}
 use Rattle.dm_ast.specs.Declarations.{declaration_view}
 use Rattle.dm_ast.specs.Spelling.{Where}
 use Rattle.dm_ast.specs.TypeGrammar.{bound, type_spelled}
-use Rattle.dm_ast.specs.DeclarationGrammar.{IsDeclaration, DecidesDeclaration}
+use Rattle.dm_ast.specs.DeclarationGrammar.{IsDeclaration}
 use Rattle.dm_read.specs.DeclarationReaders.{read_declaration}
 use Rattle.dm_ast.specs.Runs.{run, read_run}
-use Rattle.dm_read_types.specs.WholeReaders.{whole_type, whole_bound, parts, ReadsWhole, NoDeclaration}
+use Rattle.dm_read_types.specs.WholeReaders.{whole_type, whole_bound, parts, ReadsWhole}
 use Rattle.dm_read.proofs.Deciding.{Reader}
+use Rattle.dm_read_decl.proofs.DeclarationSteps.{DecidesDeclaration, NoDeclaration}
 use Rattle.dm_read_decl.proofs.DeclarationRules.{declaration-decides, parts_decided}
 use Rattle.dm_read_decl.proofs.Runs.{reads_run}
 

@@ -1,6 +1,6 @@
 -- The steps of reading a stream whole: what is known of its front, and of what is left behind it.
-use Rattle.std.proofs.Common.{◌≡◌, ℕ, true, false, if◌then◌else◌, Ok, Err, sym, ap, ap₂, ◌∙◌}
-use Rattle.std.specs.Prelude.{Result, IsErrAnd}
+use Rattle.std.proofs.Common.{◌≡◌, ℕ, true, false, if◌then◌else◌, Ok, Err, sym, ap, ap₂, ◌∙◌, subst}
+use Rattle.std.specs.Prelude.{Result, IsErrAnd, MatchResult}
 use Rattle.dm_stream.specs.declared.error.Error.{Error}
 use Rattle.dm_stream.specs.declared.error.Error.TheVariants as error
 use Rattle.dm_stream.specs.declared.error.Refusal.{Refusal}
@@ -11,52 +11,49 @@ use Rattle.dm_stream.specs.Cursors.{left, end_of, front_span}
 use Rattle.dm_ast.specs.declared.decl.DeriveInput.{DeriveInput}
 use Rattle.dm_ast.specs.Declarations.{Declaration, declaration_view}
 use Rattle.dm_ast.specs.Spelling.{at_end}
-use Rattle.dm_ast.specs.Readers.{Outcome, and_then, ended, refuse, place, Reads}
+use Rattle.dm_ast.specs.Readers.{Outcome, and_then, ended, refuse, place}
 use Rattle.dm_read.specs.DeclarationReaders.{value_of, read_front, read_declaration}
 use Rattle.dm_read_types.specs.WholeReaders.{parts, ReadsWhole}
 use Rattle.dm_read.proofs.Deciding.{pair}
+use Rattle.dm_input.specs.State.{State}
+use Rattle.dm_input.specs.Inputs.{Reads}
 
--- an error is passed on
-err_passed : (whole : Result Declaration Refusal) (o : Outcome Declaration) (e : Error) → Reads {A = Declaration} {X = DeriveInput} declaration_view o (Err e) →
-    ((r : Refusal) → o ≡ Err r → whole ≡ Err r) → (res : Result DeriveInput Error) → IsErrAnd res (λ d. d ≡ e) → ReadsWhole whole res
-err_passed whole o e p f (Ok d) h = absurd h
-err_passed whole o error.NoMemory p f (Err d) h = rw h tt
-err_passed whole o (error.Refused r) p f (Err d) h = rw h (f r p)
+-- whether anything is left of an input
+abbrev Closes : State → Result (Unit {0}) Error → Type 0
+Closes new end =
+    MatchResult end (λ _. at_end new.trees ≡ true)
+    (λ e. (at_end new.trees ≡ false) × (e ≡ error.Refused (record { kind = Syntax; span = front_span new.trees new.at.limit })))
 
-refusal_passed : (whole : Result Declaration Refusal) (r : Refusal) (e : Error) → e ≡ error.Refused r → whole ≡ Err r →
-    (res : Result DeriveInput Error) → IsErrAnd res (λ d. d ≡ e) → ReadsWhole whole res
-refusal_passed whole r e s f (Ok d) h = absurd h
-refusal_passed whole r e s f (Err d) h = rw (h ∙ s) f
+module _ (limit : ℕ) (ts : Trees) (c : Cursor) (trees : left c ≡ ts) (ends : end_of c ≡ limit) (old : State) (begins : old ≡ record { trees = left c; at = place 0 c }) where
+  abbrev whole : Result Declaration Refusal
+  whole = read_declaration parts limit ts
 
-module _ (limit : ℕ) (ts : Trees) (c : Cursor) (trees : left c ≡ ts) (ends : end_of c ≡ limit) where
   -- what is made of the front
-  abbrev front_outcome : Outcome Declaration
-  front_outcome = read_front parts (place 0 c) (left c)
-
   abbrev closed : Outcome Declaration → Result Declaration Refusal
-  closed o = value_of (and_then o (ended (place 0 c) no_trees))
+  closed o = value_of (and_then o (ended old.at no_trees))
 
-  by_front : read_declaration parts limit ts ≡ closed front_outcome
-  by_front = ap₂ (read_declaration parts) (sym ends) (sym trees)
+  by_front : whole ≡ closed (read_front parts old.at old.trees)
+  by_front =
+      ap₂ (read_declaration parts) (sym ends) (sym trees) ∙
+      ap (λ (s : State). value_of (and_then (read_front parts s.at s.trees) (ended s.at no_trees))) (sym begins)
 
-  pub front_refused : (e : Error) → Reads {A = Declaration} {X = DeriveInput} declaration_view front_outcome (Err e) →
-      (res : Result DeriveInput Error) → IsErrAnd res (λ d. d ≡ e) → ReadsWhole (read_declaration parts limit ts) res
-  front_refused e h = err_passed (read_declaration parts limit ts) front_outcome e h (λ r f. by_front ∙ ap closed f)
+  -- the front is refused, or memory fails there
+  pub front_refused : (new : State) (e : Error) → Reads {A = Declaration} {X = DeriveInput} declaration_view (read_front parts) old (Err e) new →
+      (res : Result DeriveInput Error) → IsErrAnd res (λ d. d ≡ e) → ReadsWhole whole res
+  front_refused new e h (Ok d) k = absurd k
+  front_refused new error.NoMemory h (Err d) k = rw k tt
+  front_refused new (error.Refused r) h (Err d) k = rw k (by_front ∙ ap closed h)
 
-  module _ (d : Declaration) (rest : Cursor) (is : front_outcome ≡ Ok (pair d (left rest))) where
-    behind : read_declaration parts limit ts ≡ value_of (if at_end (left rest) then Ok (pair d no_trees) else refuse (place 0 c) (left rest))
-    behind = by_front ∙ ap closed is
-
-    pub whole_read : at_end (left rest) ≡ true → read_declaration parts limit ts ≡ Ok d
-    whole_read e = behind ∙ ap (λ b. value_of (if b then Ok (pair d no_trees) else refuse (place 0 c) (left rest))) e
-
-    whole_cut : at_end (left rest) ≡ false → end_of rest ≡ end_of c → read_declaration parts limit ts ≡ Err (record { kind = Syntax; span = front_span (left rest) (end_of rest) })
-    whole_cut e f =
-        behind ∙ ap (λ b. value_of (if b then Ok (pair d no_trees) else refuse (place 0 c) (left rest))) e ∙
-        ap (λ n. Err (record { kind = Syntax; span = front_span (left rest) n })) (sym f)
-
-    pub rest_refused : end_of rest ≡ end_of c → (e : Error) →
-        (at_end (left rest) ≡ false) × (e ≡ error.Refused (record { kind = Syntax; span = front_span (left rest) (end_of rest) })) →
-        (res : Result DeriveInput Error) → IsErrAnd res (λ x. x ≡ e) → ReadsWhole (read_declaration parts limit ts) res
-    rest_refused f e h =
-        refusal_passed (read_declaration parts limit ts) (record { kind = Syntax; span = front_span (left rest) (end_of rest) }) e h.1 (whole_cut h.0 f)
+  -- it is read, and what is left decides
+  pub front_read : (new : State) (d : DeriveInput) → Reads {A = Declaration} {X = DeriveInput} declaration_view (read_front parts) old (Ok d) new →
+      (end : Result (Unit {0}) Error) → Closes new end → (res : Result DeriveInput Error) →
+      MatchResult res (λ x. (end ≡ Ok tt) × (x ≡ d)) (λ e. end ≡ Err e) → ReadsWhole whole res
+  front_read new d h end k (Ok x) j =
+      by_front ∙ ap closed h.0 ∙
+      ap (λ b. value_of (if b then Ok (pair (declaration_view d) no_trees) else refuse old.at new.trees)) (subst (Closes new) j.0 k) ∙
+      ap (λ y. Ok (declaration_view y)) (sym j.1)
+  front_read new d h end k (Err e) j =
+      let q = subst (Closes new) j k in
+      subst (λ x. ReadsWhole whole (Err x)) (sym q.1)
+      (by_front ∙ ap closed h.0 ∙ ap (λ b. value_of (if b then Ok (pair (declaration_view d) no_trees) else refuse old.at new.trees)) q.0 ∙
+      ap (λ w. Err (record { kind = Syntax; span = front_span new.trees w.limit })) (sym h.1))

@@ -3,6 +3,10 @@ use Rattle.std.specs.Prelude.{Bool, Option, option_map}
 use Rattle.dm_stream.specs.declared.seq.Punctuated.{Punctuated}
 use Rattle.dm_stream.specs.declared.tokens.Ident.{Ident}
 use Rattle.dm_ast.specs.declared.plain.Opaque.{Opaque}
+use Rattle.dm_ast.specs.declared.plain.ConstArg.{ConstArg}
+use Rattle.dm_ast.specs.declared.ty.Ty.{Ty}
+use Rattle.dm_ast.specs.declared.ty.Bound.{Bound}
+use Rattle.dm_ast.specs.Tree.{TypeTree, ty_view, BoundTree, bound_view}
 use Rattle.dm_ast.specs.declared.decl.Field.{Field}
 use Rattle.dm_ast.specs.declared.decl.Fields.{Fields}
 use Rattle.dm_ast.specs.declared.decl.Variant.{Variant}
@@ -21,6 +25,14 @@ both_views f g v = (f v.0, g v.1)
 -- a part behind one that is plain data as it is
 abbrev pub second_view : {X Y B : Type 0} → (Y → B) → X × Y → X × B
 second_view g v = (v.0, g v.1)
+
+-- the type of a constant parameter, and its value
+abbrev pub value_view : Ty × Option ConstArg → TypeTree × Option ConstArg
+value_view v = (ty_view v.0, v.1)
+
+-- the bounds of a type parameter, and the type that it stands for by itself
+abbrev pub bounds_default_view : Option (Punctuated Bound) × Option Ty → Option (Listed BoundTree) × Option TypeTree
+bounds_default_view = both_views (option_map (listed bound_view)) (option_map ty_view)
 
 -- the fields and the discriminant of a variant
 abbrev pub body_view : Fields × Option Opaque → FieldsTree × Option Opaque

@@ -1,165 +1,142 @@
 //! Generics: parameters and `where`.
 #![tactic(auto)]
 
-ghost use Rattle.std.specs.Prelude.{◌<◌, IfOk, codes, option_map};
-ghost use Rattle.dm_stream.specs.Cursors.{left, sound, IsPlaceAfter};
-ghost use Rattle.dm_ast.specs.Spelling.{sees as punct_seen};
+ghost use Rattle.std.specs.Prelude.{◌≤◌};
+ghost use Rattle.dm_ast.specs.Spelling.{deepest};
+ghost use Rattle.dm_ast.specs.Tree.{ty_view, bound_view};
 ghost use Rattle.dm_ast.specs.Declarations as tree;
-ghost use Rattle.dm_ast.specs.DeclarationGrammar.{ends_where};
-ghost use Rattle.dm_ast.specs.PlainReaders as plain;
 ghost use Rattle.dm_read.specs.DeclarationReaders as spec;
 ghost use Rattle.dm_read_types.specs.WholeReaders.{parts};
-ghost use Rattle.dm_ast.specs.Readers.{place, Reads, ◌next◌, read_word};
+ghost use Rattle.dm_read_decl.specs.Rules as rules;
+ghost use Rattle.dm_read_decl.specs.ShapeViews.{both_views, second_view, angled_view, clause_view};
+ghost use Rattle.dm_input.specs.Inputs.{Reads};
 
-use crate::param::param;
-use dm_ast::{GenericParam, WherePredicate};
-use dm_read::lifetimes::{for_lifetimes, lifetime_bounds};
-use dm_read::list::{Rule, Stop, listed};
-use dm_read::token::{colon, lifetime, punct, sees, sees_lifetime, sees_word, word};
-use dm_read_types::entry::{bounds, ty};
-use dm_stream::{Cursor, Error, Punctuated};
-use std::alloc::Global;
-
-/// Parameters.
-#[derive(Clone, Copy)]
-struct ParamRule {
-    alloc: Global,
-}
-
-impl<'a> Rule<'a> for ParamRule {
-    ghost use Rattle.std.specs.Prelude.{◌<◌};
-    ghost use Rattle.dm_ast.specs.Declarations.{ParamTree, param_view};
-
-    type Part = GenericParam<'a>;
-
-    ghost Tree = { ParamTree };
-
-    ghost view = { param_view };
-
-    ghost usable = { λ _ level. level < 400 };
-
-    ghost reader = { λ _ w. spec.read_param parts w };
-
-    fn read<'t>(
-        &self,
-        level: usize,
-        c: Cursor<'t, 'a>,
-    ) -> Result<(GenericParam<'a>, Cursor<'t, 'a>), Error> {
-        param(self.alloc, level, c)
-    }
-}
+use crate::forms::commas;
+use crate::param::{ParamRule, some_bounds, some_outlived};
+use dm_ast::{Bound, GenericParam, Ty, WherePredicate};
+use dm_input::Input;
+use dm_input::join::{ended, joined};
+use dm_input::list::Rule;
+use dm_read::list::Stop;
+use dm_read_types::entry::ty;
+use dm_stream::{Error, Lifetime, Punctuated};
 
 /// Parameters with commas between, up to `>`.
-fn params<'t, 'a>(
-    alloc: Global,
-    level: usize,
-    c: Cursor<'t, 'a>,
-) -> Result<(Punctuated<GenericParam<'a>>, Cursor<'t, 'a>), Error>
-    requires here { sound c }
-    requires fits { level < 400 }
-    ensures reads { Reads (tree.listed tree.param_view) (spec.read_listed (punct_seen 62) (spec.read_param parts) (place level c.entry) (left c.entry)) result }
-    ensures place { IfOk result (λ r. IsPlaceAfter c.entry r.1) }
+fn params<'a>(input: &mut Input<'_, 'a>) -> Result<Punctuated<GenericParam<'a>>, Error>
+    ensures { Reads (tree.listed tree.param_view) rules.read_params input.old result input.new }
 {
-    listed(alloc, &ParamRule { alloc }, ',', Stop::Angle, level, c)
+    commas(&ParamRule, Stop::Angle, input)
+}
+
+/// Parameters one level deeper.
+#[tactic(auto, using(dm_input::proofs::Levels::level_steps))]
+fn deep_params<'a>(input: &mut Input<'_, 'a>) -> Result<Punctuated<GenericParam<'a>>, Error>
+    requires { input.old.at.level ≤ deepest }
+    ensures { Reads (tree.listed tree.param_view) rules.read_deep_params input.old result input.new }
+{
+    input.down();
+    let found = params(input)?;
+    input.up();
+    Ok(found)
+}
+
+/// Parameters and `>`.
+fn till_angle<'a>(input: &mut Input<'_, 'a>) -> Result<Punctuated<GenericParam<'a>>, Error>
+    requires { input.old.at.level ≤ deepest }
+    ensures { Reads (tree.listed tree.param_view) rules.read_till_angle input.old result input.new }
+{
+    let found = deep_params(input)?;
+    ended(found, input.punct('>'))
 }
 
 /// `<..>`.
-fn angled<'t, 'a>(
-    alloc: Global,
-    level: usize,
-    c: Cursor<'t, 'a>,
-) -> Result<(Punctuated<GenericParam<'a>>, Cursor<'t, 'a>), Error>
-    requires here { sound c }
-    requires fits { level < 300 }
-    ensures reads { Reads (tree.listed tree.param_view) (plain.read_angles (spec.read_listed (punct_seen 62) (spec.read_param parts)) (place level c.entry) (left c.entry)) result }
-    ensures place { IfOk result (λ r. IsPlaceAfter c.entry r.1) }
+fn angled<'a>(input: &mut Input<'_, 'a>) -> Result<Punctuated<GenericParam<'a>>, Error>
+    ensures { Reads (tree.listed tree.param_view) rules.read_angled input.old result input.new }
 {
-    let begun = punct('<', level, c)?;
-    let (found, left) = params(alloc, level + 1, begun)?;
-    let rest = punct('>', level, left)?;
-    Ok((found, rest))
+    input.punct('<')?;
+    till_angle(input)
 }
 
 /// Whether `<` comes next, and the parameters.
-pub fn generics<'t, 'a>(
-    alloc: Global,
-    level: usize,
-    c: Cursor<'t, 'a>,
-) -> Result<((bool, Punctuated<GenericParam<'a>>), Cursor<'t, 'a>), Error>
-    requires here { sound c }
-    requires fits { level < 300 }
-    ensures reads { Reads (λ v. (v.0, tree.listed tree.param_view v.1)) (spec.read_generics parts (place level c.entry) (left c.entry)) result }
-    ensures place { IfOk result (λ r. IsPlaceAfter c.entry r.1) }
+pub fn generics<'a>(
+    input: &mut Input<'_, 'a>,
+) -> Result<(bool, Punctuated<GenericParam<'a>>), Error>
+    ensures { Reads angled_view (spec.read_generics parts) input.old result input.new }
 {
-    if !sees('<', c) {
-        return Ok(((false, Punctuated::new(alloc)), c));
+    if !input.sees('<') {
+        return Ok((false, Punctuated::new(input.alloc())));
     }
-    let (found, rest) = angled(alloc, level, c)?;
-    Ok(((true, found), rest))
+    Ok((true, angled(input)?))
+}
+
+/// A lifetime, `:` and the lifetimes that it outlives.
+fn outlives_parts<'a>(
+    input: &mut Input<'_, 'a>,
+) -> Result<(Lifetime<'a>, Punctuated<Lifetime<'a>>), Error>
+    ensures { Reads (λ v. v) rules.read_outlives_parts input.old result input.new }
+{
+    let lifetime = input.lifetime()?;
+    joined(lifetime, some_outlived(input))
 }
 
 /// A predicate on a lifetime.
-fn lifetime_predicate<'t, 'a>(
-    alloc: Global,
-    level: usize,
-    c: Cursor<'t, 'a>,
-) -> Result<(WherePredicate<'a>, Cursor<'t, 'a>), Error>
-    requires { sound c }
-    ensures reads { Reads tree.predicate_view (spec.read_lifetime_predicate parts (place level c.entry) (left c.entry)) result }
-    ensures place { IfOk result (λ r. IsPlaceAfter c.entry r.1) }
+fn lifetime_predicate<'a>(input: &mut Input<'_, 'a>) -> Result<WherePredicate<'a>, Error>
+    ensures { Reads tree.predicate_view (spec.read_lifetime_predicate parts) input.old result input.new }
 {
-    let (found, behind) = lifetime(level, c)?;
-    let begun = colon(level, behind)?;
-    let (outlived, rest) = lifetime_bounds(alloc, level, begun)?;
-    let own = found.clone_in(alloc)?;
-    Ok((WherePredicate::Lifetime(own, outlived), rest))
+    let (lifetime, outlived) = outlives_parts(input)?;
+    Ok(WherePredicate::Lifetime(lifetime, outlived))
+}
+
+/// A type, `:` and bounds.
+fn bounded<'a>(input: &mut Input<'_, 'a>) -> Result<(Ty<'a>, Punctuated<Bound<'a>>), Error>
+    ensures { Reads (both_views ty_view (tree.listed bound_view)) rules.read_bounded input.old result input.new }
+{
+    let found = ty(input)?;
+    joined(found, some_bounds(input))
+}
+
+/// `for<..>` where it comes next, a type and bounds.
+fn predicate_parts<'a>(
+    input: &mut Input<'_, 'a>,
+) -> Result<
+    (
+        Option<Punctuated<Lifetime<'a>>>,
+        (Ty<'a>, Punctuated<Bound<'a>>),
+    ),
+    Error,
+>
+    ensures { Reads (second_view (both_views ty_view (tree.listed bound_view))) rules.read_predicate_parts input.old result input.new }
+{
+    let lifetimes = input.for_lifetimes()?;
+    joined(lifetimes, bounded(input))
 }
 
 /// A predicate on a type.
-fn type_predicate<'t, 'a>(
-    alloc: Global,
-    level: usize,
-    c: Cursor<'t, 'a>,
-) -> Result<(WherePredicate<'a>, Cursor<'t, 'a>), Error>
-    requires here { sound c }
-    requires fits { level < 400 }
-    ensures reads { Reads tree.predicate_view (spec.read_type_predicate parts (place level c.entry) (left c.entry)) result }
-    ensures place { IfOk result (λ r. IsPlaceAfter c.entry r.1) }
+fn type_predicate<'a>(input: &mut Input<'_, 'a>) -> Result<WherePredicate<'a>, Error>
+    ensures { Reads tree.predicate_view (spec.read_type_predicate parts) input.old result input.new }
 {
-    let (lifetimes, begun) = for_lifetimes(alloc, level, c)?;
-    let (found, behind) = ty(alloc, level, begun)?;
-    let next = colon(level, behind)?;
-    let (bounds, rest) = bounds(alloc, level, next)?;
-    Ok((WherePredicate::Ty(lifetimes, found, bounds), rest))
+    let (lifetimes, (found, bounds)) = predicate_parts(input)?;
+    Ok(WherePredicate::Ty(lifetimes, found, bounds))
 }
 
 /// A predicate.
-pub fn predicate<'t, 'a>(
-    alloc: Global,
-    level: usize,
-    c: Cursor<'t, 'a>,
-) -> Result<(WherePredicate<'a>, Cursor<'t, 'a>), Error>
-    requires here { sound c }
-    requires fits { level < 400 }
-    ensures reads { Reads tree.predicate_view (spec.read_predicate parts (place level c.entry) (left c.entry)) result }
-    ensures place { IfOk result (λ r. IsPlaceAfter c.entry r.1) }
+fn predicate<'a>(input: &mut Input<'_, 'a>) -> Result<WherePredicate<'a>, Error>
+    ensures { Reads tree.predicate_view (spec.read_predicate parts) input.old result input.new }
 {
-    if sees_lifetime(c) {
-        lifetime_predicate(alloc, level, c)
-    } else {
-        type_predicate(alloc, level, c)
+    if input.sees_lifetime() {
+        return lifetime_predicate(input);
     }
+    type_predicate(input)
 }
 
 /// Predicates.
 #[derive(Clone, Copy)]
-struct PredicateRule {
-    alloc: Global,
-}
+pub struct PredicateRule;
 
 impl<'a> Rule<'a> for PredicateRule {
-    ghost use Rattle.std.specs.Prelude.{◌<◌};
     ghost use Rattle.dm_ast.specs.Declarations.{PredicateTree, predicate_view};
+    ghost use Rattle.dm_read.specs.DeclarationReaders as spec;
+    ghost use Rattle.dm_read_types.specs.WholeReaders.{parts};
 
     type Part = WherePredicate<'a>;
 
@@ -167,62 +144,38 @@ impl<'a> Rule<'a> for PredicateRule {
 
     ghost view = { predicate_view };
 
-    ghost usable = { λ _ level. level < 400 };
+    ghost usable = { λ _. Unit {0} };
 
     ghost reader = { λ _ w. spec.read_predicate parts w };
 
-    fn read<'t>(
-        &self,
-        level: usize,
-        c: Cursor<'t, 'a>,
-    ) -> Result<(WherePredicate<'a>, Cursor<'t, 'a>), Error> {
-        predicate(self.alloc, level, c)
+    fn read(&self, input: &mut Input<'_, 'a>) -> Result<WherePredicate<'a>, Error> {
+        predicate(input)
     }
 }
 
 /// Predicates with commas between, up to where they end.
-fn predicates<'t, 'a>(
-    alloc: Global,
-    level: usize,
-    c: Cursor<'t, 'a>,
-) -> Result<(Punctuated<WherePredicate<'a>>, Cursor<'t, 'a>), Error>
-    requires here { sound c }
-    requires fits { level < 400 }
-    ensures reads { Reads (tree.listed tree.predicate_view) (spec.read_listed ends_where (spec.read_predicate parts) (place level c.entry) (left c.entry)) result }
-    ensures place { IfOk result (λ r. IsPlaceAfter c.entry r.1) }
+fn predicates<'a>(input: &mut Input<'_, 'a>) -> Result<Punctuated<WherePredicate<'a>>, Error>
+    ensures { Reads (tree.listed tree.predicate_view) rules.read_predicates input.old result input.new }
 {
-    listed(alloc, &PredicateRule { alloc }, ',', Stop::Where, level, c)
+    commas(&PredicateRule, Stop::Where, input)
 }
 
 /// `where` and its predicates.
-fn some_where<'t, 'a>(
-    alloc: Global,
-    level: usize,
-    c: Cursor<'t, 'a>,
-) -> Result<(Punctuated<WherePredicate<'a>>, Cursor<'t, 'a>), Error>
-    requires here { sound c }
-    requires fits { level < 400 }
-    ensures reads { Reads (tree.listed tree.predicate_view) ((read_word (codes "where") (place level c.entry) next spec.read_listed ends_where (spec.read_predicate parts) (place level c.entry)) (left c.entry)) result }
-    ensures place { IfOk result (λ r. IsPlaceAfter c.entry r.1) }
+fn some_where<'a>(input: &mut Input<'_, 'a>) -> Result<Punctuated<WherePredicate<'a>>, Error>
+    ensures { Reads (tree.listed tree.predicate_view) rules.read_some_where input.old result input.new }
 {
-    let behind = word("where", level, c)?;
-    predicates(alloc, level, behind)
+    input.word("where")?;
+    predicates(input)
 }
 
 /// The `where` clause where one comes next.
-pub fn where_clause<'t, 'a>(
-    alloc: Global,
-    level: usize,
-    c: Cursor<'t, 'a>,
-) -> Result<(Option<Punctuated<WherePredicate<'a>>>, Cursor<'t, 'a>), Error>
-    requires here { sound c }
-    requires fits { level < 400 }
-    ensures reads { Reads (option_map (tree.listed tree.predicate_view)) (spec.read_where parts (place level c.entry) (left c.entry)) result }
-    ensures place { IfOk result (λ r. IsPlaceAfter c.entry r.1) }
+pub fn where_clause<'a>(
+    input: &mut Input<'_, 'a>,
+) -> Result<Option<Punctuated<WherePredicate<'a>>>, Error>
+    ensures { Reads clause_view (spec.read_where parts) input.old result input.new }
 {
-    if !sees_word("where", c) {
-        return Ok((None, c));
+    if !input.sees_word("where") {
+        return Ok(None);
     }
-    let (found, rest) = some_where(alloc, level, c)?;
-    Ok((Some(found), rest))
+    Ok(Some(some_where(input)?))
 }

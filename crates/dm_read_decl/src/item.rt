@@ -1,468 +1,293 @@
 //! Structs, enums and unions.
 #![tactic(auto)]
 
-ghost use Rattle.std.specs.Prelude.{◌<◌, IfOk, codes};
-ghost use Rattle.dm_stream.specs.Cursors.{left, sound, IsPlaceAfter};
+ghost use Rattle.std.specs.Prelude.{codes};
 ghost use Rattle.dm_ast.specs.Declarations as tree;
 ghost use Rattle.dm_read.specs.DeclarationReaders as spec;
+ghost use Rattle.dm_read_types.specs.WholeReaders.{parts};
+ghost use Rattle.dm_read_decl.specs.Rules as rules;
 ghost use Rattle.dm_read_decl.specs.ShapeViews as views;
 ghost use Rattle.dm_read_decl.specs.ShapeViews.{both_views, second_view};
-ghost use Rattle.dm_read_types.specs.WholeReaders.{parts};
-ghost use Rattle.dm_ast.specs.Readers.{place, Reads, ◌and◌, ◌till◌, read_punct};
+ghost use Rattle.dm_input.specs.Inputs.{Reads};
 
-use crate::field::{fields, slots};
+use crate::field::{FieldRule, fields, slots};
+use crate::forms::enclosed;
 use crate::generics::{generics, where_clause};
-use crate::variant::variants;
+use crate::variant::VariantRule;
 use dm_ast::{
     Data, DataEnum, DataStruct, DataUnion, Field, Fields, GenericParam, Generics, Variant,
     WherePredicate,
 };
-use dm_read::token::{is_word, punct, refused, sees_group, sees_word, too_deep};
-use dm_read::words::name;
-use dm_stream::{Cursor, DEEPEST, Delim, Error, Ident, Punctuated, Span};
-use std::alloc::Global;
+use dm_input::Input;
+use dm_input::join::{ended, joined};
+use dm_input::list::Rule;
+use dm_stream::{Delim, Error, Ident, Punctuated, Span};
 
 /// The range of a word.
-fn word_at<'t, 'a>(
+#[tactic(auto, using(crate::proofs::WordRanges::word_range))]
+fn word_at<'a>(word: &str, input: &mut Input<'_, 'a>) -> Result<Span, Error>
+    ensures { Reads (λ s. s) (spec.read_word_at word.now) input.old result input.new }
+{
+    let span = input.front();
+    input.word(word)?;
+    Ok(span)
+}
+
+/// Generics, and what follows them.
+fn behind_name<'a, R: Rule<'a>>(
+    rule: &R,
+    input: &mut Input<'_, 'a>,
+) -> Result<((bool, Punctuated<GenericParam<'a>>), R::Part), Error>
+    requires { R.usable rule.now }
+    ensures { Reads (both_views views.angled_view R.view) (rules.behind_name (R.reader rule.now)) input.old result input.new }
+{
+    let found = generics(input)?;
+    joined(found, rule.read(input))
+}
+
+/// A name, generics, and what follows them.
+fn behind_word<'a, R: Rule<'a>>(
+    rule: &R,
+    input: &mut Input<'_, 'a>,
+) -> Result<(Ident<'a>, ((bool, Punctuated<GenericParam<'a>>), R::Part)), Error>
+    requires { R.usable rule.now }
+    ensures { Reads (second_view (both_views views.angled_view R.view)) (rules.behind_word (R.reader rule.now)) input.old result input.new }
+{
+    let name = input.name()?;
+    joined(name, behind_name(rule, input))
+}
+
+/// A word, a name, generics, and what follows them.
+fn headed<'a, R: Rule<'a>>(
+    rule: &R,
     word: &str,
-    level: usize,
-    c: Cursor<'t, 'a>,
-) -> Result<(Span, Cursor<'t, 'a>), Error>
-    requires { sound c }
-    ensures reads { Reads (λ s. s) (spec.read_word_at word.now (place level c.entry) (left c.entry)) result }
-    ensures place { IfOk result (λ r. IsPlaceAfter c.entry r.1) }
+    input: &mut Input<'_, 'a>,
+) -> Result<
+    (
+        Span,
+        (Ident<'a>, ((bool, Punctuated<GenericParam<'a>>), R::Part)),
+    ),
+    Error,
+>
+    requires { R.usable rule.now }
+    ensures { Reads (second_view (second_view (both_views views.angled_view R.view))) (rules.headed word.now (R.reader rule.now)) input.old result input.new }
 {
-    let Some((ident, rest)) = c.ident() else {
-        return Err(refused(c));
-    };
-    if !is_word(word, ident) {
-        return Err(refused(c));
+    let span = word_at(word, input)?;
+    joined(span, behind_word(rule, input))
+}
+
+/// A `where` clause where one comes next, and parts in braces.
+fn braces<'a, R: Rule<'a>>(
+    item: &R,
+    input: &mut Input<'_, 'a>,
+) -> Result<(Option<Punctuated<WherePredicate<'a>>>, Punctuated<R::Part>), Error>
+    requires { R.usable item.now }
+    ensures { Reads (both_views views.clause_view (tree.listed R.view)) (rules.read_braces (R.reader item.now)) input.old result input.new }
+{
+    let clause = where_clause(input)?;
+    joined(clause, enclosed(item, Delim::Brace, input))
+}
+
+/// What follows the generics of an enum or a union.
+#[derive(Clone, Copy)]
+struct BracesRule<R> {
+    /// Reads one of the parts.
+    item: R,
+}
+
+impl<'a, R: Rule<'a>> Rule<'a> for BracesRule<R> {
+    ghost use Rattle.std.specs.Prelude.{Option};
+    ghost use Rattle.dm_ast.specs.Declarations.{Listed, PredicateTree, listed};
+    ghost use Rattle.dm_read_decl.specs.Rules as rules;
+    ghost use Rattle.dm_read_decl.specs.ShapeViews.{both_views, clause_view};
+
+    type Part = (Option<Punctuated<WherePredicate<'a>>>, Punctuated<R::Part>);
+
+    ghost Tree = { Option (Listed PredicateTree) × Listed R.Tree };
+
+    ghost view = { both_views clause_view (listed R.view) };
+
+    ghost usable = { λ r. R.usable r.item };
+
+    ghost reader = { λ r w. rules.read_braces (R.reader r.item) w };
+
+    fn read(
+        &self,
+        input: &mut Input<'_, 'a>,
+    ) -> Result<(Option<Punctuated<WherePredicate<'a>>>, Punctuated<R::Part>), Error> {
+        braces(&self.item, input)
     }
-    if level > DEEPEST {
-        return Err(too_deep(c.front()));
-    }
-    Ok((ident.span, rest))
-}
-
-/// Fields in braces, or `;`.
-fn named_or_unit<'t, 'a>(
-    alloc: Global,
-    level: usize,
-    c: Cursor<'t, 'a>,
-) -> Result<(Fields<'a>, Cursor<'t, 'a>), Error>
-    requires here { sound c }
-    requires fits { level < 300 }
-    ensures reads { Reads tree.fields_view (spec.read_named_or_unit parts (place level c.entry) (left c.entry)) result }
-    ensures place { IfOk result (λ r. IsPlaceAfter c.entry r.1) }
-{
-    if sees_group(Delim::Brace, c) {
-        let (found, rest) = fields(alloc, level, c)?;
-        return Ok((Fields::Named(found), rest));
-    }
-    let rest = punct(';', level, c)?;
-    Ok((Fields::Unit, rest))
-}
-
-/// A `where` clause and the `;` behind it.
-fn ended_where<'t, 'a>(
-    alloc: Global,
-    level: usize,
-    c: Cursor<'t, 'a>,
-) -> Result<(Option<Punctuated<WherePredicate<'a>>>, Cursor<'t, 'a>), Error>
-    requires here { sound c }
-    requires fits { level < 300 }
-    ensures reads { Reads views.clause_view ((spec.read_where parts (place level c.entry) till read_punct 59 (place level c.entry)) (left c.entry)) result }
-    ensures place { IfOk result (λ r. IsPlaceAfter c.entry r.1) }
-{
-    let (found, behind) = where_clause(alloc, level, c)?;
-    let rest = punct(';', level, behind)?;
-    Ok((found, rest))
-}
-
-/// The fields of a struct in parentheses, and what stands behind them.
-fn slots_body<'t, 'a>(
-    alloc: Global,
-    level: usize,
-    c: Cursor<'t, 'a>,
-) -> Result<
-    (
-        (
-            Punctuated<Field<'a>>,
-            Option<Punctuated<WherePredicate<'a>>>,
-        ),
-        Cursor<'t, 'a>,
-    ),
-    Error,
->
-    requires here { sound c }
-    requires fits { level < 300 }
-    ensures reads { Reads (both_views (tree.listed tree.field_view) views.clause_view) ((spec.read_slots parts (place level c.entry) and (spec.read_where parts (place level c.entry) till read_punct 59 (place level c.entry))) (left c.entry)) result }
-    ensures place { IfOk result (λ r. IsPlaceAfter c.entry r.1) }
-{
-    let (found, behind) = slots(alloc, level, c)?;
-    let (clause, rest) = ended_where(alloc, level, behind)?;
-    Ok(((found, clause), rest))
-}
-
-/// A `where` clause, and the fields in braces or `;`.
-fn other_body<'t, 'a>(
-    alloc: Global,
-    level: usize,
-    c: Cursor<'t, 'a>,
-) -> Result<
-    (
-        (Option<Punctuated<WherePredicate<'a>>>, Fields<'a>),
-        Cursor<'t, 'a>,
-    ),
-    Error,
->
-    requires here { sound c }
-    requires fits { level < 300 }
-    ensures reads { Reads (both_views views.clause_view tree.fields_view) ((spec.read_where parts (place level c.entry) and spec.read_named_or_unit parts (place level c.entry)) (left c.entry)) result }
-    ensures place { IfOk result (λ r. IsPlaceAfter c.entry r.1) }
-{
-    let (clause, behind) = where_clause(alloc, level, c)?;
-    let (found, rest) = named_or_unit(alloc, level, behind)?;
-    Ok(((clause, found), rest))
-}
-
-/// What follows the generics of a struct.
-fn struct_body<'t, 'a>(
-    alloc: Global,
-    level: usize,
-    c: Cursor<'t, 'a>,
-) -> Result<
-    (
-        (Fields<'a>, Option<Punctuated<WherePredicate<'a>>>),
-        Cursor<'t, 'a>,
-    ),
-    Error,
->
-    requires here { sound c }
-    requires fits { level < 300 }
-    ensures reads { Reads views.struct_view (spec.read_struct_body parts (place level c.entry) (left c.entry)) result }
-    ensures place { IfOk result (λ r. IsPlaceAfter c.entry r.1) }
-{
-    if sees_group(Delim::Paren, c) {
-        let ((found, clause), rest) = slots_body(alloc, level, c)?;
-        return Ok(((Fields::Unnamed(found), clause), rest));
-    }
-    let ((clause, found), rest) = other_body(alloc, level, c)?;
-    Ok(((found, clause), rest))
-}
-
-/// The generics of a struct, and what stands behind them.
-fn struct_generics<'t, 'a>(
-    alloc: Global,
-    level: usize,
-    c: Cursor<'t, 'a>,
-) -> Result<
-    (
-        (
-            (bool, Punctuated<GenericParam<'a>>),
-            (Fields<'a>, Option<Punctuated<WherePredicate<'a>>>),
-        ),
-        Cursor<'t, 'a>,
-    ),
-    Error,
->
-    requires here { sound c }
-    requires fits { level < 200 }
-    ensures reads { Reads (both_views views.angled_view views.struct_view) ((spec.read_generics parts (place level c.entry) and spec.read_struct_body parts (place level c.entry)) (left c.entry)) result }
-    ensures place { IfOk result (λ r. IsPlaceAfter c.entry r.1) }
-{
-    let (found, behind) = generics(alloc, level, c)?;
-    let (held, rest) = struct_body(alloc, level, behind)?;
-    Ok(((found, held), rest))
-}
-
-/// The name of a struct, and what stands behind it.
-fn struct_named<'t, 'a>(
-    alloc: Global,
-    level: usize,
-    c: Cursor<'t, 'a>,
-) -> Result<
-    (
-        (
-            Ident<'a>,
-            (
-                (bool, Punctuated<GenericParam<'a>>),
-                (Fields<'a>, Option<Punctuated<WherePredicate<'a>>>),
-            ),
-        ),
-        Cursor<'t, 'a>,
-    ),
-    Error,
->
-    requires here { sound c }
-    requires fits { level < 200 }
-    ensures reads { Reads (second_view (both_views views.angled_view views.struct_view)) ((spec.read_name (place level c.entry) and (spec.read_generics parts (place level c.entry) and spec.read_struct_body parts (place level c.entry))) (left c.entry)) result }
-    ensures place { IfOk result (λ r. IsPlaceAfter c.entry r.1) }
-{
-    let (found, behind) = name(level, c)?;
-    let (held, rest) = struct_generics(alloc, level, behind)?;
-    let ident = found.clone_in(alloc)?;
-    Ok(((ident, held), rest))
-}
-
-/// A struct, its name and its generics.
-fn struct_item<'t, 'a>(
-    alloc: Global,
-    level: usize,
-    c: Cursor<'t, 'a>,
-) -> Result<((Data<'a>, (Ident<'a>, Generics<'a>)), Cursor<'t, 'a>), Error>
-    requires here { sound c }
-    requires fits { level < 200 }
-    ensures reads { Reads views.shaped_view (spec.read_struct parts (place level c.entry) (left c.entry)) result }
-    ensures place { IfOk result (λ r. IsPlaceAfter c.entry r.1) }
-{
-    let (word, begun) = word_at("struct", level, c)?;
-    let ((ident, ((angled, params), (fields, where_clause))), rest) = struct_named(
-        alloc, level, begun,
-    )?;
-    let generics = Generics {
-        angled,
-        params,
-        where_clause,
-    };
-    let shape = Data::Struct(DataStruct { word, fields });
-    Ok(((shape, (ident, generics)), rest))
-}
-
-/// The `where` clause of an enum, and its braces.
-fn enum_body<'t, 'a>(
-    alloc: Global,
-    level: usize,
-    c: Cursor<'t, 'a>,
-) -> Result<
-    (
-        (
-            Option<Punctuated<WherePredicate<'a>>>,
-            Punctuated<Variant<'a>>,
-        ),
-        Cursor<'t, 'a>,
-    ),
-    Error,
->
-    requires here { sound c }
-    requires fits { level < 200 }
-    ensures reads { Reads views.enum_view ((spec.read_where parts (place level c.entry) and spec.read_variants parts (place level c.entry)) (left c.entry)) result }
-    ensures place { IfOk result (λ r. IsPlaceAfter c.entry r.1) }
-{
-    let (clause, behind) = where_clause(alloc, level, c)?;
-    let (found, rest) = variants(alloc, level, behind)?;
-    Ok(((clause, found), rest))
-}
-
-/// The generics of an enum, and what stands behind them.
-fn enum_generics<'t, 'a>(
-    alloc: Global,
-    level: usize,
-    c: Cursor<'t, 'a>,
-) -> Result<
-    (
-        (
-            (bool, Punctuated<GenericParam<'a>>),
-            (
-                Option<Punctuated<WherePredicate<'a>>>,
-                Punctuated<Variant<'a>>,
-            ),
-        ),
-        Cursor<'t, 'a>,
-    ),
-    Error,
->
-    requires here { sound c }
-    requires fits { level < 200 }
-    ensures reads { Reads (both_views views.angled_view views.enum_view) ((spec.read_generics parts (place level c.entry) and (spec.read_where parts (place level c.entry) and spec.read_variants parts (place level c.entry))) (left c.entry)) result }
-    ensures place { IfOk result (λ r. IsPlaceAfter c.entry r.1) }
-{
-    let (found, behind) = generics(alloc, level, c)?;
-    let (held, rest) = enum_body(alloc, level, behind)?;
-    Ok(((found, held), rest))
-}
-
-/// The name of an enum, and what stands behind it.
-fn enum_named<'t, 'a>(
-    alloc: Global,
-    level: usize,
-    c: Cursor<'t, 'a>,
-) -> Result<
-    (
-        (
-            Ident<'a>,
-            (
-                (bool, Punctuated<GenericParam<'a>>),
-                (
-                    Option<Punctuated<WherePredicate<'a>>>,
-                    Punctuated<Variant<'a>>,
-                ),
-            ),
-        ),
-        Cursor<'t, 'a>,
-    ),
-    Error,
->
-    requires here { sound c }
-    requires fits { level < 200 }
-    ensures reads { Reads (second_view (both_views views.angled_view views.enum_view)) ((spec.read_name (place level c.entry) and (spec.read_generics parts (place level c.entry) and (spec.read_where parts (place level c.entry) and spec.read_variants parts (place level c.entry)))) (left c.entry)) result }
-    ensures place { IfOk result (λ r. IsPlaceAfter c.entry r.1) }
-{
-    let (found, behind) = name(level, c)?;
-    let (held, rest) = enum_generics(alloc, level, behind)?;
-    let ident = found.clone_in(alloc)?;
-    Ok(((ident, held), rest))
 }
 
 /// An enum, its name and its generics.
-fn enum_item<'t, 'a>(
-    alloc: Global,
-    level: usize,
-    c: Cursor<'t, 'a>,
-) -> Result<((Data<'a>, (Ident<'a>, Generics<'a>)), Cursor<'t, 'a>), Error>
-    requires here { sound c }
-    requires fits { level < 200 }
-    ensures reads { Reads views.shaped_view (spec.read_braced parts (codes "enum") (spec.read_variants parts) tree.enum_shape (place level c.entry) (left c.entry)) result }
-    ensures place { IfOk result (λ r. IsPlaceAfter c.entry r.1) }
+fn enum_item<'a>(input: &mut Input<'_, 'a>) -> Result<(Data<'a>, (Ident<'a>, Generics<'a>)), Error>
+    ensures { Reads views.shaped_view (spec.read_braced parts (codes "enum") (spec.read_variants parts) tree.enum_shape) input.old result input.new }
 {
-    let (word, begun) = word_at("enum", level, c)?;
-    let ((ident, ((angled, params), (where_clause, variants))), rest) = enum_named(
-        alloc, level, begun,
+    let rule = BracesRule { item: VariantRule };
+    let (word, (ident, ((angled, params), (where_clause, variants)))) = headed(
+        &rule, "enum", input,
     )?;
     let generics = Generics {
         angled,
         params,
         where_clause,
     };
-    let shape = Data::Enum(DataEnum { word, variants });
-    Ok(((shape, (ident, generics)), rest))
-}
-
-/// The `where` clause of a union, and its braces.
-fn union_body<'t, 'a>(
-    alloc: Global,
-    level: usize,
-    c: Cursor<'t, 'a>,
-) -> Result<
-    (
-        (
-            Option<Punctuated<WherePredicate<'a>>>,
-            Punctuated<Field<'a>>,
-        ),
-        Cursor<'t, 'a>,
-    ),
-    Error,
->
-    requires here { sound c }
-    requires fits { level < 200 }
-    ensures reads { Reads views.union_view ((spec.read_where parts (place level c.entry) and spec.read_fields parts (place level c.entry)) (left c.entry)) result }
-    ensures place { IfOk result (λ r. IsPlaceAfter c.entry r.1) }
-{
-    let (clause, behind) = where_clause(alloc, level, c)?;
-    let (found, rest) = fields(alloc, level, behind)?;
-    Ok(((clause, found), rest))
-}
-
-/// The generics of a union, and what stands behind them.
-fn union_generics<'t, 'a>(
-    alloc: Global,
-    level: usize,
-    c: Cursor<'t, 'a>,
-) -> Result<
-    (
-        (
-            (bool, Punctuated<GenericParam<'a>>),
-            (
-                Option<Punctuated<WherePredicate<'a>>>,
-                Punctuated<Field<'a>>,
-            ),
-        ),
-        Cursor<'t, 'a>,
-    ),
-    Error,
->
-    requires here { sound c }
-    requires fits { level < 200 }
-    ensures reads { Reads (both_views views.angled_view views.union_view) ((spec.read_generics parts (place level c.entry) and (spec.read_where parts (place level c.entry) and spec.read_fields parts (place level c.entry))) (left c.entry)) result }
-    ensures place { IfOk result (λ r. IsPlaceAfter c.entry r.1) }
-{
-    let (found, behind) = generics(alloc, level, c)?;
-    let (held, rest) = union_body(alloc, level, behind)?;
-    Ok(((found, held), rest))
-}
-
-/// The name of a union, and what stands behind it.
-fn union_named<'t, 'a>(
-    alloc: Global,
-    level: usize,
-    c: Cursor<'t, 'a>,
-) -> Result<
-    (
-        (
-            Ident<'a>,
-            (
-                (bool, Punctuated<GenericParam<'a>>),
-                (
-                    Option<Punctuated<WherePredicate<'a>>>,
-                    Punctuated<Field<'a>>,
-                ),
-            ),
-        ),
-        Cursor<'t, 'a>,
-    ),
-    Error,
->
-    requires here { sound c }
-    requires fits { level < 200 }
-    ensures reads { Reads (second_view (both_views views.angled_view views.union_view)) ((spec.read_name (place level c.entry) and (spec.read_generics parts (place level c.entry) and (spec.read_where parts (place level c.entry) and spec.read_fields parts (place level c.entry)))) (left c.entry)) result }
-    ensures place { IfOk result (λ r. IsPlaceAfter c.entry r.1) }
-{
-    let (found, behind) = name(level, c)?;
-    let (held, rest) = union_generics(alloc, level, behind)?;
-    let ident = found.clone_in(alloc)?;
-    Ok(((ident, held), rest))
+    Ok((Data::Enum(DataEnum { word, variants }), (ident, generics)))
 }
 
 /// A union, its name and its generics.
-fn union_item<'t, 'a>(
-    alloc: Global,
-    level: usize,
-    c: Cursor<'t, 'a>,
-) -> Result<((Data<'a>, (Ident<'a>, Generics<'a>)), Cursor<'t, 'a>), Error>
-    requires here { sound c }
-    requires fits { level < 200 }
-    ensures reads { Reads views.shaped_view (spec.read_braced parts (codes "union") (spec.read_fields parts) tree.union_shape (place level c.entry) (left c.entry)) result }
-    ensures place { IfOk result (λ r. IsPlaceAfter c.entry r.1) }
+fn union_item<'a>(input: &mut Input<'_, 'a>) -> Result<(Data<'a>, (Ident<'a>, Generics<'a>)), Error>
+    ensures { Reads views.shaped_view (spec.read_braced parts (codes "union") (spec.read_fields parts) tree.union_shape) input.old result input.new }
 {
-    let (word, begun) = word_at("union", level, c)?;
-    let ((ident, ((angled, params), (where_clause, fields))), rest) = union_named(
-        alloc, level, begun,
+    let rule = BracesRule { item: FieldRule };
+    let (word, (ident, ((angled, params), (where_clause, fields)))) = headed(
+        &rule, "union", input,
     )?;
     let generics = Generics {
         angled,
         params,
         where_clause,
     };
-    let shape = Data::Union(DataUnion { word, fields });
-    Ok(((shape, (ident, generics)), rest))
+    Ok((Data::Union(DataUnion { word, fields }), (ident, generics)))
 }
 
-/// A struct, an enum or a union.
-pub fn shape<'t, 'a>(
-    alloc: Global,
-    level: usize,
-    c: Cursor<'t, 'a>,
-) -> Result<((Data<'a>, (Ident<'a>, Generics<'a>)), Cursor<'t, 'a>), Error>
-    requires here { sound c }
-    requires fits { level < 200 }
-    ensures reads { Reads views.shaped_view (spec.read_shape parts (place level c.entry) (left c.entry)) result }
-    ensures place { IfOk result (λ r. IsPlaceAfter c.entry r.1) }
+/// Fields in braces, or `;`.
+fn named_or_unit<'a>(input: &mut Input<'_, 'a>) -> Result<Fields<'a>, Error>
+    ensures { Reads tree.fields_view (spec.read_named_or_unit parts) input.old result input.new }
 {
-    if sees_word("struct", c) {
-        struct_item(alloc, level, c)
-    } else if sees_word("enum", c) {
-        enum_item(alloc, level, c)
-    } else {
-        union_item(alloc, level, c)
+    if input.sees_group(Delim::Brace) {
+        return Ok(Fields::Named(fields(input)?));
+    }
+    input.punct(';')?;
+    Ok(Fields::Unit)
+}
+
+/// A `where` clause where one comes next, and the `;` behind it.
+fn ended_where<'a>(
+    input: &mut Input<'_, 'a>,
+) -> Result<Option<Punctuated<WherePredicate<'a>>>, Error>
+    ensures { Reads views.clause_view rules.read_ended_where input.old result input.new }
+{
+    let found = where_clause(input)?;
+    ended(found, input.punct(';'))
+}
+
+/// The fields of a struct in parentheses, and what stands behind them.
+fn slots_body<'a>(
+    input: &mut Input<'_, 'a>,
+) -> Result<
+    (
+        Punctuated<Field<'a>>,
+        Option<Punctuated<WherePredicate<'a>>>,
+    ),
+    Error,
+>
+    ensures { Reads (both_views (tree.listed tree.field_view) views.clause_view) rules.read_slots_body input.old result input.new }
+{
+    let found = slots(input)?;
+    joined(found, ended_where(input))
+}
+
+/// A `where` clause where one comes next, and the fields in braces or `;`.
+fn other_body<'a>(
+    input: &mut Input<'_, 'a>,
+) -> Result<(Option<Punctuated<WherePredicate<'a>>>, Fields<'a>), Error>
+    ensures { Reads (both_views views.clause_view tree.fields_view) rules.read_other_body input.old result input.new }
+{
+    let clause = where_clause(input)?;
+    joined(clause, named_or_unit(input))
+}
+
+/// What follows the generics of a struct.
+#[derive(Clone, Copy)]
+struct StructBody;
+
+impl<'a> Rule<'a> for StructBody {
+    ghost use Rattle.std.specs.Prelude.{Option};
+    ghost use Rattle.dm_ast.specs.Declarations.{Listed, FieldsTree, PredicateTree};
+    ghost use Rattle.dm_read.specs.DeclarationReaders as spec;
+    ghost use Rattle.dm_read_types.specs.WholeReaders.{parts};
+    ghost use Rattle.dm_read_decl.specs.ShapeViews.{struct_view};
+
+    type Part = (Fields<'a>, Option<Punctuated<WherePredicate<'a>>>);
+
+    ghost Tree = { FieldsTree × Option (Listed PredicateTree) };
+
+    ghost view = { struct_view };
+
+    ghost usable = { λ _. Unit {0} };
+
+    ghost reader = { λ _ w. spec.read_struct_body parts w };
+
+    fn read(
+        &self,
+        input: &mut Input<'_, 'a>,
+    ) -> Result<(Fields<'a>, Option<Punctuated<WherePredicate<'a>>>), Error> {
+        if input.sees_group(Delim::Paren) {
+            let (found, clause) = slots_body(input)?;
+            return Ok((Fields::Unnamed(found), clause));
+        }
+        let (clause, found) = other_body(input)?;
+        Ok((found, clause))
+    }
+}
+
+/// A struct, its name and its generics.
+fn struct_item<'a>(
+    input: &mut Input<'_, 'a>,
+) -> Result<(Data<'a>, (Ident<'a>, Generics<'a>)), Error>
+    ensures { Reads views.shaped_view (spec.read_struct parts) input.old result input.new }
+{
+    let (word, (ident, ((angled, params), (fields, where_clause)))) = headed(
+        &StructBody,
+        "struct",
+        input,
+    )?;
+    let generics = Generics {
+        angled,
+        params,
+        where_clause,
+    };
+    Ok((Data::Struct(DataStruct { word, fields }), (ident, generics)))
+}
+
+/// A struct, an enum or a union, its name and its generics.
+fn shape<'a>(input: &mut Input<'_, 'a>) -> Result<(Data<'a>, (Ident<'a>, Generics<'a>)), Error>
+    ensures { Reads views.shaped_view (spec.read_shape parts) input.old result input.new }
+{
+    if input.sees_word("struct") {
+        return struct_item(input);
+    }
+    if input.sees_word("enum") {
+        return enum_item(input);
+    }
+    union_item(input)
+}
+
+/// Structs, enums and unions.
+#[derive(Clone, Copy)]
+pub struct ShapeRule;
+
+impl<'a> Rule<'a> for ShapeRule {
+    ghost use Rattle.dm_read.specs.DeclarationReaders as spec;
+    ghost use Rattle.dm_read.specs.DeclarationReaders.{Shaped};
+    ghost use Rattle.dm_read_types.specs.WholeReaders.{parts};
+    ghost use Rattle.dm_read_decl.specs.ShapeViews.{shaped_view};
+
+    type Part = (Data<'a>, (Ident<'a>, Generics<'a>));
+
+    ghost Tree = { Shaped };
+
+    ghost view = { shaped_view };
+
+    ghost usable = { λ _. Unit {0} };
+
+    ghost reader = { λ _ w. spec.read_shape parts w };
+
+    fn read(
+        &self,
+        input: &mut Input<'_, 'a>,
+    ) -> Result<(Data<'a>, (Ident<'a>, Generics<'a>)), Error> {
+        shape(input)
     }
 }

@@ -1,7 +1,9 @@
-//! Reading a declaration by its grammar.
+//! Reading a declaration by the grammar of docs/FORMATS.md, "Read" (Rust Reference, "Structs", "Enumerations", "Unions", "Generic
+//! parameters").
 #![tactic(auto)]
 
 pub mod field;
+pub mod forms;
 pub mod generics;
 pub mod item;
 pub mod param;

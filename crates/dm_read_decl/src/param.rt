@@ -1,242 +1,230 @@
 //! Generic parameters.
 #![tactic(auto)]
 
-ghost use Rattle.std.specs.Prelude.{◌<◌, IfOk, codes, option_map};
-ghost use Rattle.dm_stream.specs.Cursors.{left, sound, IsPlaceAfter};
+ghost use Rattle.std.specs.Prelude.{option_map};
 ghost use Rattle.dm_ast.specs.Tree.{ty_view, bound_view};
-ghost use Rattle.dm_ast.specs.Spelling.{sees, sees_colon as colon_seen, sees_equals as equals_seen};
 ghost use Rattle.dm_ast.specs.Declarations as tree;
 ghost use Rattle.dm_read.specs.DeclarationReaders as spec;
 ghost use Rattle.dm_read_types.specs.WholeReaders.{parts};
-ghost use Rattle.dm_ast.specs.Readers.{place, Reads, ◌and◌, ◌next◌, read_colon, read_equals, read_perhaps};
+ghost use Rattle.dm_read_decl.specs.Rules as rules;
+ghost use Rattle.dm_read_decl.specs.ShapeViews.{second_view, value_view, bounds_default_view};
+ghost use Rattle.dm_input.specs.Inputs.{Reads};
 
 use dm_ast::{Attribute, Bound, ConstArg, ConstParam, GenericParam, LifetimeParam, Ty, TyParam};
-use dm_read::constants::constant;
-use dm_read::lifetimes::lifetime_bounds;
-use dm_read::parts::attributes;
-use dm_read::token::{
-    colon, equals, lifetime, sees_colon, sees_equals, sees_lifetime, sees_word, word,
-};
-use dm_read::words::name;
+use dm_input::Input;
+use dm_input::join::joined;
+use dm_input::list::Rule;
 use dm_read_types::entry::{bounds, ty};
-use dm_stream::{Cursor, Error, Ident, Lifetime, Punctuated, Seq};
-use std::alloc::Global;
+use dm_stream::{Error, Ident, Lifetime, Punctuated, Seq};
 
 /// `:` and the bounds of a lifetime.
-fn some_outlived<'t, 'a>(
-    alloc: Global,
-    level: usize,
-    c: Cursor<'t, 'a>,
-) -> Result<(Punctuated<Lifetime<'a>>, Cursor<'t, 'a>), Error>
-    requires { sound c }
-    ensures reads { Reads (λ v. v) ((read_colon (place level c.entry) next spec.read_lifetime_bounds (place level c.entry)) (left c.entry)) result }
-    ensures place { IfOk result (λ r. IsPlaceAfter c.entry r.1) }
+pub fn some_outlived<'a>(input: &mut Input<'_, 'a>) -> Result<Punctuated<Lifetime<'a>>, Error>
+    ensures { Reads (λ v. v) rules.read_some_outlived input.old result input.new }
 {
-    let behind = colon(level, c)?;
-    lifetime_bounds(alloc, level, behind)
+    input.colon()?;
+    input.lifetime_bounds()
 }
 
 /// The bounds of a lifetime where `:` comes next.
-fn outlived<'t, 'a>(
-    alloc: Global,
-    level: usize,
-    c: Cursor<'t, 'a>,
-) -> Result<(Option<Punctuated<Lifetime<'a>>>, Cursor<'t, 'a>), Error>
-    requires { sound c }
-    ensures reads { Reads (λ v. v) (read_perhaps colon_seen (read_colon (place level c.entry) next spec.read_lifetime_bounds (place level c.entry)) (left c.entry)) result }
-    ensures place { IfOk result (λ r. IsPlaceAfter c.entry r.1) }
+fn outlived<'a>(input: &mut Input<'_, 'a>) -> Result<Option<Punctuated<Lifetime<'a>>>, Error>
+    ensures { Reads (λ v. v) rules.read_outlived input.old result input.new }
 {
-    if !sees_colon(c) {
-        return Ok((None, c));
+    if !input.sees_colon() {
+        return Ok(None);
     }
-    let (found, rest) = some_outlived(alloc, level, c)?;
-    Ok((Some(found), rest))
+    Ok(Some(some_outlived(input)?))
+}
+
+/// A lifetime and its bounds.
+fn lifetime_parts<'a>(
+    input: &mut Input<'_, 'a>,
+) -> Result<(Lifetime<'a>, Option<Punctuated<Lifetime<'a>>>), Error>
+    ensures { Reads (λ v. v) rules.read_lifetime_parts input.old result input.new }
+{
+    let lifetime = input.lifetime()?;
+    joined(lifetime, outlived(input))
 }
 
 /// A lifetime parameter behind its attributes.
-fn lifetime_param<'t, 'a>(
-    alloc: Global,
+fn lifetime_param<'a>(
     attrs: Seq<Attribute<'a>>,
-    level: usize,
-    c: Cursor<'t, 'a>,
-) -> Result<(GenericParam<'a>, Cursor<'t, 'a>), Error>
-    requires { sound c }
-    ensures reads { Reads tree.param_view (spec.read_lifetime_param parts attrs.entry (place level c.entry) (left c.entry)) result }
-    ensures place { IfOk result (λ r. IsPlaceAfter c.entry r.1) }
+    input: &mut Input<'_, 'a>,
+) -> Result<GenericParam<'a>, Error>
+    ensures { Reads tree.param_view (spec.read_lifetime_param parts attrs.entry) input.old result input.new }
 {
-    let (found, behind) = lifetime(level, c)?;
-    let (bounds, rest) = outlived(alloc, level, behind)?;
-    let lifetime = found.clone_in(alloc)?;
-    Ok((
-        GenericParam::Lifetime(LifetimeParam {
-            attrs,
-            lifetime,
-            bounds,
-        }),
-        rest,
-    ))
+    let (attrs, (lifetime, bounds)) = joined(attrs, lifetime_parts(input))?;
+    Ok(GenericParam::Lifetime(LifetimeParam {
+        attrs,
+        lifetime,
+        bounds,
+    }))
 }
 
 /// The value of a constant parameter where `=` comes next.
-fn default_value<'t, 'a>(
-    alloc: Global,
-    level: usize,
-    c: Cursor<'t, 'a>,
-) -> Result<(Option<ConstArg<'a>>, Cursor<'t, 'a>), Error>
-    requires here { sound c }
-    requires fits { level < 400 }
-    ensures reads { Reads (λ v. v) (read_perhaps equals_seen (read_equals (place level c.entry) next parts.constant (place level c.entry)) (left c.entry)) result }
-    ensures place { IfOk result (λ r. IsPlaceAfter c.entry r.1) }
+fn default_value<'a>(input: &mut Input<'_, 'a>) -> Result<Option<ConstArg<'a>>, Error>
+    ensures { Reads (λ v. v) rules.read_value input.old result input.new }
 {
-    if !sees_equals(c) {
-        return Ok((None, c));
+    if !input.sees_equals() {
+        return Ok(None);
     }
-    let behind = equals(level, c)?;
-    let (found, rest) = constant(alloc, level, behind)?;
-    Ok((Some(found), rest))
+    input.equals()?;
+    Ok(Some(input.constant()?))
 }
 
 /// The type of a constant parameter, and its value.
-fn typed_value<'t, 'a>(
-    alloc: Global,
-    level: usize,
-    c: Cursor<'t, 'a>,
-) -> Result<((Ty<'a>, Option<ConstArg<'a>>), Cursor<'t, 'a>), Error>
-    requires here { sound c }
-    requires fits { level < 400 }
-    ensures reads { Reads (λ v. (ty_view v.0, v.1)) ((read_colon (place level c.entry) next (parts.types (place level c.entry) and read_perhaps equals_seen (read_equals (place level c.entry) next parts.constant (place level c.entry)))) (left c.entry)) result }
-    ensures place { IfOk result (λ r. IsPlaceAfter c.entry r.1) }
+fn type_value<'a>(input: &mut Input<'_, 'a>) -> Result<(Ty<'a>, Option<ConstArg<'a>>), Error>
+    ensures { Reads value_view rules.read_type_value input.old result input.new }
 {
-    let begun = colon(level, c)?;
-    let (found, behind) = ty(alloc, level, begun)?;
-    let (value, rest) = default_value(alloc, level, behind)?;
-    Ok(((found, value), rest))
+    let found = ty(input)?;
+    joined(found, default_value(input))
+}
+
+/// `:`, the type of a constant parameter, and its value.
+fn typed_value<'a>(input: &mut Input<'_, 'a>) -> Result<(Ty<'a>, Option<ConstArg<'a>>), Error>
+    ensures { Reads value_view rules.read_typed_value input.old result input.new }
+{
+    input.colon()?;
+    type_value(input)
+}
+
+/// A name, its type, and its value.
+fn named_value<'a>(
+    input: &mut Input<'_, 'a>,
+) -> Result<(Ident<'a>, (Ty<'a>, Option<ConstArg<'a>>)), Error>
+    ensures { Reads (second_view value_view) rules.read_named_value input.old result input.new }
+{
+    let name = input.name()?;
+    joined(name, typed_value(input))
+}
+
+/// `const`, a name, its type, and its value.
+fn const_parts<'a>(
+    input: &mut Input<'_, 'a>,
+) -> Result<(Ident<'a>, (Ty<'a>, Option<ConstArg<'a>>)), Error>
+    ensures { Reads (second_view value_view) rules.read_const_parts input.old result input.new }
+{
+    input.word("const")?;
+    named_value(input)
 }
 
 /// A constant parameter behind its attributes.
-fn const_param<'t, 'a>(
-    alloc: Global,
+fn const_param<'a>(
     attrs: Seq<Attribute<'a>>,
-    level: usize,
-    c: Cursor<'t, 'a>,
-) -> Result<(GenericParam<'a>, Cursor<'t, 'a>), Error>
-    requires here { sound c }
-    requires fits { level < 400 }
-    ensures reads { Reads tree.param_view (spec.read_const_param parts attrs.entry (place level c.entry) (left c.entry)) result }
-    ensures place { IfOk result (λ r. IsPlaceAfter c.entry r.1) }
+    input: &mut Input<'_, 'a>,
+) -> Result<GenericParam<'a>, Error>
+    ensures { Reads tree.param_view (spec.read_const_param parts attrs.entry) input.old result input.new }
 {
-    let begun = word("const", level, c)?;
-    let (found, behind) = name(level, begun)?;
-    let ((ty, default_value), rest) = typed_value(alloc, level, behind)?;
-    let ident = found.clone_in(alloc)?;
-    Ok((
-        GenericParam::Const(ConstParam {
-            attrs,
-            ident,
-            ty,
-            default_value,
-        }),
-        rest,
-    ))
+    let (attrs, (ident, (ty, default_value))) = joined(attrs, const_parts(input))?;
+    Ok(GenericParam::Const(ConstParam {
+        attrs,
+        ident,
+        ty,
+        default_value,
+    }))
+}
+
+/// `:` and bounds.
+pub fn some_bounds<'a>(input: &mut Input<'_, 'a>) -> Result<Punctuated<Bound<'a>>, Error>
+    ensures { Reads (tree.listed bound_view) rules.read_some_bounds input.old result input.new }
+{
+    input.colon()?;
+    bounds(input)
 }
 
 /// The bounds of a type parameter where `:` comes next.
-fn bounded<'t, 'a>(
-    alloc: Global,
-    level: usize,
-    c: Cursor<'t, 'a>,
-) -> Result<(Option<Punctuated<Bound<'a>>>, Cursor<'t, 'a>), Error>
-    requires here { sound c }
-    requires fits { level < 400 }
-    ensures reads { Reads (option_map (tree.listed bound_view)) (read_perhaps colon_seen (read_colon (place level c.entry) next parts.bounds (place level c.entry)) (left c.entry)) result }
-    ensures place { IfOk result (λ r. IsPlaceAfter c.entry r.1) }
+fn maybe_bounds<'a>(input: &mut Input<'_, 'a>) -> Result<Option<Punctuated<Bound<'a>>>, Error>
+    ensures { Reads (option_map (tree.listed bound_view)) rules.read_bounds input.old result input.new }
 {
-    if !sees_colon(c) {
-        return Ok((None, c));
+    if !input.sees_colon() {
+        return Ok(None);
     }
-    let behind = colon(level, c)?;
-    let (found, rest) = bounds(alloc, level, behind)?;
-    Ok((Some(found), rest))
+    Ok(Some(some_bounds(input)?))
 }
 
-/// The default of a type parameter where `=` comes next.
-fn default_type<'t, 'a>(
-    alloc: Global,
-    level: usize,
-    c: Cursor<'t, 'a>,
-) -> Result<(Option<Ty<'a>>, Cursor<'t, 'a>), Error>
-    requires here { sound c }
-    requires fits { level < 400 }
-    ensures reads { Reads (option_map ty_view) (read_perhaps equals_seen (read_equals (place level c.entry) next parts.types (place level c.entry)) (left c.entry)) result }
-    ensures place { IfOk result (λ r. IsPlaceAfter c.entry r.1) }
+/// The type that a type parameter stands for by itself, where `=` comes next.
+fn default_type<'a>(input: &mut Input<'_, 'a>) -> Result<Option<Ty<'a>>, Error>
+    ensures { Reads (option_map ty_view) rules.read_default input.old result input.new }
 {
-    if !sees_equals(c) {
-        return Ok((None, c));
+    if !input.sees_equals() {
+        return Ok(None);
     }
-    let behind = equals(level, c)?;
-    let (found, rest) = ty(alloc, level, behind)?;
-    Ok((Some(found), rest))
+    input.equals()?;
+    Ok(Some(ty(input)?))
+}
+
+/// The bounds of a type parameter, and the type that it stands for by itself.
+fn bounds_default<'a>(
+    input: &mut Input<'_, 'a>,
+) -> Result<(Option<Punctuated<Bound<'a>>>, Option<Ty<'a>>), Error>
+    ensures { Reads bounds_default_view rules.read_bounds_default input.old result input.new }
+{
+    let bounds = maybe_bounds(input)?;
+    joined(bounds, default_type(input))
+}
+
+/// A name, bounds, and the type that the parameter stands for by itself.
+fn type_parts<'a>(
+    input: &mut Input<'_, 'a>,
+) -> Result<(Ident<'a>, (Option<Punctuated<Bound<'a>>>, Option<Ty<'a>>)), Error>
+    ensures { Reads (second_view bounds_default_view) rules.read_type_parts input.old result input.new }
+{
+    let name = input.name()?;
+    joined(name, bounds_default(input))
 }
 
 /// A type parameter behind its attributes.
-fn type_param<'t, 'a>(
-    alloc: Global,
+fn type_param<'a>(
     attrs: Seq<Attribute<'a>>,
-    level: usize,
-    c: Cursor<'t, 'a>,
-) -> Result<(GenericParam<'a>, Cursor<'t, 'a>), Error>
-    requires here { sound c }
-    requires fits { level < 400 }
-    ensures reads { Reads tree.param_view (spec.read_type_param parts attrs.entry (place level c.entry) (left c.entry)) result }
-    ensures place { IfOk result (λ r. IsPlaceAfter c.entry r.1) }
+    input: &mut Input<'_, 'a>,
+) -> Result<GenericParam<'a>, Error>
+    ensures { Reads tree.param_view (spec.read_type_param parts attrs.entry) input.old result input.new }
 {
-    let (found, begun) = name(level, c)?;
-    let (bounds, behind) = bounded(alloc, level, begun)?;
-    let (default_ty, rest) = default_type(alloc, level, behind)?;
-    let ident = found.clone_in(alloc)?;
-    Ok((
-        GenericParam::Ty(TyParam {
-            attrs,
-            ident,
-            bounds,
-            default_ty,
-        }),
-        rest,
-    ))
+    let (attrs, (ident, (bounds, default_ty))) = joined(attrs, type_parts(input))?;
+    Ok(GenericParam::Ty(TyParam {
+        attrs,
+        ident,
+        bounds,
+        default_ty,
+    }))
 }
 
 /// A parameter behind its attributes.
-fn param_behind<'t, 'a>(
-    alloc: Global,
+fn param_behind<'a>(
     attrs: Seq<Attribute<'a>>,
-    level: usize,
-    c: Cursor<'t, 'a>,
-) -> Result<(GenericParam<'a>, Cursor<'t, 'a>), Error>
-    requires here { sound c }
-    requires fits { level < 400 }
-    ensures reads { Reads tree.param_view (spec.read_param_behind parts attrs.entry (place level c.entry) (left c.entry)) result }
-    ensures place { IfOk result (λ r. IsPlaceAfter c.entry r.1) }
+    input: &mut Input<'_, 'a>,
+) -> Result<GenericParam<'a>, Error>
+    ensures { Reads tree.param_view (spec.read_param_behind parts attrs.entry) input.old result input.new }
 {
-    if sees_lifetime(c) {
-        lifetime_param(alloc, attrs, level, c)
-    } else if sees_word("const", c) {
-        const_param(alloc, attrs, level, c)
-    } else {
-        type_param(alloc, attrs, level, c)
+    if input.sees_lifetime() {
+        return lifetime_param(attrs, input);
     }
+    if input.sees_word("const") {
+        return const_param(attrs, input);
+    }
+    type_param(attrs, input)
 }
 
-/// A parameter.
-pub fn param<'t, 'a>(
-    alloc: Global,
-    level: usize,
-    c: Cursor<'t, 'a>,
-) -> Result<(GenericParam<'a>, Cursor<'t, 'a>), Error>
-    requires here { sound c }
-    requires fits { level < 400 }
-    ensures reads { Reads tree.param_view (spec.read_param parts (place level c.entry) (left c.entry)) result }
-    ensures place { IfOk result (λ r. IsPlaceAfter c.entry r.1) }
-{
-    let (attrs, behind) = attributes(alloc, level, c)?;
-    param_behind(alloc, attrs, level, behind)
+/// Parameters.
+#[derive(Clone, Copy)]
+pub struct ParamRule;
+
+impl<'a> Rule<'a> for ParamRule {
+    ghost use Rattle.dm_ast.specs.Declarations.{ParamTree, param_view};
+    ghost use Rattle.dm_read.specs.DeclarationReaders as spec;
+    ghost use Rattle.dm_read_types.specs.WholeReaders.{parts};
+
+    type Part = GenericParam<'a>;
+
+    ghost Tree = { ParamTree };
+
+    ghost view = { param_view };
+
+    ghost usable = { λ _. Unit {0} };
+
+    ghost reader = { λ _ w. spec.read_param parts w };
+
+    fn read(&self, input: &mut Input<'_, 'a>) -> Result<GenericParam<'a>, Error> {
+        let attrs = input.attributes()?;
+        param_behind(attrs, input)
+    }
 }

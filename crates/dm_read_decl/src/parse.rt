@@ -10,8 +10,8 @@ use dm_ast::DeriveInput;
 use dm_stream::{Error, TokenStream};
 use std::alloc::Global;
 
-/// The one declaration with these tokens: a struct, an enum or a union as in the Rust Reference, without unnamed fields,
-/// trait objects without `dyn`, and the bounds `use<..>` and `~const`.
+/// The one declaration with these tokens, by the grammar of docs/FORMATS.md, "Read": a struct, an enum or a union as in the Rust
+/// Reference, without unnamed fields, trait objects without `dyn`, and the bounds `use<..>` and `~const`.
 ///
 /// Where a token stands at a level over 128 it refuses with `Kind::TooDeep` at the first such token. The level is the number of
 /// groups and `<..>` around the token, of types `&`, `*`, `fn`, `dyn` and `impl` in whose part behind that word or punct it stands,

@@ -1,6 +1,7 @@
 -- Bare paths: paths none of whose own segments has a list in parentheses. So a group in parentheses may follow one. The types between
 -- its `<` and `>` are as free as elsewhere.
 use Rattle.std.specs.Prelude.{◌≡◌, Bool, false, if◌then◌else◌, ◌||◌, List, Ok}
+use Rattle.dm_stream.specs.declared.tokens.Ident.{Ident}
 use Rattle.dm_stream.specs.Trees.{Trees}
 use Rattle.dm_read_types.specs.declared.kind.Mode.{Mode}
 use Rattle.dm_ast.specs.Tree.{TypeTree, PathTree, path_tree, SegmentTree, segment, SegmentTrees, no_segments, segment_then, segments_of, ArgumentsTree, absent, angle, parens}
@@ -40,11 +41,17 @@ module _ (inner : Mode → Where → Parser TypeTree) where
   abbrev pub read_bare_arguments : Where → Parser ArgumentsTree
   read_bare_arguments w ts = if sees_angled ts then read_angled inner w ts else Ok (absent, ts)
 
+  abbrev pub read_bare_parts : Where → Parser (Ident × ArgumentsTree)
+  read_bare_parts w = read_ident is_path_word w and read_bare_arguments w
+
   abbrev pub read_bare_segment : Where → Parser SegmentTree
-  read_bare_segment w = (read_ident is_path_word w and read_bare_arguments w) gives segment_of
+  read_bare_segment w = read_bare_parts w gives segment_of
 
   abbrev pub read_bare_segments : Where → Parser (List SegmentTree)
   read_bare_segments w = read_chain w (read_colons w) sees_colons (read_bare_segment w)
 
+  abbrev pub read_bare_trees : Where → Parser SegmentTrees
+  read_bare_trees w = read_bare_segments w gives segments_of
+
   abbrev pub read_bare_path : Where → Parser PathTree
-  read_bare_path w = (read_leading w and (read_bare_segments w gives segments_of)) gives path_of
+  read_bare_path w = (read_leading w and read_bare_trees w) gives path_of

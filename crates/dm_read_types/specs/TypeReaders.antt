@@ -129,6 +129,9 @@ type_value b t = assoc_type b.0 b.1 t
 abbrev pub constant_value : Ident × MaybeArguments → ConstArg → ArgumentTree
 constant_value b c = assoc_const b.0 b.1 c
 
+abbrev pub read_constant_value : Ident × MaybeArguments → Where → Parser ArgumentTree
+read_constant_value b w ts = mapped (constant_value b) (read_constant w ts)
+
 abbrev pub constraint_of : Ident × MaybeArguments → BoundTrees × Bool → ArgumentTree
 constraint_of b v = constraint b.0 b.1 v.0 v.1
 
@@ -187,38 +190,130 @@ qualified_by t (Some v) ss = path (some_self t (length v.1)) (path_tree v.0 (seg
 abbrev pub qualified_of : TypeTree × (Option (Bool × List SegmentTree) × List SegmentTree) → TypeNode
 qualified_of v = qualified_by v.0 v.1.0 v.1.1
 
+-- ---- parts of the rules that hold no types
+
+abbrev pub read_keyword : List ℕ → Where → Parser Bool
+read_keyword spelled w = read_flag (sees_word spelled) (read_word spelled w)
+
+abbrev pub read_maybe_lifetime : Where → Parser (Option Lifetime)
+read_maybe_lifetime w = read_perhaps sees_lifetime (read_lifetime w)
+
+abbrev pub read_maybe_literal : Where → Parser (Option Literal)
+read_maybe_literal w = read_perhaps sees_literal (read_literal w)
+
+-- `; LENGTH`
+abbrev pub read_some_length : Where → Parser Opaque
+read_some_length w = read_punct 59 w next read_opaque w
+
+abbrev pub read_maybe_length : Where → Parser (Option Opaque)
+read_maybe_length w = read_perhaps (sees 59) (read_some_length w)
+
+-- `extern`, perhaps with a literal
+abbrev pub read_some_abi : Where → Parser (Option Literal)
+read_some_abi w = read_word (codes "extern") w next read_maybe_literal w
+
+abbrev pub read_maybe_abi : Where → Parser (Option (Option Literal))
+read_maybe_abi w = read_perhaps (sees_word (codes "extern")) (read_some_abi w)
+
+-- a name of a parameter and `:`
+abbrev pub read_label : Where → Parser Ident
+read_label w = read_ident is_input_name w till read_colon w
+
+-- `!` and a group
+abbrev pub read_behind_bang : Where → Parser (Delim × Stream)
+read_behind_bang w = read_punct 33 w next read_kept w
+
+abbrev pub read_call_parts : Where → Parser (PlainPath × (Delim × Stream))
+read_call_parts w = read_plain w and read_behind_bang w
+
+abbrev pub read_macro_type : Where → Parser TypeNode
+read_macro_type w = read_call_parts w gives call_of
+
+abbrev pub read_infer : Where → Parser TypeNode
+read_infer w = read_word (codes "_") w gives infer_of
+
+abbrev pub read_never : Where → Parser TypeNode
+read_never w = read_punct 33 w gives never_of
+
+-- `?` before a bound
+abbrev pub read_question : Where → Parser Bool
+read_question w = read_flag (sees 63) (read_punct 63 w)
+
 -- ---- the rules. `inner` reads the types in them, at deeper levels; its truth value says whether a `dyn` or an `impl` has one bound.
 
 module _ (inner : Mode → Where → Parser TypeTree) where
   abbrev pub read_types : Where → Parser (TypeTrees × Bool)
   read_types v = read_list v 44 at_end (inner Whole v) gives types_pair
 
+  -- a type whose tokens stand one level deeper
+  abbrev pub read_deep : Mode → Where → Parser TypeTree
+  read_deep mode w = inner mode (deeper w)
+
+  abbrev pub read_enclosed : Where → Parser (TypeTrees × Bool)
+  read_enclosed w = read_group Paren read_types w
+
   -- `-> T`
   abbrev pub read_output : Where → Where → Parser MaybeType
   read_output w deep = read_perhaps sees_arrow (read_arrow w next inner Single deep) gives maybe_type
 
-  abbrev pub read_round : Where → Parser TypeNode
-  read_round w = read_group Paren read_types w gives round_of
+  abbrev pub read_behind_arrow : Where → Parser TypeTree
+  read_behind_arrow w = read_arrow w next inner Single w
 
-  -- `; LENGTH`
+  abbrev pub read_output_here : Where → Parser MaybeType
+  read_output_here w = read_output w w
+
+  abbrev pub read_deep_behind_arrow : Where → Parser TypeTree
+  read_deep_behind_arrow w = read_arrow w next read_deep Single w
+
+  abbrev pub read_deep_output : Where → Parser MaybeType
+  read_deep_output w = read_output w (deeper w)
+
+  abbrev pub read_round : Where → Parser TypeNode
+  read_round w = read_enclosed w gives round_of
+
   abbrev pub read_length : Where → Parser (Option Opaque)
-  read_length v = read_perhaps (sees 59) (read_punct 59 v next read_opaque v)
+  read_length v = read_maybe_length v
+
+  abbrev pub square_inside : Where → Parser (TypeTree × Option Opaque)
+  square_inside v = inner Whole v and read_length v
+
+  abbrev pub read_bracketed : Where → Parser (TypeTree × Option Opaque)
+  read_bracketed w = read_group Bracket square_inside w
 
   abbrev pub read_square : Where → Parser TypeNode
-  read_square w = read_group Bracket (λ v. inner Whole v and read_length v) w gives square_of
+  read_square w = read_bracketed w gives square_of
+
+  -- a type, perhaps behind `mut`
+  abbrev pub read_mutable : Where → Parser (Bool × TypeTree)
+  read_mutable w = read_keyword (codes "mut") w and inner Single w
+
+  abbrev pub read_referred : Where → Parser (Option Lifetime × (Bool × TypeTree))
+  read_referred w = read_maybe_lifetime w and read_mutable w
+
+  abbrev pub read_deep_referred : Where → Parser (Option Lifetime × (Bool × TypeTree))
+  read_deep_referred w = read_referred (deeper w)
+
+  abbrev pub read_behind_and : Where → Parser (Option Lifetime × (Bool × TypeTree))
+  read_behind_and w = read_punct 38 w next read_deep_referred w
 
   abbrev pub read_reference : Where → Parser TypeNode
-  read_reference w =
-      (read_punct 38 w next
-      (read_perhaps sees_lifetime (read_lifetime (deeper w)) and
-      (read_flag (sees_word (codes "mut")) (read_word (codes "mut") (deeper w)) and inner Single (deeper w)))) gives reference_of
+  read_reference w = read_behind_and w gives reference_of
+
+  abbrev pub pointed_at : Bool → Where → Parser TypeTree
+  pointed_at true v = read_word (codes "mut") v next inner Single v
+  pointed_at false v = read_word (codes "const") v next inner Single v
 
   abbrev pub pointed : Bool → Where → Parser TypeTree
-  pointed true w = read_word (codes "mut") (deeper w) next inner Single (deeper w)
-  pointed false w = read_word (codes "const") (deeper w) next inner Single (deeper w)
+  pointed is_mut w = pointed_at is_mut (deeper w)
+
+  abbrev pub pointer_at : Bool → Where → Parser TypeNode
+  pointer_at is_mut v ts = mapped (pointer is_mut) (pointed_at is_mut v ts)
+
+  abbrev pub read_pointed_at : Where → Parser TypeNode
+  read_pointed_at v ts = if sees_word (codes "mut") ts then pointer_at true v ts else pointer_at false v ts
 
   abbrev pub read_pointed : Where → Parser TypeNode
-  read_pointed w ts = if sees_word (codes "mut") ts then mapped (pointer true) (pointed true w ts) else mapped (pointer false) (pointed false w ts)
+  read_pointed w = read_pointed_at (deeper w)
 
   abbrev pub read_pointer : Where → Parser TypeNode
   read_pointer w = read_punct 42 w next read_pointed w
@@ -230,102 +325,216 @@ module _ (inner : Mode → Where → Parser TypeTree) where
 
   -- by the reader of their paths
   module _ (bound_path : Where → Parser PathTree) where
+    abbrev pub read_bound_path : Where → Parser (Lifetimes × PathTree)
+    read_bound_path v = read_for v and bound_path v
+
     abbrev pub read_plain_trait : Where → Parser (Bool × (Lifetimes × PathTree))
-    read_plain_trait v = read_flag (sees 63) (read_punct 63 v) and (read_for v and bound_path v)
+    read_plain_trait v = read_question v and read_bound_path v
+
+    abbrev pub read_enclosed_trait : Where → Parser (Bool × (Lifetimes × PathTree))
+    read_enclosed_trait w = read_group Paren read_plain_trait w
 
     abbrev pub read_trait : Where → Parser TraitBoundTree
-    read_trait w ts = if sees_group Paren ts then mapped (trait_of true) (read_group Paren read_plain_trait w ts) else mapped (trait_of false) (read_plain_trait w ts)
+    read_trait w ts = if sees_group Paren ts then mapped (trait_of true) (read_enclosed_trait w ts) else mapped (trait_of false) (read_plain_trait w ts)
 
     abbrev pub read_bound : Where → Parser BoundTree
     read_bound w ts = if sees_lifetime ts then mapped outlives_of (read_lifetime w ts) else mapped implements_of (read_trait w ts)
 
+    abbrev pub read_bound_list : Where → Parser (List BoundTree × Bool)
+    read_bound_list w = read_list w 43 ends_bounds (read_bound w)
+
     abbrev pub read_bounds : Where → Parser (BoundTrees × Bool)
-    read_bounds w = read_list w 43 ends_bounds (read_bound w) gives bounds_pair
+    read_bounds w = read_bound_list w gives bounds_pair
 
     -- those of a `dyn` or an `impl`
+    abbrev pub read_one_bound : Where → Parser BoundTrees
+    read_one_bound w = read_bound w gives one_bound
+
+    abbrev pub read_all_bounds : Where → Parser BoundTrees
+    read_all_bounds w = read_chain w (read_punct 43 w) (sees 43) (read_bound w) gives bounds_of
+
     abbrev pub read_some_bounds : Bool → Where → Parser BoundTrees
-    read_some_bounds true w = read_bound w gives one_bound
-    read_some_bounds false w = read_chain w (read_punct 43 w) (sees 43) (read_bound w) gives bounds_of
+    read_some_bounds true w = read_one_bound w
+    read_some_bounds false w = read_all_bounds w
 
   -- ---- generic arguments
 
   -- behind `Name =`
+  abbrev pub read_type_value : Ident × MaybeArguments → Where → Parser ArgumentTree
+  read_type_value b w ts = mapped (type_value b) (inner Whole w ts)
+
   abbrev pub read_binding_value : Ident × MaybeArguments → Where → Parser ArgumentTree
-  read_binding_value b w ts =
-      if sees_constant ts then mapped (constant_value b) (read_constant w ts) else mapped (type_value b) (inner Whole w ts)
+  read_binding_value b w ts = if sees_constant ts then read_constant_value b w ts else read_type_value b w ts
+
+  abbrev pub read_behind_equals : Ident × MaybeArguments → Where → Parser ArgumentTree
+  read_behind_equals b w = read_equals w next read_binding_value b w
+
+  abbrev pub read_behind_colon : Where → Parser (BoundTrees × Bool)
+  read_behind_colon w = read_colon w next read_bounds inner_path w
+
+  abbrev pub read_constraint : Ident × MaybeArguments → Where → Parser ArgumentTree
+  read_constraint b w ts = mapped (constraint_of b) (read_behind_colon w ts)
+
+  abbrev pub read_behind_name : Ident × MaybeArguments → Where → Parser ArgumentTree
+  read_behind_name b w ts = if sees_equals ts then read_behind_equals b w ts else read_constraint b w ts
 
   abbrev pub behind_name : Where → Option (Ident × MaybeArguments) → Parser ArgumentTree
   behind_name w None = refuse w
-  behind_name w (Some b) = λ ts.
-      if sees_equals ts then (read_equals w next read_binding_value b w) ts else mapped (constraint_of b) ((read_colon w next read_bounds inner_path w) ts)
+  behind_name w (Some b) = read_behind_name b w
 
   abbrev pub behind_type : Where → TypeTree → Parser ArgumentTree
   behind_type w t = λ ts. if sees_equals ts || sees_colon ts then behind_name w (binding_of t) ts else Ok (type_arg t, ts)
 
+  -- a type, and what follows it
+  abbrev pub read_typed_argument : Where → Parser ArgumentTree
+  read_typed_argument w ts = and_then (inner Whole w ts) (behind_type w)
+
   abbrev pub read_argument : Where → Parser ArgumentTree
   read_argument w ts =
       if sees_lifetime ts then mapped lifetime_of (read_lifetime w ts)
-      else (if sees_constant ts then mapped constant_of (read_constant w ts) else and_then (inner Whole w ts) (behind_type w))
+      else (if sees_constant ts then mapped constant_of (read_constant w ts) else read_typed_argument w ts)
 
   abbrev pub read_arguments : Where → Parser (ArgumentTrees × Bool)
   read_arguments v = read_list v 44 (sees 62) (read_argument v) gives arguments_pair
 
   -- ---- paths
 
+  abbrev pub read_deep_arguments : Where → Parser (ArgumentTrees × Bool)
+  read_deep_arguments w = read_arguments (deeper w)
+
+  abbrev pub read_till_angle : Where → Parser (ArgumentTrees × Bool)
+  read_till_angle w = read_deep_arguments w till read_punct 62 w
+
+  abbrev pub read_between_angles : Where → Parser (ArgumentTrees × Bool)
+  read_between_angles w = read_angles read_arguments w
+
   abbrev pub read_angled : Where → Parser ArgumentsTree
-  read_angled w = (read_leading w and read_angles read_arguments w) gives angle_of
+  read_angled w = (read_leading w and read_between_angles w) gives angle_of
+
+  -- types in parentheses, and what follows `->`
+  abbrev pub read_parens_parts : Where → Parser ((TypeTrees × Bool) × MaybeType)
+  read_parens_parts w = read_enclosed w and read_deep_output w
 
   abbrev pub read_parens : Where → Parser ArgumentsTree
-  read_parens w = (read_group Paren read_types w and read_output w (deeper w)) gives parens_of
+  read_parens w = read_parens_parts w gives parens_of
 
   abbrev pub read_segment_arguments : Where → Parser ArgumentsTree
   read_segment_arguments w ts =
       if sees_group Paren ts then read_parens w ts else (if sees_arguments ts then read_angled w ts else Ok (absent, ts))
 
+  abbrev pub read_segment_parts : Where → Parser (Ident × ArgumentsTree)
+  read_segment_parts w = read_ident is_path_word w and read_segment_arguments w
+
   abbrev pub read_segment : Where → Parser SegmentTree
-  read_segment w = (read_ident is_path_word w and read_segment_arguments w) gives segment_of
+  read_segment w = read_segment_parts w gives segment_of
 
   abbrev pub read_segments : Where → Parser (List SegmentTree)
   read_segments w = read_chain w (read_colons w) sees_colons (read_segment w)
 
+  abbrev pub read_segment_trees : Where → Parser SegmentTrees
+  read_segment_trees w = read_segments w gives segments_of
+
   abbrev pub read_path : Where → Parser PathTree
-  read_path w = (read_leading w and (read_segments w gives segments_of)) gives path_of
+  read_path w = (read_leading w and read_segment_trees w) gives path_of
 
   -- behind `<` and a type: `as` and a path
+  abbrev pub read_as_path : Where → Parser (Bool × List SegmentTree)
+  read_as_path w = read_leading w and read_segments w
+
+  abbrev pub read_some_as : Where → Parser (Bool × List SegmentTree)
+  read_some_as w = read_word (codes "as") w next read_as_path w
+
+  abbrev pub read_deep_as : Where → Parser (Bool × List SegmentTree)
+  read_deep_as w = read_some_as (deeper w)
+
   abbrev pub read_as : Where → Parser (Option (Bool × List SegmentTree))
-  read_as w = read_perhaps (sees_word (codes "as")) (read_word (codes "as") (deeper w) next (read_leading (deeper w) and read_segments (deeper w)))
+  read_as w = read_perhaps (sees_word (codes "as")) (read_deep_as w)
+
+  -- `::` and segments
+  abbrev pub read_further : Where → Parser (List SegmentTree)
+  read_further w = read_colons w next read_segments w
+
+  abbrev pub read_behind_angle : Where → Parser (List SegmentTree)
+  read_behind_angle w = read_punct 62 w next read_further w
+
+  -- what follows the type
+  abbrev pub read_behind_self : Where → Parser (Option (Bool × List SegmentTree) × List SegmentTree)
+  read_behind_self w = read_as w and read_behind_angle w
+
+  abbrev pub read_self_and_path : Where → Parser (TypeTree × (Option (Bool × List SegmentTree) × List SegmentTree))
+  read_self_and_path w = read_deep Whole w and read_behind_self w
 
   abbrev pub read_qualified : Where → Parser TypeNode
-  read_qualified w =
-      (read_punct 60 w next
-      (inner Whole (deeper w) and (read_as w and (read_punct 62 w next (read_colons w next read_segments w))))) gives qualified_of
+  read_qualified w = (read_punct 60 w next read_self_and_path w) gives qualified_of
 
   -- ---- functions
 
+  abbrev pub read_labelled : Where → Parser (Ident × TypeTree)
+  read_labelled w = read_label w and inner Whole w
+
   abbrev pub read_named_type : Where → Parser (Option Ident × TypeTree)
-  read_named_type w ts =
-      if sees_named ts then mapped some_name (((read_ident is_input_name w till read_colon w) and inner Whole w) ts) else mapped no_name (inner Whole w ts)
+  read_named_type w ts = if sees_named ts then mapped some_name (read_labelled w ts) else mapped no_name (inner Whole w ts)
+
+  abbrev pub read_input_parts : Where → Parser (List Attribute × (Option Ident × TypeTree))
+  read_input_parts w = read_attributes w and read_named_type w
 
   abbrev pub read_input : Where → Parser InputTree
-  read_input w = (read_attributes w and read_named_type w) gives input_of
+  read_input w = read_input_parts w gives input_of
 
   abbrev pub read_inputs : Where → Parser (InputTrees × Bool)
   read_inputs v = read_list v 44 at_end (read_input v) gives inputs_pair
 
+  abbrev pub read_enclosed_inputs : Where → Parser (InputTrees × Bool)
+  read_enclosed_inputs w = read_group Paren read_inputs w
+
   abbrev pub read_abi : Where → Parser (Option (Option Literal))
-  read_abi w = read_perhaps (sees_word (codes "extern")) (read_word (codes "extern") w next read_perhaps sees_literal (read_literal w))
+  read_abi w = read_maybe_abi w
+
+  -- parameters and what follows `->`
+  abbrev pub read_behind_fn : Where → Parser ((InputTrees × Bool) × MaybeType)
+  read_behind_fn w = read_enclosed_inputs w and read_output_here w
+
+  abbrev pub read_deep_behind_fn : Where → Parser ((InputTrees × Bool) × MaybeType)
+  read_deep_behind_fn w = read_behind_fn (deeper w)
 
   abbrev pub read_signature : Where → Parser ((InputTrees × Bool) × MaybeType)
-  read_signature w = read_word (codes "fn") w next (read_group Paren read_inputs (deeper w) and read_output (deeper w) (deeper w))
+  read_signature w = read_word (codes "fn") w next read_deep_behind_fn w
+
+  abbrev pub read_behind_unsafe : Where → Parser (Option (Option Literal) × ((InputTrees × Bool) × MaybeType))
+  read_behind_unsafe w = read_abi w and read_signature w
+
+  abbrev pub read_behind_for : Where → Parser (Bool × (Option (Option Literal) × ((InputTrees × Bool) × MaybeType)))
+  read_behind_for w = read_keyword (codes "unsafe") w and read_behind_unsafe w
+
+  abbrev pub read_function_parts : Where → Parser (Lifetimes × (Bool × (Option (Option Literal) × ((InputTrees × Bool) × MaybeType))))
+  read_function_parts w = read_for w and read_behind_for w
 
   abbrev pub read_function : Where → Parser TypeNode
-  read_function w =
-      (read_for w and (read_flag (sees_word (codes "unsafe")) (read_word (codes "unsafe") w) and (read_abi w and read_signature w))) gives function_of
+  read_function w = read_function_parts w gives function_of
 
   -- ---- types
 
   abbrev pub read_call : Where → Parser TypeNode
-  read_call w = (read_plain w and (read_punct 33 w next read_kept w)) gives call_of
+  read_call w = read_macro_type w
+
+  -- bounds whose tokens stand one level deeper
+  abbrev pub read_deep_bounds : Bool → Where → Parser BoundTrees
+  read_deep_bounds single w = read_some_bounds inner_path single (deeper w)
+
+  abbrev pub read_behind_dyn : Bool → Where → Parser BoundTrees
+  read_behind_dyn single w = read_word (codes "dyn") w next read_deep_bounds single w
+
+  abbrev pub read_behind_impl : Bool → Where → Parser BoundTrees
+  read_behind_impl single w = read_word (codes "impl") w next read_deep_bounds single w
+
+  abbrev pub read_object : Bool → Where → Parser TypeNode
+  read_object single w = read_behind_dyn single w gives object_of
+
+  abbrev pub read_implied : Bool → Where → Parser TypeNode
+  read_implied single w = read_behind_impl single w gives implied_of
+
+  abbrev pub read_path_type : Where → Parser TypeNode
+  read_path_type w = read_path w gives path_node
 
   abbrev pub node_by : NodeKind → Bool → Where → Parser TypeNode
   node_by kind.Call single w = read_call w
@@ -334,20 +543,26 @@ module _ (inner : Mode → Where → Parser TypeTree) where
   node_by kind.Reference single w = read_reference w
   node_by kind.Pointer single w = read_pointer w
   node_by kind.Function single w = read_function w
-  node_by kind.Object single w = (read_word (codes "dyn") w next read_some_bounds inner_path single (deeper w)) gives object_of
-  node_by kind.Implied single w = (read_word (codes "impl") w next read_some_bounds inner_path single (deeper w)) gives implied_of
-  node_by kind.Infer single w = read_word (codes "_") w gives infer_of
-  node_by kind.Never single w = read_punct 33 w gives never_of
+  node_by kind.Object single w = read_object single w
+  node_by kind.Implied single w = read_implied single w
+  node_by kind.Infer single w = read_infer w
+  node_by kind.Never single w = read_never w
   node_by kind.Qualified single w = read_qualified w
-  node_by kind.Path single w = read_path w gives path_node
+  node_by kind.Path single w = read_path_type w
 
   abbrev pub read_node : Bool → Where → Parser TypeNode
   read_node single w ts = node_by (node_kind ts) single w ts
 
+  abbrev pub read_ranged_node : Bool → Where → Parser TypeTree
+  read_ranged_node single w = ranged (read_node single w) gives type_of
+
+  abbrev pub read_ranged_path : Where → Parser TypeTree
+  read_ranged_path w = ranged (read_path w) gives path_type
+
   abbrev pub read_level : Mode → Where → Parser TypeTree
-  read_level Whole w = ranged (read_node false w) gives type_of
-  read_level Single w = ranged (read_node true w) gives type_of
-  read_level PathOnly w = ranged (read_path w) gives path_type
+  read_level Whole w = read_ranged_node false w
+  read_level Single w = read_ranged_node true w
+  read_level PathOnly w = read_ranged_path w
 
 -- types that nest at most so deep
 abbrev pub read_type : ℕ → Mode → Where → Parser TypeTree

@@ -1,19 +1,17 @@
 -- The readers of whole declarations: types nest as deep as their levels may go.
-use Rattle.std.specs.Prelude.{◌≡◌, ℕ, Result, Ok, Err}
+use Rattle.std.specs.Prelude.{◌≡◌, Result, Ok, Err}
 use Rattle.dm_stream.specs.declared.error.Error.{Error}
 use Rattle.dm_stream.specs.declared.error.Error.TheVariants as error
 use Rattle.dm_stream.specs.declared.error.Refusal.{Refusal}
-use Rattle.dm_stream.specs.Trees.{Trees}
 use Rattle.dm_ast.specs.declared.decl.DeriveInput.{DeriveInput}
 use Rattle.dm_read_types.specs.declared.kind.Mode.TheVariants.{Whole}
 use Rattle.dm_ast.specs.Tree.{TypeTree, BoundTree}
 use Rattle.dm_ast.specs.Declarations.{Declaration, declaration_view}
 use Rattle.dm_ast.specs.Spelling.{Where}
-use Rattle.dm_ast.specs.DeclarationGrammar.{IsNoDeclaration}
 use Rattle.dm_ast.specs.Readers.{Parser}
 use Rattle.dm_read_types.specs.TypeReaders.{read_type, read_bound, inner_path}
 use Rattle.dm_read.specs.DeclarationReaders.{Parts, parts_of}
-use Rattle.dm_ast.specs.Runs.{run, read_run}
+use Rattle.dm_ast.specs.Runs.{read_run}
 
 unfoldable pub whole_type : Where → Parser TypeTree
 whole_type w = read_type 129 Whole w
@@ -29,8 +27,3 @@ abbrev pub ReadsWhole : Result Declaration Refusal → Result DeriveInput Error 
 ReadsWhole outcome (Ok d) = outcome ≡ Ok (declaration_view d)
 ReadsWhole outcome (Err (error.Refused r)) = outcome ≡ Err r
 ReadsWhole outcome (Err error.NoMemory) = Unit {0}
-
--- why a list of trees is refused: it is no declaration, or memory failed
-abbrev pub NoDeclaration : Error → ℕ → Trees → Type 0
-NoDeclaration (error.Refused r) limit ts = IsNoDeclaration run r.kind r.span limit ts
-NoDeclaration error.NoMemory limit ts = Unit {0}

@@ -1,39 +1,33 @@
 //! Generic arguments.
 #![tactic(auto)]
 
-ghost use Rattle.std.specs.Prelude.{◌≡◌, IfOk, map, option_map};
-ghost use Rattle.dm_stream.specs.Cursors.{left, sound, IsPlaceAfter};
-ghost use Rattle.dm_ast.specs.Readers as spec;
-ghost use Rattle.dm_ast.specs.Readers.{place, Reads, ◌next◌};
+ghost use Rattle.std.specs.Prelude.{◌≡◌, map, option_map};
 ghost use Rattle.dm_read.specs.Stops.{list_view};
+ghost use Rattle.dm_input.specs.Inputs.{Reads};
 ghost use Rattle.dm_read_types.specs.Bindings as bindings;
 ghost use Rattle.dm_read_types.specs.Bindings.{binding_view};
 ghost use Rattle.dm_read_types.specs.TypeReaders as types;
 ghost use Rattle.dm_read_types.specs.TypeReaders.{read_type};
-ghost use Rattle.dm_read_types.specs.Nests.{Nests, FitsGroup};
+ghost use Rattle.dm_read_types.specs.Nests.{Nests};
 ghost use Rattle.dm_ast.specs.Tree.{ty_view, bound_view, path_view, segment_view, argument_view, segments_of, lifetime_arg, const_arg, type_arg};
 
 use crate::grammar::Grammar;
 use crate::kind::Mode;
 use dm_ast::{Bound, ConstArg, GenericArgument, Path, PathArguments, PathSegment, Ty, TyNode};
-use dm_read::constants::{constant, sees_truth};
-use dm_read::list::{Rule, Stop, listed};
-use dm_read::macro_call::sees_macro;
-use dm_read::token::{
-    colon, equals, lifetime, refused, sees, sees_colon, sees_equals, sees_group, sees_lifetime,
-    sees_literal,
-};
+use dm_input::Input;
+use dm_input::join::{ended, joined};
+use dm_input::list::{Rule, listed};
+use dm_read::list::Stop;
 use dm_read::words::is_name;
-use dm_stream::{Cursor, Delim, Error, Ident, Lifetime, Punctuated, Seq};
-use std::alloc::Global;
+use dm_stream::{Delim, Error, Ident, Lifetime, Punctuated, Seq};
 
 /// Whether a constant comes next.
-fn sees_constant(c: Cursor<'_, '_>) -> bool
-    requires { sound c }
-    ensures { result ≡ types.sees_constant (left c.entry) }
+fn sees_constant(input: &Input<'_, '_>) -> bool
+    ensures { result ≡ types.sees_constant input.now.trees }
 {
-    !sees_macro(c)
-        && (sees('-', c) || (sees_literal(c) || (sees_group(Delim::Brace, c) || sees_truth(c))))
+    !input.sees_macro()
+        && (input.sees('-')
+            || (input.sees_literal() || (input.sees_group(Delim::Brace) || input.sees_truth())))
 }
 
 /// The name and the arguments of a segment.
@@ -181,157 +175,158 @@ fn constraint_of<'a>(
     GenericArgument::Constraint(name, arguments, found)
 }
 
-impl<
-    'a,
-    F: for<'t> Fn(
-        Global,
-        usize,
-        Mode,
-        usize,
-        Cursor<'t, 'a>,
-    ) -> Result<(Ty<'a>, Cursor<'t, 'a>), Error>,
-> Grammar<F> {
-    /// What follows a name and `=`.
-    fn binding_value<'t>(
+/// A constant that follows a name and `=`.
+fn constant_binding<'a>(
+    binding: (Ident<'a>, Option<Punctuated<GenericArgument<'a>>>),
+    input: &mut Input<'_, 'a>,
+) -> Result<GenericArgument<'a>, Error>
+    ensures { Reads argument_view (types.read_constant_value (binding_view binding.entry)) input.old result input.new }
+{
+    let (binding, found) = joined(binding, input.constant())?;
+    Ok(constant_value(binding, found))
+}
+
+impl<'a, F: for<'t> Fn(&mut Input<'t, 'a>, usize, Mode) -> Result<Ty<'a>, Error>> Grammar<F> {
+    /// A type that follows a name and `=`.
+    fn type_binding(
         &self,
         binding: (Ident<'a>, Option<Punctuated<GenericArgument<'a>>>),
-        level: usize,
-        c: Cursor<'t, 'a>,
-    ) -> Result<(GenericArgument<'a>, Cursor<'t, 'a>), Error>
-        requires here { sound c }
-        requires nests { Nests self.now.depth (F.pre self.now.ty) (F.post self.now.ty) }
-        requires fits { FitsGroup self.now.depth level }
-        ensures reads { Reads argument_view (types.read_binding_value (read_type self.now.depth) (binding_view binding.entry) (place level c.entry) (left c.entry)) result }
-        ensures place { IfOk result (λ r. IsPlaceAfter c.entry r.1) }
+        input: &mut Input<'_, 'a>,
+    ) -> Result<GenericArgument<'a>, Error>
+        requires { Nests self.now.depth (F.pre self.now.ty) (F.post self.now.ty) }
+        ensures { Reads argument_view (types.read_type_value (read_type self.now.depth) (binding_view binding.entry)) input.old result input.new }
     {
-        if sees_constant(c) {
-            let (found, rest) = constant(self.alloc, level, c)?;
-            return Ok((constant_value(binding, found), rest));
+        let (binding, found) = joined(binding, self.ty(Mode::Whole, input))?;
+        Ok(type_value(binding, found))
+    }
+
+    /// What follows a name and `=`.
+    fn binding_value(
+        &self,
+        binding: (Ident<'a>, Option<Punctuated<GenericArgument<'a>>>),
+        input: &mut Input<'_, 'a>,
+    ) -> Result<GenericArgument<'a>, Error>
+        requires { Nests self.now.depth (F.pre self.now.ty) (F.post self.now.ty) }
+        ensures { Reads argument_view (types.read_binding_value (read_type self.now.depth) (binding_view binding.entry)) input.old result input.new }
+    {
+        if sees_constant(input) {
+            return constant_binding(binding, input);
         }
-        let (found, rest) = self.ty(Mode::Whole, level, c)?;
-        Ok((type_value(binding, found), rest))
+        self.type_binding(binding, input)
     }
 
     /// `=` and a value.
-    fn behind_equals<'t>(
+    fn behind_equals(
         &self,
         binding: (Ident<'a>, Option<Punctuated<GenericArgument<'a>>>),
-        level: usize,
-        c: Cursor<'t, 'a>,
-    ) -> Result<(GenericArgument<'a>, Cursor<'t, 'a>), Error>
-        requires here { sound c }
-        requires nests { Nests self.now.depth (F.pre self.now.ty) (F.post self.now.ty) }
-        requires fits { FitsGroup self.now.depth level }
-        ensures reads { Reads argument_view ((spec.read_equals (place level c.entry) next types.read_binding_value (read_type self.now.depth) (binding_view binding.entry) (place level c.entry)) (left c.entry)) result }
-        ensures place { IfOk result (λ r. IsPlaceAfter c.entry r.1) }
+        input: &mut Input<'_, 'a>,
+    ) -> Result<GenericArgument<'a>, Error>
+        requires { Nests self.now.depth (F.pre self.now.ty) (F.post self.now.ty) }
+        ensures { Reads argument_view (types.read_behind_equals (read_type self.now.depth) (binding_view binding.entry)) input.old result input.new }
     {
-        let behind = equals(level, c)?;
-        self.binding_value(binding, level, behind)
+        let binding = ended(binding, input.equals())?;
+        self.binding_value(binding, input)
     }
 
     /// `:` and bounds.
-    fn behind_colon<'t>(
-        &self,
-        level: usize,
-        c: Cursor<'t, 'a>,
-    ) -> Result<(Punctuated<Bound<'a>>, Cursor<'t, 'a>), Error>
-        requires here { sound c }
-        requires nests { Nests self.now.depth (F.pre self.now.ty) (F.post self.now.ty) }
-        requires fits { FitsGroup self.now.depth level }
-        ensures reads { Reads (λ v. types.bounds_pair (list_view bound_view v)) ((spec.read_colon (place level c.entry) next types.read_bounds (read_type self.now.depth) (types.inner_path (read_type self.now.depth)) (place level c.entry)) (left c.entry)) result }
-        ensures place { IfOk result (λ r. IsPlaceAfter c.entry r.1) }
+    fn behind_colon(&self, input: &mut Input<'_, 'a>) -> Result<Punctuated<Bound<'a>>, Error>
+        requires { Nests self.now.depth (F.pre self.now.ty) (F.post self.now.ty) }
+        ensures { Reads (λ v. types.bounds_pair (list_view bound_view v)) (types.read_behind_colon (read_type self.now.depth)) input.old result input.new }
     {
-        let behind = colon(level, c)?;
-        self.bounds(level, behind)
+        input.colon()?;
+        self.bounds(input)
+    }
+
+    /// A name, `:` and bounds.
+    fn constraint(
+        &self,
+        binding: (Ident<'a>, Option<Punctuated<GenericArgument<'a>>>),
+        input: &mut Input<'_, 'a>,
+    ) -> Result<GenericArgument<'a>, Error>
+        requires { Nests self.now.depth (F.pre self.now.ty) (F.post self.now.ty) }
+        ensures { Reads argument_view (types.read_constraint (read_type self.now.depth) (binding_view binding.entry)) input.old result input.new }
+    {
+        let (binding, found) = joined(binding, self.behind_colon(input))?;
+        Ok(constraint_of(binding, found))
     }
 
     /// What follows a name.
-    fn behind_binding<'t>(
+    fn behind_name(
+        &self,
+        binding: (Ident<'a>, Option<Punctuated<GenericArgument<'a>>>),
+        input: &mut Input<'_, 'a>,
+    ) -> Result<GenericArgument<'a>, Error>
+        requires { Nests self.now.depth (F.pre self.now.ty) (F.post self.now.ty) }
+        ensures { Reads argument_view (types.read_behind_name (read_type self.now.depth) (binding_view binding.entry)) input.old result input.new }
+    {
+        if input.sees_equals() {
+            return self.behind_equals(binding, input);
+        }
+        self.constraint(binding, input)
+    }
+
+    /// What follows a type that may be a name.
+    fn behind_binding(
         &self,
         binding: Option<(Ident<'a>, Option<Punctuated<GenericArgument<'a>>>)>,
-        level: usize,
-        c: Cursor<'t, 'a>,
-    ) -> Result<(GenericArgument<'a>, Cursor<'t, 'a>), Error>
-        requires here { sound c }
-        requires nests { Nests self.now.depth (F.pre self.now.ty) (F.post self.now.ty) }
-        requires fits { FitsGroup self.now.depth level }
-        ensures reads { Reads argument_view (types.behind_name (read_type self.now.depth) (place level c.entry) (option_map binding_view binding.entry) (left c.entry)) result }
-        ensures place { IfOk result (λ r. IsPlaceAfter c.entry r.1) }
+        input: &mut Input<'_, 'a>,
+    ) -> Result<GenericArgument<'a>, Error>
+        requires { Nests self.now.depth (F.pre self.now.ty) (F.post self.now.ty) }
+        ensures { Reads argument_view (λ w. types.behind_name (read_type self.now.depth) w (option_map binding_view binding.entry)) input.old result input.new }
     {
-        let Some(binding) = binding else {
-            return Err(refused(c));
-        };
-        if sees_equals(c) {
-            return self.behind_equals(binding, level, c);
+        match binding {
+            Some(binding) => self.behind_name(binding, input),
+            None => Err(input.refused()),
         }
-        let (found, rest) = self.behind_colon(level, c)?;
-        Ok((constraint_of(binding, found), rest))
     }
 
     /// What follows a type.
-    fn behind_type<'t>(
+    fn behind_type(
         &self,
         found: Ty<'a>,
-        level: usize,
-        c: Cursor<'t, 'a>,
-    ) -> Result<(GenericArgument<'a>, Cursor<'t, 'a>), Error>
-        requires here { sound c }
-        requires nests { Nests self.now.depth (F.pre self.now.ty) (F.post self.now.ty) }
-        requires fits { FitsGroup self.now.depth level }
-        ensures reads { Reads argument_view (types.behind_type (read_type self.now.depth) (place level c.entry) (ty_view found.entry) (left c.entry)) result }
-        ensures place { IfOk result (λ r. IsPlaceAfter c.entry r.1) }
+        input: &mut Input<'_, 'a>,
+    ) -> Result<GenericArgument<'a>, Error>
+        requires { Nests self.now.depth (F.pre self.now.ty) (F.post self.now.ty) }
+        ensures { Reads argument_view (λ w. types.behind_type (read_type self.now.depth) w (ty_view found.entry)) input.old result input.new }
     {
-        if sees_equals(c) || sees_colon(c) {
-            return self.behind_binding(binding_of(found), level, c);
+        if input.sees_equals() || input.sees_colon() {
+            return self.behind_binding(binding_of(found), input);
         }
-        Ok((type_argument(found), c))
+        Ok(type_argument(found))
+    }
+
+    /// A type, and what follows it.
+    fn typed_argument(&self, input: &mut Input<'_, 'a>) -> Result<GenericArgument<'a>, Error>
+        requires { Nests self.now.depth (F.pre self.now.ty) (F.post self.now.ty) }
+        ensures { Reads argument_view (types.read_typed_argument (read_type self.now.depth)) input.old result input.new }
+    {
+        let found = self.ty(Mode::Whole, input)?;
+        self.behind_type(found, input)
     }
 
     /// An argument.
-    fn argument<'t>(
-        &self,
-        level: usize,
-        c: Cursor<'t, 'a>,
-    ) -> Result<(GenericArgument<'a>, Cursor<'t, 'a>), Error>
-        requires here { sound c }
-        requires nests { Nests self.now.depth (F.pre self.now.ty) (F.post self.now.ty) }
-        requires fits { FitsGroup self.now.depth level }
-        ensures reads { Reads argument_view (types.read_argument (read_type self.now.depth) (place level c.entry) (left c.entry)) result }
-        ensures place { IfOk result (λ r. IsPlaceAfter c.entry r.1) }
+    fn argument(&self, input: &mut Input<'_, 'a>) -> Result<GenericArgument<'a>, Error>
+        requires { Nests self.now.depth (F.pre self.now.ty) (F.post self.now.ty) }
+        ensures { Reads argument_view (types.read_argument (read_type self.now.depth)) input.old result input.new }
     {
-        if sees_lifetime(c) {
-            let (found, rest) = lifetime(level, c)?;
-            let own = found.clone_in(self.alloc)?;
-            return Ok((lifetime_argument(own), rest));
+        if input.sees_lifetime() {
+            return Ok(lifetime_argument(input.lifetime()?));
         }
-        if sees_constant(c) {
-            let (found, rest) = constant(self.alloc, level, c)?;
-            return Ok((constant_argument(found), rest));
+        if sees_constant(input) {
+            return Ok(constant_argument(input.constant()?));
         }
-        let (found, behind) = self.ty(Mode::Whole, level, c)?;
-        self.behind_type(found, level, behind)
+        self.typed_argument(input)
     }
 
     /// Arguments with commas between.
-    pub fn arguments<'t>(
+    pub fn arguments(
         &self,
-        level: usize,
-        c: Cursor<'t, 'a>,
-    ) -> Result<(Punctuated<GenericArgument<'a>>, Cursor<'t, 'a>), Error>
-        requires here { sound c }
-        requires nests { Nests self.now.depth (F.pre self.now.ty) (F.post self.now.ty) }
-        requires fits { FitsGroup self.now.depth level }
-        ensures reads { Reads (λ v. types.arguments_pair (list_view argument_view v)) (types.read_arguments (read_type self.now.depth) (place level c.entry) (left c.entry)) result }
-        ensures place { IfOk result (λ r. IsPlaceAfter c.entry r.1) }
+        input: &mut Input<'_, 'a>,
+    ) -> Result<Punctuated<GenericArgument<'a>>, Error>
+        requires { Nests self.now.depth (F.pre self.now.ty) (F.post self.now.ty) }
+        ensures { Reads (λ v. types.arguments_pair (list_view argument_view v)) (types.read_arguments (read_type self.now.depth)) input.old result input.new }
     {
-        listed(
-            self.alloc,
-            &ArgumentRule { grammar: self },
-            ',',
-            Stop::Angle,
-            level,
-            c,
-        )
+        listed(&ArgumentRule { grammar: self }, ',', Stop::Angle, input)
     }
 }
 
@@ -341,19 +336,10 @@ struct ArgumentRule<'g, F> {
     grammar: &'g Grammar<F>,
 }
 
-impl<
-    'g,
-    'a,
-    F: for<'t> Fn(
-        Global,
-        usize,
-        Mode,
-        usize,
-        Cursor<'t, 'a>,
-    ) -> Result<(Ty<'a>, Cursor<'t, 'a>), Error>,
-> Rule<'a> for ArgumentRule<'g, F> {
+impl<'g, 'a, F: for<'t> Fn(&mut Input<'t, 'a>, usize, Mode) -> Result<Ty<'a>, Error>> Rule<'a>
+    for ArgumentRule<'g, F> {
     ghost use Rattle.dm_ast.specs.Tree.{ArgumentTree, argument_view};
-    ghost use Rattle.dm_read_types.specs.Nests.{Nests, FitsGroup};
+    ghost use Rattle.dm_read_types.specs.Nests.{Nests};
     ghost use Rattle.dm_read_types.specs.TypeReaders as types;
     ghost use Rattle.dm_read_types.specs.TypeReaders.{read_type};
 
@@ -363,15 +349,11 @@ impl<
 
     ghost view = { argument_view };
 
-    ghost usable = { λ r level. Nests r.grammar.now.depth (F.pre r.grammar.now.ty) (F.post r.grammar.now.ty) × FitsGroup r.grammar.now.depth level };
+    ghost usable = { λ r. Nests r.grammar.now.depth (F.pre r.grammar.now.ty) (F.post r.grammar.now.ty) };
 
     ghost reader = { λ r w. types.read_argument (read_type r.grammar.now.depth) w };
 
-    fn read<'t>(
-        &self,
-        level: usize,
-        c: Cursor<'t, 'a>,
-    ) -> Result<(GenericArgument<'a>, Cursor<'t, 'a>), Error> {
-        self.grammar.argument(level, c)
+    fn read(&self, input: &mut Input<'_, 'a>) -> Result<GenericArgument<'a>, Error> {
+        self.grammar.argument(input)
     }
 }

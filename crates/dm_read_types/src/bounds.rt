@@ -2,27 +2,21 @@
 #![tactic(auto)]
 
 ghost use Rattle.std.specs.Prelude.{◌≡◌, IfOk, true, false, map, [], ◌∷◌};
-ghost use Rattle.dm_stream.specs.Cursors.{left, sound, IsPlaceAfter};
-ghost use Rattle.dm_ast.specs.Readers as spec;
-ghost use Rattle.dm_ast.specs.Readers.{place, Reads, ◌and◌};
-ghost use Rattle.dm_ast.specs.PlainReaders as plain;
-ghost use Rattle.dm_ast.specs.Spelling as spelling;
-ghost use Rattle.dm_stream.specs.declared.tokens.Delim.TheVariants.{Paren};
 ghost use Rattle.dm_read.specs.Stops.{list_view};
-ghost use Rattle.dm_ast.specs.TypeGrammar.{ends_bounds};
+ghost use Rattle.dm_input.specs.Inputs.{Reads};
 ghost use Rattle.dm_read_types.specs.TypeReaders as types;
 ghost use Rattle.dm_read_types.specs.TypeReaders.{read_type};
-ghost use Rattle.dm_read_types.specs.Nests.{Nests, Fits, FitsGroup};
+ghost use Rattle.dm_read_types.specs.Nests.{Nests};
 ghost use Rattle.dm_ast.specs.Tree.{ty_view, path_view, bound_view, trait_view, trait_bound, bounds_of, path_tree, no_segments, outlives, implements};
 
 use crate::grammar::Grammar;
 use crate::kind::Mode;
 use dm_ast::{Bound, Path, TraitBound, Ty, TyNode};
-use dm_read::group::{close, open};
-use dm_read::lifetimes::for_lifetimes;
-use dm_read::list::{Link, Rule, Stop, chained, listed};
-use dm_read::token::{lifetime, punct, sees, sees_group, sees_lifetime};
-use dm_stream::{Cursor, Delim, Error, Lifetime, Punctuated, Seq};
+use dm_input::Input;
+use dm_input::join::{ended, joined};
+use dm_input::list::{Rule, chained, listed};
+use dm_read::list::{Link, Stop};
+use dm_stream::{Delim, Error, Lifetime, Punctuated, Seq};
 use std::alloc::{AllocError, Global};
 
 /// A path without segments.
@@ -106,242 +100,133 @@ fn alone<'a>(alloc: Global, found: Bound<'a>) -> Result<Seq<Bound<'a>>, AllocErr
 }
 
 /// `?` where it comes next.
-fn question<'t, 'a>(level: usize, c: Cursor<'t, 'a>) -> Result<(bool, Cursor<'t, 'a>), Error>
-    requires { sound c }
-    ensures reads { Reads (λ b. b) (spec.read_flag (spelling.sees 63) (spec.read_punct 63 (place level c.entry)) (left c.entry)) result }
-    ensures place { IfOk result (λ r. IsPlaceAfter c.entry r.1) }
+fn question(input: &mut Input<'_, '_>) -> Result<bool, Error>
+    ensures { Reads (λ b. b) types.read_question input.old result input.new }
 {
-    if !sees('?', c) {
-        return Ok((false, c));
+    if !input.sees('?') {
+        return Ok(false);
     }
-    let rest = punct('?', level, c)?;
-    Ok((true, rest))
+    input.punct('?')?;
+    Ok(true)
 }
 
-impl<
-    'a,
-    F: for<'t> Fn(
-        Global,
-        usize,
-        Mode,
-        usize,
-        Cursor<'t, 'a>,
-    ) -> Result<(Ty<'a>, Cursor<'t, 'a>), Error>,
-> Grammar<F> {
+impl<'a, F: for<'t> Fn(&mut Input<'t, 'a>, usize, Mode) -> Result<Ty<'a>, Error>> Grammar<F> {
     /// A path of the next level.
-    fn inner_path<'t>(
-        &self,
-        level: usize,
-        c: Cursor<'t, 'a>,
-    ) -> Result<(Path<'a>, Cursor<'t, 'a>), Error>
-        requires here { sound c }
-        requires nests { Nests self.now.depth (F.pre self.now.ty) (F.post self.now.ty) }
-        requires fits { Fits self.now.depth level }
-        ensures reads { Reads path_view (types.inner_path (read_type self.now.depth) (place level c.entry) (left c.entry)) result }
-        ensures place { IfOk result (λ r. IsPlaceAfter c.entry r.1) }
+    fn inner_path(&self, input: &mut Input<'_, 'a>) -> Result<Path<'a>, Error>
+        requires { Nests self.now.depth (F.pre self.now.ty) (F.post self.now.ty) }
+        ensures { Reads path_view (types.inner_path (read_type self.now.depth)) input.old result input.new }
     {
-        let (found, rest) = self.ty(Mode::PathOnly, level, c)?;
-        Ok((path_of(self.alloc, found), rest))
+        let found = self.ty(Mode::PathOnly, input)?;
+        Ok(path_of(input.alloc(), found))
     }
 
-    /// The lifetimes of a `for<..>` and a path.
-    fn bound_path<'t>(
+    /// Lifetimes of a `for`, and a path.
+    fn bound_path(
         &self,
-        level: usize,
-        c: Cursor<'t, 'a>,
-    ) -> Result<((Option<Punctuated<Lifetime<'a>>>, Path<'a>), Cursor<'t, 'a>), Error>
-        requires here { sound c }
-        requires nests { Nests self.now.depth (F.pre self.now.ty) (F.post self.now.ty) }
-        requires fits { Fits self.now.depth level }
-        ensures reads { Reads (λ v. (v.0, path_view v.1)) ((plain.read_for (place level c.entry) and types.inner_path (read_type self.now.depth) (place level c.entry)) (left c.entry)) result }
-        ensures place { IfOk result (λ r. IsPlaceAfter c.entry r.1) }
+        input: &mut Input<'_, 'a>,
+    ) -> Result<(Option<Punctuated<Lifetime<'a>>>, Path<'a>), Error>
+        requires { Nests self.now.depth (F.pre self.now.ty) (F.post self.now.ty) }
+        ensures { Reads (λ v. (v.0, path_view v.1)) (types.read_bound_path (read_type self.now.depth) (types.inner_path (read_type self.now.depth))) input.old result input.new }
     {
-        let (lifetimes, behind) = for_lifetimes(self.alloc, level, c)?;
-        let (path, rest) = self.inner_path(level, behind)?;
-        Ok(((lifetimes, path), rest))
+        let lifetimes = input.for_lifetimes()?;
+        joined(lifetimes, self.inner_path(input))
     }
 
     /// A trait as a bound, without parentheses.
-    fn plain_trait<'t>(
+    fn plain_trait(
         &self,
-        level: usize,
-        c: Cursor<'t, 'a>,
-    ) -> Result<
-        (
-            (bool, (Option<Punctuated<Lifetime<'a>>>, Path<'a>)),
-            Cursor<'t, 'a>,
-        ),
-        Error,
-    >
-        requires here { sound c }
-        requires nests { Nests self.now.depth (F.pre self.now.ty) (F.post self.now.ty) }
-        requires fits { Fits self.now.depth level }
-        ensures reads { Reads (λ v. (v.0, (v.1.0, path_view v.1.1))) (types.read_plain_trait (read_type self.now.depth) (types.inner_path (read_type self.now.depth)) (place level c.entry) (left c.entry)) result }
-        ensures place { IfOk result (λ r. IsPlaceAfter c.entry r.1) }
+        input: &mut Input<'_, 'a>,
+    ) -> Result<(bool, (Option<Punctuated<Lifetime<'a>>>, Path<'a>)), Error>
+        requires { Nests self.now.depth (F.pre self.now.ty) (F.post self.now.ty) }
+        ensures { Reads (λ v. (v.0, (v.1.0, path_view v.1.1))) (types.read_plain_trait (read_type self.now.depth) (types.inner_path (read_type self.now.depth))) input.old result input.new }
     {
-        let (maybe, behind) = question(level, c)?;
-        let (found, rest) = self.bound_path(level, behind)?;
-        Ok(((maybe, found), rest))
+        let maybe = question(input)?;
+        joined(maybe, self.bound_path(input))
     }
 
-    /// A trait in parentheses, and what follows.
-    fn enclosed_trait<'t>(
+    /// A trait in parentheses.
+    fn enclosed_trait(
         &self,
-        level: usize,
-        c: Cursor<'t, 'a>,
-    ) -> Result<
-        (
-            (bool, (Option<Punctuated<Lifetime<'a>>>, Path<'a>)),
-            Cursor<'t, 'a>,
-        ),
-        Error,
-    >
-        requires here { sound c }
-        requires nests { Nests self.now.depth (F.pre self.now.ty) (F.post self.now.ty) }
-        requires fits { FitsGroup self.now.depth level }
-        ensures reads { Reads (λ v. (v.0, (v.1.0, path_view v.1.1))) (spec.read_group Paren (types.read_plain_trait (read_type self.now.depth) (types.inner_path (read_type self.now.depth))) (place level c.entry) (left c.entry)) result }
-        ensures place { IfOk result (λ r. IsPlaceAfter c.entry r.1) }
+        input: &mut Input<'_, 'a>,
+    ) -> Result<(bool, (Option<Punctuated<Lifetime<'a>>>, Path<'a>)), Error>
+        requires { Nests self.now.depth (F.pre self.now.ty) (F.post self.now.ty) }
+        ensures { Reads (λ v. (v.0, (v.1.0, path_view v.1.1))) (types.read_enclosed_trait (read_type self.now.depth) (types.inner_path (read_type self.now.depth))) input.old result input.new }
     {
-        let (inside, rest) = open(Delim::Paren, level, c)?;
-        let (found, left) = self.plain_trait(level + 1, inside)?;
-        close(left)?;
-        Ok((found, rest))
+        let mut inside = input.open(Delim::Paren)?;
+        let found = self.plain_trait(&mut inside)?;
+        ended(found, inside.close())
     }
 
     /// A trait as a bound.
-    fn trait_bound<'t>(
-        &self,
-        level: usize,
-        c: Cursor<'t, 'a>,
-    ) -> Result<(TraitBound<'a>, Cursor<'t, 'a>), Error>
-        requires here { sound c }
-        requires nests { Nests self.now.depth (F.pre self.now.ty) (F.post self.now.ty) }
-        requires fits { FitsGroup self.now.depth level }
-        ensures reads { Reads trait_view (types.read_trait (read_type self.now.depth) (types.inner_path (read_type self.now.depth)) (place level c.entry) (left c.entry)) result }
-        ensures place { IfOk result (λ r. IsPlaceAfter c.entry r.1) }
+    fn trait_bound(&self, input: &mut Input<'_, 'a>) -> Result<TraitBound<'a>, Error>
+        requires { Nests self.now.depth (F.pre self.now.ty) (F.post self.now.ty) }
+        ensures { Reads trait_view (types.read_trait (read_type self.now.depth) (types.inner_path (read_type self.now.depth))) input.old result input.new }
     {
-        if sees_group(Delim::Paren, c) {
-            let ((maybe, (lifetimes, path)), rest) = self.enclosed_trait(level, c)?;
-            return Ok((trait_of(true, maybe, lifetimes, path), rest));
+        if input.sees_group(Delim::Paren) {
+            let (maybe, (lifetimes, path)) = self.enclosed_trait(input)?;
+            return Ok(trait_of(true, maybe, lifetimes, path));
         }
-        let ((maybe, (lifetimes, path)), rest) = self.plain_trait(level, c)?;
-        Ok((trait_of(false, maybe, lifetimes, path), rest))
+        let (maybe, (lifetimes, path)) = self.plain_trait(input)?;
+        Ok(trait_of(false, maybe, lifetimes, path))
     }
 
     /// A bound.
-    fn bound<'t>(
-        &self,
-        level: usize,
-        c: Cursor<'t, 'a>,
-    ) -> Result<(Bound<'a>, Cursor<'t, 'a>), Error>
-        requires here { sound c }
-        requires nests { Nests self.now.depth (F.pre self.now.ty) (F.post self.now.ty) }
-        requires fits { FitsGroup self.now.depth level }
-        ensures reads { Reads bound_view (types.read_bound (read_type self.now.depth) (types.inner_path (read_type self.now.depth)) (place level c.entry) (left c.entry)) result }
-        ensures place { IfOk result (λ r. IsPlaceAfter c.entry r.1) }
+    fn bound(&self, input: &mut Input<'_, 'a>) -> Result<Bound<'a>, Error>
+        requires { Nests self.now.depth (F.pre self.now.ty) (F.post self.now.ty) }
+        ensures { Reads bound_view (types.read_bound (read_type self.now.depth) (types.inner_path (read_type self.now.depth))) input.old result input.new }
     {
-        if sees_lifetime(c) {
-            let (found, rest) = lifetime(level, c)?;
-            let own = found.clone_in(self.alloc)?;
-            return Ok((outlives_bound(own), rest));
+        if input.sees_lifetime() {
+            return Ok(outlives_bound(input.lifetime()?));
         }
-        let (found, rest) = self.trait_bound(level, c)?;
-        Ok((trait_as_bound(found), rest))
+        Ok(trait_as_bound(self.trait_bound(input)?))
     }
 
     /// Bounds with `+` between, as a list.
-    pub fn bound_list<'t>(
-        &self,
-        level: usize,
-        c: Cursor<'t, 'a>,
-    ) -> Result<(Punctuated<Bound<'a>>, Cursor<'t, 'a>), Error>
-        requires here { sound c }
-        requires nests { Nests self.now.depth (F.pre self.now.ty) (F.post self.now.ty) }
-        requires fits { FitsGroup self.now.depth level }
-        ensures reads { Reads (list_view bound_view) (spec.read_list (place level c.entry) 43 ends_bounds (types.read_bound (read_type self.now.depth) (types.inner_path (read_type self.now.depth)) (place level c.entry)) (left c.entry)) result }
-        ensures place { IfOk result (λ r. IsPlaceAfter c.entry r.1) }
+    pub fn bound_list(&self, input: &mut Input<'_, 'a>) -> Result<Punctuated<Bound<'a>>, Error>
+        requires { Nests self.now.depth (F.pre self.now.ty) (F.post self.now.ty) }
+        ensures { Reads (list_view bound_view) (types.read_bound_list (read_type self.now.depth) (types.inner_path (read_type self.now.depth))) input.old result input.new }
     {
-        listed(
-            self.alloc,
-            &BoundRule { grammar: self },
-            '+',
-            Stop::Bounds,
-            level,
-            c,
-        )
+        listed(&BoundRule { grammar: self }, '+', Stop::Bounds, input)
     }
 
     /// Bounds with `+` between.
-    pub fn bounds<'t>(
-        &self,
-        level: usize,
-        c: Cursor<'t, 'a>,
-    ) -> Result<(Punctuated<Bound<'a>>, Cursor<'t, 'a>), Error>
-        requires here { sound c }
-        requires nests { Nests self.now.depth (F.pre self.now.ty) (F.post self.now.ty) }
-        requires fits { FitsGroup self.now.depth level }
-        ensures reads { Reads (λ v. types.bounds_pair (list_view bound_view v)) (types.read_bounds (read_type self.now.depth) (types.inner_path (read_type self.now.depth)) (place level c.entry) (left c.entry)) result }
-        ensures place { IfOk result (λ r. IsPlaceAfter c.entry r.1) }
+    pub fn bounds(&self, input: &mut Input<'_, 'a>) -> Result<Punctuated<Bound<'a>>, Error>
+        requires { Nests self.now.depth (F.pre self.now.ty) (F.post self.now.ty) }
+        ensures { Reads (λ v. types.bounds_pair (list_view bound_view v)) (types.read_bounds (read_type self.now.depth) (types.inner_path (read_type self.now.depth))) input.old result input.new }
     {
-        self.bound_list(level, c)
+        self.bound_list(input)
     }
 
     /// One bound as a list.
-    fn one_bound<'t>(
-        &self,
-        level: usize,
-        c: Cursor<'t, 'a>,
-    ) -> Result<(Seq<Bound<'a>>, Cursor<'t, 'a>), Error>
-        requires here { sound c }
-        requires nests { Nests self.now.depth (F.pre self.now.ty) (F.post self.now.ty) }
-        requires fits { FitsGroup self.now.depth level }
-        ensures reads { Reads (λ l. bounds_of (map bound_view l)) (types.read_some_bounds (read_type self.now.depth) (types.inner_path (read_type self.now.depth)) true (place level c.entry) (left c.entry)) result }
-        ensures place { IfOk result (λ r. IsPlaceAfter c.entry r.1) }
+    fn one_bound(&self, input: &mut Input<'_, 'a>) -> Result<Seq<Bound<'a>>, Error>
+        requires { Nests self.now.depth (F.pre self.now.ty) (F.post self.now.ty) }
+        ensures { Reads (λ l. bounds_of (map bound_view l)) (types.read_one_bound (read_type self.now.depth) (types.inner_path (read_type self.now.depth))) input.old result input.new }
     {
-        let (found, rest) = self.bound(level, c)?;
-        let all = alone(self.alloc, found)?;
-        Ok((all, rest))
+        let found = self.bound(input)?;
+        Ok(alone(input.alloc(), found)?)
     }
 
     /// One bound and each that follows `+`.
-    fn all_bounds<'t>(
-        &self,
-        level: usize,
-        c: Cursor<'t, 'a>,
-    ) -> Result<(Seq<Bound<'a>>, Cursor<'t, 'a>), Error>
-        requires here { sound c }
-        requires nests { Nests self.now.depth (F.pre self.now.ty) (F.post self.now.ty) }
-        requires fits { FitsGroup self.now.depth level }
-        ensures reads { Reads (λ l. bounds_of (map bound_view l)) (types.read_some_bounds (read_type self.now.depth) (types.inner_path (read_type self.now.depth)) false (place level c.entry) (left c.entry)) result }
-        ensures place { IfOk result (λ r. IsPlaceAfter c.entry r.1) }
+    fn all_bounds(&self, input: &mut Input<'_, 'a>) -> Result<Seq<Bound<'a>>, Error>
+        requires { Nests self.now.depth (F.pre self.now.ty) (F.post self.now.ty) }
+        ensures { Reads (λ l. bounds_of (map bound_view l)) (types.read_all_bounds (read_type self.now.depth) (types.inner_path (read_type self.now.depth))) input.old result input.new }
     {
-        chained(
-            self.alloc,
-            &BoundRule { grammar: self },
-            Link::Plus,
-            level,
-            c,
-        )
+        chained(&BoundRule { grammar: self }, Link::Plus, input)
     }
 
     /// The bounds of a `dyn` or an `impl`.
-    pub fn some_bounds<'t>(
+    pub fn some_bounds(
         &self,
         single: bool,
-        level: usize,
-        c: Cursor<'t, 'a>,
-    ) -> Result<(Seq<Bound<'a>>, Cursor<'t, 'a>), Error>
-        requires here { sound c }
-        requires nests { Nests self.now.depth (F.pre self.now.ty) (F.post self.now.ty) }
-        requires fits { FitsGroup self.now.depth level }
-        ensures reads { Reads (λ l. bounds_of (map bound_view l)) (types.read_some_bounds (read_type self.now.depth) (types.inner_path (read_type self.now.depth)) single (place level c.entry) (left c.entry)) result }
-        ensures place { IfOk result (λ r. IsPlaceAfter c.entry r.1) }
+        input: &mut Input<'_, 'a>,
+    ) -> Result<Seq<Bound<'a>>, Error>
+        requires { Nests self.now.depth (F.pre self.now.ty) (F.post self.now.ty) }
+        ensures { Reads (λ l. bounds_of (map bound_view l)) (types.read_some_bounds (read_type self.now.depth) (types.inner_path (read_type self.now.depth)) single) input.old result input.new }
     {
         if single {
-            self.one_bound(level, c)
-        } else {
-            self.all_bounds(level, c)
+            return self.one_bound(input);
         }
+        self.all_bounds(input)
     }
 }
 
@@ -351,19 +236,10 @@ struct BoundRule<'g, F> {
     grammar: &'g Grammar<F>,
 }
 
-impl<
-    'g,
-    'a,
-    F: for<'t> Fn(
-        Global,
-        usize,
-        Mode,
-        usize,
-        Cursor<'t, 'a>,
-    ) -> Result<(Ty<'a>, Cursor<'t, 'a>), Error>,
-> Rule<'a> for BoundRule<'g, F> {
+impl<'g, 'a, F: for<'t> Fn(&mut Input<'t, 'a>, usize, Mode) -> Result<Ty<'a>, Error>> Rule<'a>
+    for BoundRule<'g, F> {
     ghost use Rattle.dm_ast.specs.Tree.{BoundTree, bound_view};
-    ghost use Rattle.dm_read_types.specs.Nests.{Nests, FitsGroup};
+    ghost use Rattle.dm_read_types.specs.Nests.{Nests};
     ghost use Rattle.dm_read_types.specs.TypeReaders as types;
     ghost use Rattle.dm_read_types.specs.TypeReaders.{read_type};
 
@@ -373,15 +249,11 @@ impl<
 
     ghost view = { bound_view };
 
-    ghost usable = { λ r level. Nests r.grammar.now.depth (F.pre r.grammar.now.ty) (F.post r.grammar.now.ty) × FitsGroup r.grammar.now.depth level };
+    ghost usable = { λ r. Nests r.grammar.now.depth (F.pre r.grammar.now.ty) (F.post r.grammar.now.ty) };
 
     ghost reader = { λ r w. types.read_bound (read_type r.grammar.now.depth) (types.inner_path (read_type r.grammar.now.depth)) w };
 
-    fn read<'t>(
-        &self,
-        level: usize,
-        c: Cursor<'t, 'a>,
-    ) -> Result<(Bound<'a>, Cursor<'t, 'a>), Error> {
-        self.grammar.bound(level, c)
+    fn read(&self, input: &mut Input<'_, 'a>) -> Result<Bound<'a>, Error> {
+        self.grammar.bound(input)
     }
 }

@@ -2,37 +2,36 @@
 #![tactic(auto)]
 
 ghost use Rattle.std.specs.Prelude.{◌≡◌, IfOk, map};
-ghost use Rattle.dm_stream.specs.Cursors.{left, sound, IsPlaceAfter};
-ghost use Rattle.dm_ast.specs.Readers as spec;
-ghost use Rattle.dm_ast.specs.Readers.{place, Reads, ◌and◌, ◌next◌};
-ghost use Rattle.dm_ast.specs.PlainReaders as plain;
+ghost use Rattle.dm_ast.specs.Tree.{ty_view, node_view, types_of, paren, tuple, slice, array};
+ghost use Rattle.dm_input.specs.Inputs.{Reads};
 ghost use Rattle.dm_read_types.specs.TypeReaders as types;
 ghost use Rattle.dm_read_types.specs.TypeReaders.{read_type};
-ghost use Rattle.dm_read_types.specs.Nests.{Nests, Fits, HasRoom};
-ghost use Rattle.dm_ast.specs.Tree.{ty_view, node_view, types_of, paren, tuple, slice, array};
-ghost use Rattle.dm_read_types.specs.declared.kind.Mode.TheVariants.{Whole};
+ghost use Rattle.dm_read_types.specs.Nests.{Nests};
 
 use crate::grammar::Grammar;
 use crate::kind::Mode;
 use dm_ast::{Opaque, Ty, TyNode};
-use dm_read::group::{close, open};
-use dm_read::parts::opaque;
-use dm_read::token::{punct, sees};
-use dm_stream::{Cursor, Delim, Error, Punctuated};
+use dm_input::Input;
+use dm_input::join::{ended, joined};
+use dm_stream::{Delim, Error, Punctuated};
 use std::alloc::{AllocError, Global};
 
 /// `; LENGTH`.
-fn some_length<'t, 'a>(
-    alloc: Global,
-    level: usize,
-    c: Cursor<'t, 'a>,
-) -> Result<(Opaque<'a>, Cursor<'t, 'a>), Error>
-    requires { sound c }
-    ensures reads { Reads (λ o. o) ((spec.read_punct 59 (place level c.entry) next plain.read_opaque (place level c.entry)) (left c.entry)) result }
-    ensures place { IfOk result (λ r. IsPlaceAfter c.entry r.1) }
+fn some_length<'a>(input: &mut Input<'_, 'a>) -> Result<Opaque<'a>, Error>
+    ensures { Reads (λ o. o) types.read_some_length input.old result input.new }
 {
-    let behind = punct(';', level, c)?;
-    opaque(alloc, level, behind)
+    input.punct(';')?;
+    input.opaque()
+}
+
+/// `; LENGTH` where it comes next.
+fn maybe_length<'a>(input: &mut Input<'_, 'a>) -> Result<Option<Opaque<'a>>, Error>
+    ensures { Reads (λ o. o) types.read_maybe_length input.old result input.new }
+{
+    if !input.sees(';') {
+        return Ok(None);
+    }
+    Ok(Some(some_length(input)?))
 }
 
 /// A slice.
@@ -103,84 +102,44 @@ fn round_node<'a>(alloc: Global, found: Punctuated<Ty<'a>>) -> Result<TyNode<'a>
     }
 }
 
-impl<
-    'a,
-    F: for<'t> Fn(
-        Global,
-        usize,
-        Mode,
-        usize,
-        Cursor<'t, 'a>,
-    ) -> Result<(Ty<'a>, Cursor<'t, 'a>), Error>,
-> Grammar<F> {
-    /// `; LENGTH` where it comes next.
-    fn length<'t>(
+impl<'a, F: for<'t> Fn(&mut Input<'t, 'a>, usize, Mode) -> Result<Ty<'a>, Error>> Grammar<F> {
+    /// The inside of the brackets of a slice or an array.
+    fn square_inside(
         &self,
-        level: usize,
-        c: Cursor<'t, 'a>,
-    ) -> Result<(Option<Opaque<'a>>, Cursor<'t, 'a>), Error>
-        requires here { sound c }
-        requires nests { Nests self.now.depth (F.pre self.now.ty) (F.post self.now.ty) }
-        requires fits { Fits self.now.depth level }
-        ensures reads { Reads (λ o. o) (types.read_length (read_type self.now.depth) (place level c.entry) (left c.entry)) result }
-        ensures place { IfOk result (λ r. IsPlaceAfter c.entry r.1) }
+        input: &mut Input<'_, 'a>,
+    ) -> Result<(Ty<'a>, Option<Opaque<'a>>), Error>
+        requires { Nests self.now.depth (F.pre self.now.ty) (F.post self.now.ty) }
+        ensures { Reads (λ v. (ty_view v.0, v.1)) (types.square_inside (read_type self.now.depth)) input.old result input.new }
     {
-        if !sees(';', c) {
-            return Ok((None, c));
-        }
-        let (found, rest) = some_length(self.alloc, level, c)?;
-        Ok((Some(found), rest))
+        let found = self.ty(Mode::Whole, input)?;
+        joined(found, maybe_length(input))
     }
 
-    /// The inside of the brackets of a slice or an array.
-    fn square_inside<'t>(
-        &self,
-        level: usize,
-        c: Cursor<'t, 'a>,
-    ) -> Result<((Ty<'a>, Option<Opaque<'a>>), Cursor<'t, 'a>), Error>
-        requires here { sound c }
-        requires nests { Nests self.now.depth (F.pre self.now.ty) (F.post self.now.ty) }
-        requires fits { Fits self.now.depth level }
-        ensures reads { Reads (λ v. (ty_view v.0, v.1)) ((read_type self.now.depth Whole (place level c.entry) and types.read_length (read_type self.now.depth) (place level c.entry)) (left c.entry)) result }
-        ensures place { IfOk result (λ r. IsPlaceAfter c.entry r.1) }
+    /// Brackets and their inside.
+    fn bracketed(&self, input: &mut Input<'_, 'a>) -> Result<(Ty<'a>, Option<Opaque<'a>>), Error>
+        requires { Nests self.now.depth (F.pre self.now.ty) (F.post self.now.ty) }
+        ensures { Reads (λ v. (ty_view v.0, v.1)) (types.read_bracketed (read_type self.now.depth)) input.old result input.new }
     {
-        let (found, behind) = self.ty(Mode::Whole, level, c)?;
-        let (length, rest) = self.length(level, behind)?;
-        Ok(((found, length), rest))
+        let mut inside = input.open(Delim::Bracket)?;
+        let found = self.square_inside(&mut inside)?;
+        ended(found, inside.close())
     }
 
     /// A slice or an array.
-    pub fn square<'t>(
-        &self,
-        level: usize,
-        c: Cursor<'t, 'a>,
-    ) -> Result<(TyNode<'a>, Cursor<'t, 'a>), Error>
-        requires here { sound c }
-        requires nests { Nests self.now.depth (F.pre self.now.ty) (F.post self.now.ty) }
-        requires fits { HasRoom self.now.depth level }
-        ensures reads { Reads node_view (types.read_square (read_type self.now.depth) (place level c.entry) (left c.entry)) result }
-        ensures place { IfOk result (λ r. IsPlaceAfter c.entry r.1) }
+    pub fn square(&self, input: &mut Input<'_, 'a>) -> Result<TyNode<'a>, Error>
+        requires { Nests self.now.depth (F.pre self.now.ty) (F.post self.now.ty) }
+        ensures { Reads node_view (types.read_square (read_type self.now.depth)) input.old result input.new }
     {
-        let (inside, rest) = open(Delim::Bracket, level, c)?;
-        let ((found, length), left) = self.square_inside(level + 1, inside)?;
-        close(left)?;
-        let node = square_node(self.alloc, found, length)?;
-        Ok((node, rest))
+        let (found, length) = self.bracketed(input)?;
+        Ok(square_node(input.alloc(), found, length)?)
     }
+
     /// A type in parentheses or a tuple.
-    pub fn round<'t>(
-        &self,
-        level: usize,
-        c: Cursor<'t, 'a>,
-    ) -> Result<(TyNode<'a>, Cursor<'t, 'a>), Error>
-        requires here { sound c }
-        requires nests { Nests self.now.depth (F.pre self.now.ty) (F.post self.now.ty) }
-        requires fits { HasRoom self.now.depth level }
-        ensures reads { Reads node_view (types.read_round (read_type self.now.depth) (place level c.entry) (left c.entry)) result }
-        ensures place { IfOk result (λ r. IsPlaceAfter c.entry r.1) }
+    pub fn round(&self, input: &mut Input<'_, 'a>) -> Result<TyNode<'a>, Error>
+        requires { Nests self.now.depth (F.pre self.now.ty) (F.post self.now.ty) }
+        ensures { Reads node_view (types.read_round (read_type self.now.depth)) input.old result input.new }
     {
-        let (found, rest) = self.enclosed_types(level, c)?;
-        let node = round_node(self.alloc, found)?;
-        Ok((node, rest))
+        let found = self.enclosed_types(input)?;
+        Ok(round_node(input.alloc(), found)?)
     }
 }

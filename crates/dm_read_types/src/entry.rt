@@ -1,55 +1,46 @@
 //! Types and bounds that nest as deep as their levels may go.
 #![tactic(auto)]
 
-ghost use Rattle.std.specs.Prelude.{◌<◌, IfOk};
-ghost use Rattle.dm_stream.specs.Cursors.{left, sound, IsPlaceAfter};
 ghost use Rattle.dm_ast.specs.Tree.{ty_view, bound_view};
 ghost use Rattle.dm_ast.specs.Declarations.{listed};
+ghost use Rattle.dm_input.specs.Inputs.{Reads};
 ghost use Rattle.dm_read.specs.DeclarationReaders as spec;
+ghost use Rattle.dm_read_types.specs.TypeReaders as types;
+ghost use Rattle.dm_read_types.specs.TypeReaders.{read_type};
 ghost use Rattle.dm_read_types.specs.WholeReaders.{whole_type, whole_bound};
-ghost use Rattle.dm_ast.specs.Readers.{place, Reads};
 
 use crate::grammar::Grammar;
 use crate::kind::Mode;
 use crate::ty::ty as nested;
 use dm_ast::{Bound, Ty};
-use dm_stream::{Cursor, Error, Punctuated};
-use std::alloc::Global;
+use dm_input::Input;
+use dm_stream::{Error, Punctuated};
 
 /// How deep types nest: as deep as the levels of their tokens may go, and one more.
 pub const DEPTH: usize = 129;
 
 /// A type.
 #[tactic(auto, unfolding(crate::specs::WholeReaders::whole_type))]
-pub fn ty<'t, 'a>(
-    alloc: Global,
-    level: usize,
-    c: Cursor<'t, 'a>,
-) -> Result<(Ty<'a>, Cursor<'t, 'a>), Error>
-    requires here { sound c }
-    requires fits { level < 400 }
-    ensures reads { Reads ty_view (whole_type (place level c.entry) (left c.entry)) result }
-    ensures place { IfOk result (λ r. IsPlaceAfter c.entry r.1) }
+pub fn ty<'a>(input: &mut Input<'_, 'a>) -> Result<Ty<'a>, Error>
+    ensures { Reads ty_view whole_type input.old result input.new }
 {
-    nested(alloc, DEPTH, Mode::Whole, level, c)
+    nested(input, DEPTH, Mode::Whole)
+}
+
+/// Bounds with `+` between, whose types nest down to a depth.
+fn bounds_within<'a>(
+    depth: usize,
+    input: &mut Input<'_, 'a>,
+) -> Result<Punctuated<Bound<'a>>, Error>
+    ensures { Reads (listed bound_view) (spec.read_bound_list (types.read_bound (read_type depth) (types.inner_path (read_type depth)))) input.old result input.new }
+{
+    Grammar { depth, ty: nested }.bound_list(input)
 }
 
 /// Bounds with `+` between.
 #[tactic(auto, unfolding(crate::specs::WholeReaders::whole_bound))]
-pub fn bounds<'t, 'a>(
-    alloc: Global,
-    level: usize,
-    c: Cursor<'t, 'a>,
-) -> Result<(Punctuated<Bound<'a>>, Cursor<'t, 'a>), Error>
-    requires here { sound c }
-    requires fits { level < 400 }
-    ensures reads { Reads (listed bound_view) (spec.read_bound_list whole_bound (place level c.entry) (left c.entry)) result }
-    ensures place { IfOk result (λ r. IsPlaceAfter c.entry r.1) }
+pub fn bounds<'a>(input: &mut Input<'_, 'a>) -> Result<Punctuated<Bound<'a>>, Error>
+    ensures { Reads (listed bound_view) (spec.read_bound_list whole_bound) input.old result input.new }
 {
-    Grammar {
-        alloc,
-        depth: DEPTH,
-        ty: nested,
-    }
-    .bound_list(level, c)
+    bounds_within(DEPTH, input)
 }

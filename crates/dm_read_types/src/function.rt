@@ -1,79 +1,67 @@
 //! Function types.
 #![tactic(auto)]
 
-ghost use Rattle.std.specs.Prelude.{◌≡◌, IfOk, codes, map, option_map};
-ghost use Rattle.dm_stream.specs.Cursors.{left, sound, IsPlaceAfter};
-ghost use Rattle.dm_stream.specs.declared.tokens.Delim.TheVariants.{Paren};
-ghost use Rattle.dm_ast.specs.Spelling as spelling;
-ghost use Rattle.dm_ast.specs.TypeGrammar as grammar;
-ghost use Rattle.dm_ast.specs.Readers as spec;
-ghost use Rattle.dm_ast.specs.Readers.{place, Reads, ◌and◌, ◌next◌, ◌till◌};
+ghost use Rattle.std.specs.Prelude.{◌≡◌, ◌≤◌, IfOk, codes, map, option_map};
+ghost use Rattle.dm_ast.specs.Spelling.{deepest};
+ghost use Rattle.dm_ast.specs.Tree.{ty_view, node_view, input_view, input, inputs_of, maybe_type, bare_fn, fn_tree};
 ghost use Rattle.dm_read.specs.Stops.{list_view};
+ghost use Rattle.dm_input.specs.Inputs.{Reads};
+ghost use Rattle.dm_read_types.specs.FunctionViews.{signature_view, abi_view, unsafe_view, function_view};
 ghost use Rattle.dm_read_types.specs.TypeReaders as types;
 ghost use Rattle.dm_read_types.specs.TypeReaders.{read_type};
-ghost use Rattle.dm_read_types.specs.Nests.{Nests, Fits, FitsGroup, HasInside, HasRoom};
-ghost use Rattle.dm_ast.specs.Tree.{ty_view, node_view, input_view, input, inputs_of, maybe_type, bare_fn, fn_tree};
-ghost use Rattle.dm_read_types.specs.declared.kind.Mode.TheVariants.{Whole};
+ghost use Rattle.dm_read_types.specs.Nests.{Nests};
 
 use crate::grammar::Grammar;
 use crate::kind::Mode;
-use crate::pointers::flag;
+use crate::pointers::keyword;
 use dm_ast::{Attribute, BareFn, FnArg, Ty, TyNode};
-use dm_read::group::{close, open};
-use dm_read::lifetimes::for_lifetimes;
-use dm_read::list::{Rule, Stop, listed};
-use dm_read::parts::attributes;
-use dm_read::token::{colon, literal, sees_literal, sees_word, word};
-use dm_read::words::{input_name, sees_named};
-use dm_stream::{Cursor, Delim, Error, Ident, Lifetime, Literal, Punctuated, Seq};
+use dm_input::Input;
+use dm_input::join::{ended, joined};
+use dm_input::list::{Rule, listed};
+use dm_read::list::Stop;
+use dm_stream::{Delim, Error, Ident, Lifetime, Literal, Punctuated, Seq};
 use std::alloc::{AllocError, Global};
 
+/// Parameters, and what follows `->`.
+type Signature<'a> = (Punctuated<FnArg<'a>>, Option<Ty<'a>>);
+
+/// What follows `extern`, and the signature behind it.
+type Callable<'a> = (Option<Option<Literal<'a>>>, Signature<'a>);
+
 /// A name of a parameter and `:`.
-fn input_label<'t, 'a>(
-    alloc: Global,
-    level: usize,
-    c: Cursor<'t, 'a>,
-) -> Result<(Ident<'a>, Cursor<'t, 'a>), Error>
-    requires { sound c }
-    ensures reads { Reads (λ i. i) ((spec.read_ident grammar.is_input_name (place level c.entry) till spec.read_colon (place level c.entry)) (left c.entry)) result }
-    ensures place { IfOk result (λ r. IsPlaceAfter c.entry r.1) }
+fn label<'a>(input: &mut Input<'_, 'a>) -> Result<Ident<'a>, Error>
+    ensures { Reads (λ i. i) types.read_label input.old result input.new }
 {
-    let (found, behind) = input_name(level, c)?;
-    let own = found.clone_in(alloc)?;
-    let rest = colon(level, behind)?;
-    Ok((own, rest))
+    let name = input.input_name()?;
+    ended(name, input.colon())
 }
 
 /// A literal where it comes next.
-fn maybe_literal<'t, 'a>(
-    alloc: Global,
-    level: usize,
-    c: Cursor<'t, 'a>,
-) -> Result<(Option<Literal<'a>>, Cursor<'t, 'a>), Error>
-    requires { sound c }
-    ensures reads { Reads (λ l. l) (spec.read_perhaps spelling.sees_literal (spec.read_literal (place level c.entry)) (left c.entry)) result }
-    ensures place { IfOk result (λ r. IsPlaceAfter c.entry r.1) }
+fn maybe_literal<'a>(input: &mut Input<'_, 'a>) -> Result<Option<Literal<'a>>, Error>
+    ensures { Reads (λ l. l) types.read_maybe_literal input.old result input.new }
 {
-    if !sees_literal(c) {
-        return Ok((None, c));
+    if !input.sees_literal() {
+        return Ok(None);
     }
-    let (found, rest) = literal(level, c)?;
-    let own = found.clone_in(alloc)?;
-    Ok((Some(own), rest))
+    Ok(Some(input.literal()?))
 }
 
 /// `extern`, perhaps with a literal.
-fn some_abi<'t, 'a>(
-    alloc: Global,
-    level: usize,
-    c: Cursor<'t, 'a>,
-) -> Result<(Option<Literal<'a>>, Cursor<'t, 'a>), Error>
-    requires { sound c }
-    ensures reads { Reads (λ l. l) ((spec.read_word (codes "extern") (place level c.entry) next spec.read_perhaps spelling.sees_literal (spec.read_literal (place level c.entry))) (left c.entry)) result }
-    ensures place { IfOk result (λ r. IsPlaceAfter c.entry r.1) }
+fn some_abi<'a>(input: &mut Input<'_, 'a>) -> Result<Option<Literal<'a>>, Error>
+    ensures { Reads (λ l. l) types.read_some_abi input.old result input.new }
 {
-    let behind = word("extern", level, c)?;
-    maybe_literal(alloc, level, behind)
+    input.word("extern")?;
+    maybe_literal(input)
+}
+
+/// `extern` where it comes next.
+fn maybe_abi<'a>(input: &mut Input<'_, 'a>) -> Result<Option<Option<Literal<'a>>>, Error>
+    ensures { Reads (λ l. l) types.read_maybe_abi input.old result input.new }
+{
+    if !input.sees_word("extern") {
+        return Ok(None);
+    }
+    Ok(Some(some_abi(input)?))
 }
 
 /// A parameter.
@@ -107,233 +95,136 @@ fn function_node<'a>(
     Ok(TyNode::BareFn(inner))
 }
 
-impl<
-    'a,
-    F: for<'t> Fn(
-        Global,
-        usize,
-        Mode,
-        usize,
-        Cursor<'t, 'a>,
-    ) -> Result<(Ty<'a>, Cursor<'t, 'a>), Error>,
-> Grammar<F> {
+impl<'a, F: for<'t> Fn(&mut Input<'t, 'a>, usize, Mode) -> Result<Ty<'a>, Error>> Grammar<F> {
     /// A name, `:` and a type.
-    fn labelled<'t>(
-        &self,
-        level: usize,
-        c: Cursor<'t, 'a>,
-    ) -> Result<((Ident<'a>, Ty<'a>), Cursor<'t, 'a>), Error>
-        requires here { sound c }
-        requires nests { Nests self.now.depth (F.pre self.now.ty) (F.post self.now.ty) }
-        requires fits { Fits self.now.depth level }
-        ensures reads { Reads (λ v. (v.0, ty_view v.1)) (((spec.read_ident grammar.is_input_name (place level c.entry) till spec.read_colon (place level c.entry)) and read_type self.now.depth Whole (place level c.entry)) (left c.entry)) result }
-        ensures place { IfOk result (λ r. IsPlaceAfter c.entry r.1) }
+    fn labelled(&self, input: &mut Input<'_, 'a>) -> Result<(Ident<'a>, Ty<'a>), Error>
+        requires { Nests self.now.depth (F.pre self.now.ty) (F.post self.now.ty) }
+        ensures { Reads (λ v. (v.0, ty_view v.1)) (types.read_labelled (read_type self.now.depth)) input.old result input.new }
     {
-        let (name, behind) = input_label(self.alloc, level, c)?;
-        let (found, rest) = self.ty(Mode::Whole, level, behind)?;
-        Ok(((name, found), rest))
+        let name = label(input)?;
+        joined(name, self.ty(Mode::Whole, input))
     }
 
     /// A type, perhaps with a name.
-    fn named_type<'t>(
-        &self,
-        level: usize,
-        c: Cursor<'t, 'a>,
-    ) -> Result<((Option<Ident<'a>>, Ty<'a>), Cursor<'t, 'a>), Error>
-        requires here { sound c }
-        requires nests { Nests self.now.depth (F.pre self.now.ty) (F.post self.now.ty) }
-        requires fits { Fits self.now.depth level }
-        ensures reads { Reads (λ v. (v.0, ty_view v.1)) (types.read_named_type (read_type self.now.depth) (place level c.entry) (left c.entry)) result }
-        ensures place { IfOk result (λ r. IsPlaceAfter c.entry r.1) }
+    fn named_type(&self, input: &mut Input<'_, 'a>) -> Result<(Option<Ident<'a>>, Ty<'a>), Error>
+        requires { Nests self.now.depth (F.pre self.now.ty) (F.post self.now.ty) }
+        ensures { Reads (λ v. (v.0, ty_view v.1)) (types.read_named_type (read_type self.now.depth)) input.old result input.new }
     {
-        if sees_named(c) {
-            let ((name, found), rest) = self.labelled(level, c)?;
-            return Ok(((Some(name), found), rest));
+        if input.sees_named() {
+            let (name, found) = self.labelled(input)?;
+            return Ok((Some(name), found));
         }
-        let (found, rest) = self.ty(Mode::Whole, level, c)?;
-        Ok(((None, found), rest))
+        Ok((None, self.ty(Mode::Whole, input)?))
+    }
+
+    /// The parts of a parameter.
+    fn input_parts(
+        &self,
+        input: &mut Input<'_, 'a>,
+    ) -> Result<(Seq<Attribute<'a>>, (Option<Ident<'a>>, Ty<'a>)), Error>
+        requires { Nests self.now.depth (F.pre self.now.ty) (F.post self.now.ty) }
+        ensures { Reads (λ v. (v.0, (v.1.0, ty_view v.1.1))) (types.read_input_parts (read_type self.now.depth)) input.old result input.new }
+    {
+        let attrs = input.attributes()?;
+        joined(attrs, self.named_type(input))
     }
 
     /// A parameter.
-    fn input<'t>(
-        &self,
-        level: usize,
-        c: Cursor<'t, 'a>,
-    ) -> Result<(FnArg<'a>, Cursor<'t, 'a>), Error>
-        requires here { sound c }
-        requires nests { Nests self.now.depth (F.pre self.now.ty) (F.post self.now.ty) }
-        requires fits { FitsGroup self.now.depth level }
-        ensures reads { Reads input_view (types.read_input (read_type self.now.depth) (place level c.entry) (left c.entry)) result }
-        ensures place { IfOk result (λ r. IsPlaceAfter c.entry r.1) }
+    fn input(&self, input: &mut Input<'_, 'a>) -> Result<FnArg<'a>, Error>
+        requires { Nests self.now.depth (F.pre self.now.ty) (F.post self.now.ty) }
+        ensures { Reads input_view (types.read_input (read_type self.now.depth)) input.old result input.new }
     {
-        let (attrs, behind) = attributes(self.alloc, level, c)?;
-        let ((name, ty), rest) = self.named_type(level, behind)?;
-        Ok((input_of(attrs, name, ty), rest))
+        let (attrs, (name, ty)) = self.input_parts(input)?;
+        Ok(input_of(attrs, name, ty))
     }
 
     /// Parameters with commas between.
-    fn inputs<'t>(
-        &self,
-        level: usize,
-        c: Cursor<'t, 'a>,
-    ) -> Result<(Punctuated<FnArg<'a>>, Cursor<'t, 'a>), Error>
-        requires here { sound c }
-        requires nests { Nests self.now.depth (F.pre self.now.ty) (F.post self.now.ty) }
-        requires fits { FitsGroup self.now.depth level }
-        ensures reads { Reads (λ v. types.inputs_pair (list_view input_view v)) (types.read_inputs (read_type self.now.depth) (place level c.entry) (left c.entry)) result }
-        ensures place { IfOk result (λ r. IsPlaceAfter c.entry r.1) }
+    fn inputs(&self, input: &mut Input<'_, 'a>) -> Result<Punctuated<FnArg<'a>>, Error>
+        requires { Nests self.now.depth (F.pre self.now.ty) (F.post self.now.ty) }
+        ensures { Reads (λ v. types.inputs_pair (list_view input_view v)) (types.read_inputs (read_type self.now.depth)) input.old result input.new }
     {
-        listed(
-            self.alloc,
-            &InputRule { grammar: self },
-            ',',
-            Stop::End,
-            level,
-            c,
-        )
+        listed(&InputRule { grammar: self }, ',', Stop::End, input)
     }
 
     /// Parameters in parentheses.
-    fn enclosed_inputs<'t>(
-        &self,
-        level: usize,
-        c: Cursor<'t, 'a>,
-    ) -> Result<(Punctuated<FnArg<'a>>, Cursor<'t, 'a>), Error>
-        requires here { sound c }
-        requires nests { Nests self.now.depth (F.pre self.now.ty) (F.post self.now.ty) }
-        requires fits { HasInside self.now.depth level }
-        ensures reads { Reads (λ v. types.inputs_pair (list_view input_view v)) (spec.read_group Paren (types.read_inputs (read_type self.now.depth)) (place level c.entry) (left c.entry)) result }
-        ensures place { IfOk result (λ r. IsPlaceAfter c.entry r.1) }
+    fn enclosed_inputs(&self, input: &mut Input<'_, 'a>) -> Result<Punctuated<FnArg<'a>>, Error>
+        requires { Nests self.now.depth (F.pre self.now.ty) (F.post self.now.ty) }
+        ensures { Reads (λ v. types.inputs_pair (list_view input_view v)) (types.read_enclosed_inputs (read_type self.now.depth)) input.old result input.new }
     {
-        let (inside, rest) = open(Delim::Paren, level, c)?;
-        let (found, left) = self.inputs(level + 1, inside)?;
-        close(left)?;
-        Ok((found, rest))
-    }
-
-    /// `extern` where it comes next.
-    fn abi<'t>(
-        &self,
-        level: usize,
-        c: Cursor<'t, 'a>,
-    ) -> Result<(Option<Option<Literal<'a>>>, Cursor<'t, 'a>), Error>
-        requires here { sound c }
-        requires nests { Nests self.now.depth (F.pre self.now.ty) (F.post self.now.ty) }
-        requires fits { HasRoom self.now.depth level }
-        ensures reads { Reads (λ l. l) (types.read_abi (read_type self.now.depth) (place level c.entry) (left c.entry)) result }
-        ensures place { IfOk result (λ r. IsPlaceAfter c.entry r.1) }
-    {
-        if !sees_word("extern", c) {
-            return Ok((None, c));
-        }
-        let (found, rest) = some_abi(self.alloc, level, c)?;
-        Ok((Some(found), rest))
+        let mut inside = input.open(Delim::Paren)?;
+        let found = self.inputs(&mut inside)?;
+        ended(found, inside.close())
     }
 
     /// Parameters and what follows `->`.
-    fn behind_fn<'t>(
-        &self,
-        level: usize,
-        c: Cursor<'t, 'a>,
-    ) -> Result<((Punctuated<FnArg<'a>>, Option<Ty<'a>>), Cursor<'t, 'a>), Error>
-        requires here { sound c }
-        requires nests { Nests self.now.depth (F.pre self.now.ty) (F.post self.now.ty) }
-        requires fits { HasInside self.now.depth level }
-        ensures reads { Reads (λ v. (types.inputs_pair (list_view input_view v.0), maybe_type (option_map ty_view v.1))) ((spec.read_group Paren (types.read_inputs (read_type self.now.depth)) (place level c.entry) and types.read_output (read_type self.now.depth) (place level c.entry) (place level c.entry)) (left c.entry)) result }
-        ensures place { IfOk result (λ r. IsPlaceAfter c.entry r.1) }
+    fn behind_fn(&self, input: &mut Input<'_, 'a>) -> Result<Signature<'a>, Error>
+        requires { Nests self.now.depth (F.pre self.now.ty) (F.post self.now.ty) }
+        ensures { Reads signature_view (types.read_behind_fn (read_type self.now.depth)) input.old result input.new }
     {
-        let (inputs, behind) = self.enclosed_inputs(level, c)?;
-        let (output, rest) = self.output(level, level, behind)?;
-        Ok(((inputs, output), rest))
+        let inputs = self.enclosed_inputs(input)?;
+        joined(inputs, self.output(input))
+    }
+
+    /// What follows `fn`: its tokens stand one level deeper.
+    #[tactic(auto, using(dm_input::proofs::Levels::level_steps))]
+    fn deep_behind_fn(&self, input: &mut Input<'_, 'a>) -> Result<Signature<'a>, Error>
+        requires level { input.old.at.level ≤ deepest }
+        requires nests { Nests self.now.depth (F.pre self.now.ty) (F.post self.now.ty) }
+        ensures { Reads signature_view (types.read_deep_behind_fn (read_type self.now.depth)) input.old result input.new }
+    {
+        input.down();
+        let found = self.behind_fn(input)?;
+        input.up();
+        Ok(found)
     }
 
     /// `fn` and what follows.
-    fn signature<'t>(
-        &self,
-        level: usize,
-        c: Cursor<'t, 'a>,
-    ) -> Result<((Punctuated<FnArg<'a>>, Option<Ty<'a>>), Cursor<'t, 'a>), Error>
-        requires here { sound c }
-        requires nests { Nests self.now.depth (F.pre self.now.ty) (F.post self.now.ty) }
-        requires fits { HasRoom self.now.depth level }
-        ensures reads { Reads (λ v. (types.inputs_pair (list_view input_view v.0), maybe_type (option_map ty_view v.1))) (types.read_signature (read_type self.now.depth) (place level c.entry) (left c.entry)) result }
-        ensures place { IfOk result (λ r. IsPlaceAfter c.entry r.1) }
+    fn signature(&self, input: &mut Input<'_, 'a>) -> Result<Signature<'a>, Error>
+        requires { Nests self.now.depth (F.pre self.now.ty) (F.post self.now.ty) }
+        ensures { Reads signature_view (types.read_signature (read_type self.now.depth)) input.old result input.new }
     {
-        let behind = word("fn", level, c)?;
-        self.behind_fn(level + 1, behind)
+        input.word("fn")?;
+        self.deep_behind_fn(input)
     }
 
     /// What follows `unsafe`.
-    fn behind_unsafe<'t>(
-        &self,
-        level: usize,
-        c: Cursor<'t, 'a>,
-    ) -> Result<
-        (
-            (
-                Option<Option<Literal<'a>>>,
-                (Punctuated<FnArg<'a>>, Option<Ty<'a>>),
-            ),
-            Cursor<'t, 'a>,
-        ),
-        Error,
-    >
-        requires here { sound c }
-        requires nests { Nests self.now.depth (F.pre self.now.ty) (F.post self.now.ty) }
-        requires fits { HasRoom self.now.depth level }
-        ensures reads { Reads (λ v. (v.0, (types.inputs_pair (list_view input_view v.1.0), maybe_type (option_map ty_view v.1.1)))) ((types.read_abi (read_type self.now.depth) (place level c.entry) and types.read_signature (read_type self.now.depth) (place level c.entry)) (left c.entry)) result }
-        ensures place { IfOk result (λ r. IsPlaceAfter c.entry r.1) }
+    fn behind_unsafe(&self, input: &mut Input<'_, 'a>) -> Result<Callable<'a>, Error>
+        requires { Nests self.now.depth (F.pre self.now.ty) (F.post self.now.ty) }
+        ensures { Reads abi_view (types.read_behind_unsafe (read_type self.now.depth)) input.old result input.new }
     {
-        let (abi, behind) = self.abi(level, c)?;
-        let (found, rest) = self.signature(level, behind)?;
-        Ok(((abi, found), rest))
+        let abi = maybe_abi(input)?;
+        joined(abi, self.signature(input))
     }
 
     /// What follows the lifetimes of a function type.
-    fn behind_for<'t>(
-        &self,
-        level: usize,
-        c: Cursor<'t, 'a>,
-    ) -> Result<
-        (
-            (
-                bool,
-                (
-                    Option<Option<Literal<'a>>>,
-                    (Punctuated<FnArg<'a>>, Option<Ty<'a>>),
-                ),
-            ),
-            Cursor<'t, 'a>,
-        ),
-        Error,
-    >
-        requires here { sound c }
-        requires nests { Nests self.now.depth (F.pre self.now.ty) (F.post self.now.ty) }
-        requires fits { HasRoom self.now.depth level }
-        ensures reads { Reads (λ v. (v.0, (v.1.0, (types.inputs_pair (list_view input_view v.1.1.0), maybe_type (option_map ty_view v.1.1.1))))) ((spec.read_flag (spelling.sees_word (codes "unsafe")) (spec.read_word (codes "unsafe") (place level c.entry)) and (types.read_abi (read_type self.now.depth) (place level c.entry) and types.read_signature (read_type self.now.depth) (place level c.entry))) (left c.entry)) result }
-        ensures place { IfOk result (λ r. IsPlaceAfter c.entry r.1) }
+    fn behind_for(&self, input: &mut Input<'_, 'a>) -> Result<(bool, Callable<'a>), Error>
+        requires { Nests self.now.depth (F.pre self.now.ty) (F.post self.now.ty) }
+        ensures { Reads unsafe_view (types.read_behind_for (read_type self.now.depth)) input.old result input.new }
     {
-        let (is_unsafe, behind) = flag("unsafe", level, c)?;
-        let (found, rest) = self.behind_unsafe(level, behind)?;
-        Ok(((is_unsafe, found), rest))
+        let is_unsafe = keyword("unsafe", input)?;
+        joined(is_unsafe, self.behind_unsafe(input))
+    }
+
+    /// All parts of a function type.
+    fn function_parts(
+        &self,
+        input: &mut Input<'_, 'a>,
+    ) -> Result<(Option<Punctuated<Lifetime<'a>>>, (bool, Callable<'a>)), Error>
+        requires { Nests self.now.depth (F.pre self.now.ty) (F.post self.now.ty) }
+        ensures { Reads function_view (types.read_function_parts (read_type self.now.depth)) input.old result input.new }
+    {
+        let lifetimes = input.for_lifetimes()?;
+        joined(lifetimes, self.behind_for(input))
     }
 
     /// A function type.
-    pub fn function<'t>(
-        &self,
-        level: usize,
-        c: Cursor<'t, 'a>,
-    ) -> Result<(TyNode<'a>, Cursor<'t, 'a>), Error>
-        requires here { sound c }
-        requires nests { Nests self.now.depth (F.pre self.now.ty) (F.post self.now.ty) }
-        requires fits { HasRoom self.now.depth level }
-        ensures reads { Reads node_view (types.read_function (read_type self.now.depth) (place level c.entry) (left c.entry)) result }
-        ensures place { IfOk result (λ r. IsPlaceAfter c.entry r.1) }
+    pub fn function(&self, input: &mut Input<'_, 'a>) -> Result<TyNode<'a>, Error>
+        requires { Nests self.now.depth (F.pre self.now.ty) (F.post self.now.ty) }
+        ensures { Reads node_view (types.read_function (read_type self.now.depth)) input.old result input.new }
     {
-        let (lifetimes, behind) = for_lifetimes(self.alloc, level, c)?;
-        let ((is_unsafe, (abi, (inputs, output))), rest) = self.behind_for(level, behind)?;
-        let node = function_node(self.alloc, lifetimes, is_unsafe, abi, inputs, output)?;
-        Ok((node, rest))
+        let (lifetimes, (is_unsafe, (abi, (inputs, output)))) = self.function_parts(input)?;
+        let alloc = input.alloc();
+        Ok(function_node(alloc, lifetimes, is_unsafe, abi, inputs, output)?)
     }
 }
 
@@ -343,19 +234,10 @@ struct InputRule<'g, F> {
     grammar: &'g Grammar<F>,
 }
 
-impl<
-    'g,
-    'a,
-    F: for<'t> Fn(
-        Global,
-        usize,
-        Mode,
-        usize,
-        Cursor<'t, 'a>,
-    ) -> Result<(Ty<'a>, Cursor<'t, 'a>), Error>,
-> Rule<'a> for InputRule<'g, F> {
+impl<'g, 'a, F: for<'t> Fn(&mut Input<'t, 'a>, usize, Mode) -> Result<Ty<'a>, Error>> Rule<'a>
+    for InputRule<'g, F> {
     ghost use Rattle.dm_ast.specs.Tree.{InputTree, input_view};
-    ghost use Rattle.dm_read_types.specs.Nests.{Nests, FitsGroup};
+    ghost use Rattle.dm_read_types.specs.Nests.{Nests};
     ghost use Rattle.dm_read_types.specs.TypeReaders as types;
     ghost use Rattle.dm_read_types.specs.TypeReaders.{read_type};
 
@@ -365,15 +247,11 @@ impl<
 
     ghost view = { input_view };
 
-    ghost usable = { λ r level. Nests r.grammar.now.depth (F.pre r.grammar.now.ty) (F.post r.grammar.now.ty) × FitsGroup r.grammar.now.depth level };
+    ghost usable = { λ r. Nests r.grammar.now.depth (F.pre r.grammar.now.ty) (F.post r.grammar.now.ty) };
 
     ghost reader = { λ r w. types.read_input (read_type r.grammar.now.depth) w };
 
-    fn read<'t>(
-        &self,
-        level: usize,
-        c: Cursor<'t, 'a>,
-    ) -> Result<(FnArg<'a>, Cursor<'t, 'a>), Error> {
-        self.grammar.input(level, c)
+    fn read(&self, input: &mut Input<'_, 'a>) -> Result<FnArg<'a>, Error> {
+        self.grammar.input(input)
     }
 }

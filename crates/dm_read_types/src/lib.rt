@@ -1,4 +1,5 @@
-//! Reading types, paths and bounds.
+//! Reading types, paths and bounds by the grammar of docs/FORMATS.md, "Read" (Rust Reference, "Types", "Paths", "Trait and lifetime
+//! bounds").
 #![tactic(auto)]
 
 pub mod arguments;

@@ -1,25 +1,23 @@
 //! Types: which rule reads one, and its range.
 #![tactic(auto)]
 
-ghost use Rattle.std.specs.Prelude.{◌≡◌, IfOk, true, false};
-ghost use Rattle.dm_stream.specs.Cursors.{left, sound, IsPlaceAfter};
-ghost use Rattle.dm_ast.specs.Readers as spec;
-ghost use Rattle.dm_ast.specs.Readers.{place, Reads, ◌gives◌};
+ghost use Rattle.std.specs.Prelude.{◌≡◌};
+ghost use Rattle.dm_stream.specs.Cursors.{left, sound};
+ghost use Rattle.dm_ast.specs.Tree.{ty_view, node_view};
+ghost use Rattle.dm_input.specs.Inputs.{Reads};
 ghost use Rattle.dm_read_types.specs.TypeReaders as types;
 ghost use Rattle.dm_read_types.specs.TypeReaders.{read_type};
-ghost use Rattle.dm_read_types.specs.Nests.{Nests, HasRoom};
-ghost use Rattle.dm_ast.specs.Tree.{ty_view, node_view};
+ghost use Rattle.dm_read_types.specs.Nests.{Nests};
 
 use crate::grammar::Grammar;
 use crate::kind::{Mode, NodeKind};
-use crate::small::path_node;
+use crate::small::{call_type, infer_type, never_type, path_node};
 use dm_ast::{Ty, TyNode};
+use dm_input::Input;
 use dm_read::group::delim;
 use dm_read::macro_call::sees_macro;
-use dm_read::range::range_between;
 use dm_read::token::is_word;
 use dm_stream::{Cursor, Delim, Error, Ident, Span};
-use std::alloc::Global;
 
 fn punct_kind(ch: char) -> NodeKind
     ensures { result ≡ types.punct_kind ch }
@@ -108,97 +106,57 @@ fn type_of<'a>(node: TyNode<'a>, span: Span) -> Ty<'a>
     Ty { node, span }
 }
 
-impl<
-    'a,
-    F: for<'t> Fn(
-        Global,
-        usize,
-        Mode,
-        usize,
-        Cursor<'t, 'a>,
-    ) -> Result<(Ty<'a>, Cursor<'t, 'a>), Error>,
-> Grammar<F> {
+impl<'a, F: for<'t> Fn(&mut Input<'t, 'a>, usize, Mode) -> Result<Ty<'a>, Error>> Grammar<F> {
     /// What the type that comes next is.
-    fn node<'t>(
-        &self,
-        single: bool,
-        level: usize,
-        c: Cursor<'t, 'a>,
-    ) -> Result<(TyNode<'a>, Cursor<'t, 'a>), Error>
-        requires here { sound c }
-        requires nests { Nests self.now.depth (F.pre self.now.ty) (F.post self.now.ty) }
-        requires fits { HasRoom self.now.depth level }
-        ensures reads { Reads node_view (types.read_node (read_type self.now.depth) single (place level c.entry) (left c.entry)) result }
-        ensures place { IfOk result (λ r. IsPlaceAfter c.entry r.1) }
+    fn node(&self, single: bool, input: &mut Input<'_, 'a>) -> Result<TyNode<'a>, Error>
+        requires { Nests self.now.depth (F.pre self.now.ty) (F.post self.now.ty) }
+        ensures { Reads node_view (types.read_node (read_type self.now.depth) single) input.old result input.new }
     {
-        match node_kind(c) {
-            NodeKind::Call => self.call(level, c),
-            NodeKind::Round => self.round(level, c),
-            NodeKind::Square => self.square(level, c),
-            NodeKind::Reference => self.reference(level, c),
-            NodeKind::Pointer => self.pointer(level, c),
-            NodeKind::Function => self.function(level, c),
-            NodeKind::Object => self.object(single, level, c),
-            NodeKind::Implied => self.implied(single, level, c),
-            NodeKind::Infer => self.infer(single, level, c),
-            NodeKind::Never => self.never(single, level, c),
-            NodeKind::Qualified => self.qualified(level, c),
-            NodeKind::Path => self.path_type(single, level, c),
+        match node_kind(input.cursor()) {
+            NodeKind::Call => call_type(input),
+            NodeKind::Round => self.round(input),
+            NodeKind::Square => self.square(input),
+            NodeKind::Reference => self.reference(input),
+            NodeKind::Pointer => self.pointer(input),
+            NodeKind::Function => self.function(input),
+            NodeKind::Object => self.object(single, input),
+            NodeKind::Implied => self.implied(single, input),
+            NodeKind::Infer => infer_type(input),
+            NodeKind::Never => never_type(input),
+            NodeKind::Qualified => self.qualified(input),
+            NodeKind::Path => self.path_type(input),
         }
     }
 
     /// A type with its range.
-    fn ranged_node<'t>(
-        &self,
-        single: bool,
-        level: usize,
-        c: Cursor<'t, 'a>,
-    ) -> Result<(Ty<'a>, Cursor<'t, 'a>), Error>
-        requires here { sound c }
-        requires nests { Nests self.now.depth (F.pre self.now.ty) (F.post self.now.ty) }
-        requires fits { HasRoom self.now.depth level }
-        ensures reads { Reads ty_view ((spec.ranged (types.read_node (read_type self.now.depth) single (place level c.entry)) gives types.type_of) (left c.entry)) result }
-        ensures place { IfOk result (λ r. IsPlaceAfter c.entry r.1) }
+    fn ranged_node(&self, single: bool, input: &mut Input<'_, 'a>) -> Result<Ty<'a>, Error>
+        requires { Nests self.now.depth (F.pre self.now.ty) (F.post self.now.ty) }
+        ensures { Reads ty_view (types.read_ranged_node (read_type self.now.depth) single) input.old result input.new }
     {
-        let (node, rest) = self.node(single, level, c)?;
-        let span = range_between(c, rest);
-        Ok((type_of(node, span), rest))
+        let begun = input.cursor();
+        let node = self.node(single, input)?;
+        Ok(type_of(node, input.since(begun)))
     }
 
     /// A path with its range, as a type.
-    fn ranged_path<'t>(
-        &self,
-        level: usize,
-        c: Cursor<'t, 'a>,
-    ) -> Result<(Ty<'a>, Cursor<'t, 'a>), Error>
-        requires here { sound c }
-        requires nests { Nests self.now.depth (F.pre self.now.ty) (F.post self.now.ty) }
-        requires fits { HasRoom self.now.depth level }
-        ensures reads { Reads ty_view ((spec.ranged (types.read_path (read_type self.now.depth) (place level c.entry)) gives types.path_type) (left c.entry)) result }
-        ensures place { IfOk result (λ r. IsPlaceAfter c.entry r.1) }
+    fn ranged_path(&self, input: &mut Input<'_, 'a>) -> Result<Ty<'a>, Error>
+        requires { Nests self.now.depth (F.pre self.now.ty) (F.post self.now.ty) }
+        ensures { Reads ty_view (types.read_ranged_path (read_type self.now.depth)) input.old result input.new }
     {
-        let (found, rest) = self.path(level, c)?;
-        let span = range_between(c, rest);
-        Ok((type_of(path_node(found), span), rest))
+        let begun = input.cursor();
+        let found = self.path(input)?;
+        Ok(type_of(path_node(found), input.since(begun)))
     }
 
     /// What may stand where a type may.
-    pub fn level<'t>(
-        &self,
-        mode: Mode,
-        level: usize,
-        c: Cursor<'t, 'a>,
-    ) -> Result<(Ty<'a>, Cursor<'t, 'a>), Error>
-        requires here { sound c }
-        requires nests { Nests self.now.depth (F.pre self.now.ty) (F.post self.now.ty) }
-        requires fits { HasRoom self.now.depth level }
-        ensures reads { Reads ty_view (types.read_level (read_type self.now.depth) mode (place level c.entry) (left c.entry)) result }
-        ensures place { IfOk result (λ r. IsPlaceAfter c.entry r.1) }
+    pub fn level(&self, mode: Mode, input: &mut Input<'_, 'a>) -> Result<Ty<'a>, Error>
+        requires { Nests self.now.depth (F.pre self.now.ty) (F.post self.now.ty) }
+        ensures { Reads ty_view (types.read_level (read_type self.now.depth) mode) input.old result input.new }
     {
         match mode {
-            Mode::Whole => self.ranged_node(false, level, c),
-            Mode::Single => self.ranged_node(true, level, c),
-            Mode::PathOnly => self.ranged_path(level, c),
+            Mode::Whole => self.ranged_node(false, input),
+            Mode::Single => self.ranged_node(true, input),
+            Mode::PathOnly => self.ranged_path(input),
         }
     }
 }

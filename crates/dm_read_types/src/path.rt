@@ -1,27 +1,23 @@
 //! Paths.
 #![tactic(auto)]
 
-ghost use Rattle.std.specs.Prelude.{◌≡◌, IfOk, map, option_map};
-ghost use Rattle.dm_stream.specs.Cursors.{left, sound, IsPlaceAfter};
-ghost use Rattle.dm_stream.specs.declared.tokens.Delim.TheVariants.{Paren};
-ghost use Rattle.dm_ast.specs.Readers as spec;
-ghost use Rattle.dm_ast.specs.Readers.{place, Reads, ◌and◌};
-ghost use Rattle.dm_ast.specs.PlainReaders as plain;
+ghost use Rattle.std.specs.Prelude.{◌≡◌, ◌≤◌, IfOk, map, option_map};
+ghost use Rattle.dm_ast.specs.Spelling.{deepest};
 ghost use Rattle.dm_read.specs.Stops.{list_view};
+ghost use Rattle.dm_input.specs.Inputs.{Reads};
 ghost use Rattle.dm_read_types.specs.TypeReaders as types;
 ghost use Rattle.dm_read_types.specs.TypeReaders.{read_type};
-ghost use Rattle.dm_read_types.specs.Nests.{Nests, HasInside};
+ghost use Rattle.dm_read_types.specs.Nests.{Nests};
 ghost use Rattle.dm_ast.specs.Tree.{ty_view, path_view, segment_view, arguments_view, argument_view, maybe_type, no_type, some_type, types_of, arguments_of, segments_of, path_tree, segment, absent, angle, parens};
 
 use crate::grammar::Grammar;
 use crate::kind::Mode;
 use dm_ast::{GenericArgument, Path, PathArguments, PathSegment, Ty};
-use dm_read::group::{close, open};
-use dm_read::list::{Link, Rule, chained};
-use dm_read::parts::leading;
-use dm_read::token::{punct, sees_group};
-use dm_read::words::{path_word, sees_arguments};
-use dm_stream::{Cursor, Delim, Error, Ident, Punctuated, Seq};
+use dm_input::Input;
+use dm_input::join::{ended, joined};
+use dm_input::list::{Rule, chained};
+use dm_read::list::Link;
+use dm_stream::{Delim, Error, Ident, Punctuated, Seq};
 use std::alloc::{AllocError, Global};
 
 /// No arguments.
@@ -94,162 +90,136 @@ pub fn path_of<'a>(leading_colon: bool, segments: Seq<PathSegment<'a>>) -> Path<
     }
 }
 
-impl<
-    'a,
-    F: for<'t> Fn(
-        Global,
-        usize,
-        Mode,
-        usize,
-        Cursor<'t, 'a>,
-    ) -> Result<(Ty<'a>, Cursor<'t, 'a>), Error>,
-> Grammar<F> {
-    /// Types in parentheses.
-    pub fn enclosed_types<'t>(
+impl<'a, F: for<'t> Fn(&mut Input<'t, 'a>, usize, Mode) -> Result<Ty<'a>, Error>> Grammar<F> {
+    /// Types in parentheses, and what follows `->`.
+    fn parens_parts(
         &self,
-        level: usize,
-        c: Cursor<'t, 'a>,
-    ) -> Result<(Punctuated<Ty<'a>>, Cursor<'t, 'a>), Error>
-        requires here { sound c }
-        requires nests { Nests self.now.depth (F.pre self.now.ty) (F.post self.now.ty) }
-        requires fits { HasInside self.now.depth level }
-        ensures reads { Reads (λ v. types.types_pair (list_view ty_view v)) (spec.read_group Paren (types.read_types (read_type self.now.depth)) (place level c.entry) (left c.entry)) result }
-        ensures place { IfOk result (λ r. IsPlaceAfter c.entry r.1) }
+        input: &mut Input<'_, 'a>,
+    ) -> Result<(Punctuated<Ty<'a>>, Option<Ty<'a>>), Error>
+        requires { Nests self.now.depth (F.pre self.now.ty) (F.post self.now.ty) }
+        ensures { Reads (λ v. (types.types_pair (list_view ty_view v.0), maybe_type (option_map ty_view v.1))) (types.read_parens_parts (read_type self.now.depth)) input.old result input.new }
     {
-        let (inside, rest) = open(Delim::Paren, level, c)?;
-        let (found, left) = self.types(level + 1, inside)?;
-        close(left)?;
-        Ok((found, rest))
+        let inputs = self.enclosed_types(input)?;
+        joined(inputs, self.deep_output(input))
     }
 
-    /// Types in parentheses, and what follows `->`.
-    fn parens<'t>(
-        &self,
-        level: usize,
-        c: Cursor<'t, 'a>,
-    ) -> Result<(PathArguments<'a>, Cursor<'t, 'a>), Error>
-        requires here { sound c }
-        requires nests { Nests self.now.depth (F.pre self.now.ty) (F.post self.now.ty) }
-        requires fits { HasInside self.now.depth level }
-        ensures reads { Reads arguments_view (types.read_parens (read_type self.now.depth) (place level c.entry) (left c.entry)) result }
-        ensures place { IfOk result (λ r. IsPlaceAfter c.entry r.1) }
+    /// Types in parentheses, and what follows `->`, as arguments.
+    fn parens(&self, input: &mut Input<'_, 'a>) -> Result<PathArguments<'a>, Error>
+        requires { Nests self.now.depth (F.pre self.now.ty) (F.post self.now.ty) }
+        ensures { Reads arguments_view (types.read_parens (read_type self.now.depth)) input.old result input.new }
     {
-        let (inputs, behind) = self.enclosed_types(level, c)?;
-        let (output, rest) = self.output(level, level + 1, behind)?;
-        let found = parens_of(self.alloc, inputs, output)?;
-        Ok((found, rest))
+        let (inputs, output) = self.parens_parts(input)?;
+        Ok(parens_of(input.alloc(), inputs, output)?)
+    }
+
+    /// Arguments whose tokens stand one level deeper.
+    #[tactic(auto, using(dm_input::proofs::Levels::level_steps))]
+    fn deep_arguments(
+        &self,
+        input: &mut Input<'_, 'a>,
+    ) -> Result<Punctuated<GenericArgument<'a>>, Error>
+        requires level { input.old.at.level ≤ deepest }
+        requires nests { Nests self.now.depth (F.pre self.now.ty) (F.post self.now.ty) }
+        ensures { Reads (λ v. types.arguments_pair (list_view argument_view v)) (types.read_deep_arguments (read_type self.now.depth)) input.old result input.new }
+    {
+        input.down();
+        let found = self.arguments(input)?;
+        input.up();
+        Ok(found)
+    }
+
+    /// Arguments and `>`.
+    fn till_angle(
+        &self,
+        input: &mut Input<'_, 'a>,
+    ) -> Result<Punctuated<GenericArgument<'a>>, Error>
+        requires level { input.old.at.level ≤ deepest }
+        requires nests { Nests self.now.depth (F.pre self.now.ty) (F.post self.now.ty) }
+        ensures { Reads (λ v. types.arguments_pair (list_view argument_view v)) (types.read_till_angle (read_type self.now.depth)) input.old result input.new }
+    {
+        let found = self.deep_arguments(input)?;
+        ended(found, input.punct('>'))
     }
 
     /// Arguments between `<` and `>`.
-    fn between_angles<'t>(
+    fn between_angles(
         &self,
-        level: usize,
-        c: Cursor<'t, 'a>,
-    ) -> Result<(Punctuated<GenericArgument<'a>>, Cursor<'t, 'a>), Error>
-        requires here { sound c }
-        requires nests { Nests self.now.depth (F.pre self.now.ty) (F.post self.now.ty) }
-        requires fits { HasInside self.now.depth level }
-        ensures reads { Reads (λ v. types.arguments_pair (list_view argument_view v)) (plain.read_angles (types.read_arguments (read_type self.now.depth)) (place level c.entry) (left c.entry)) result }
-        ensures place { IfOk result (λ r. IsPlaceAfter c.entry r.1) }
+        input: &mut Input<'_, 'a>,
+    ) -> Result<Punctuated<GenericArgument<'a>>, Error>
+        requires { Nests self.now.depth (F.pre self.now.ty) (F.post self.now.ty) }
+        ensures { Reads (λ v. types.arguments_pair (list_view argument_view v)) (types.read_between_angles (read_type self.now.depth)) input.old result input.new }
     {
-        let begun = punct('<', level, c)?;
-        let (found, left) = self.arguments(level + 1, begun)?;
-        let rest = punct('>', level, left)?;
-        Ok((found, rest))
+        input.punct('<')?;
+        self.till_angle(input)
     }
 
     /// Arguments between `<` and `>`, perhaps behind `::`.
-    pub fn angled<'t>(
-        &self,
-        level: usize,
-        c: Cursor<'t, 'a>,
-    ) -> Result<(PathArguments<'a>, Cursor<'t, 'a>), Error>
-        requires here { sound c }
-        requires nests { Nests self.now.depth (F.pre self.now.ty) (F.post self.now.ty) }
-        requires fits { HasInside self.now.depth level }
-        ensures reads { Reads arguments_view (types.read_angled (read_type self.now.depth) (place level c.entry) (left c.entry)) result }
-        ensures place { IfOk result (λ r. IsPlaceAfter c.entry r.1) }
+    pub fn angled(&self, input: &mut Input<'_, 'a>) -> Result<PathArguments<'a>, Error>
+        requires { Nests self.now.depth (F.pre self.now.ty) (F.post self.now.ty) }
+        ensures { Reads arguments_view (types.read_angled (read_type self.now.depth)) input.old result input.new }
     {
-        let (double, behind) = leading(level, c)?;
-        let (found, rest) = self.between_angles(level, behind)?;
-        Ok((angle_of(double, found), rest))
+        let double = input.leading()?;
+        Ok(angle_of(double, self.between_angles(input)?))
     }
 
     /// The arguments of a segment.
-    fn segment_arguments<'t>(
-        &self,
-        level: usize,
-        c: Cursor<'t, 'a>,
-    ) -> Result<(PathArguments<'a>, Cursor<'t, 'a>), Error>
-        requires here { sound c }
-        requires nests { Nests self.now.depth (F.pre self.now.ty) (F.post self.now.ty) }
-        requires fits { HasInside self.now.depth level }
-        ensures reads { Reads arguments_view (types.read_segment_arguments (read_type self.now.depth) (place level c.entry) (left c.entry)) result }
-        ensures place { IfOk result (λ r. IsPlaceAfter c.entry r.1) }
+    fn segment_arguments(&self, input: &mut Input<'_, 'a>) -> Result<PathArguments<'a>, Error>
+        requires { Nests self.now.depth (F.pre self.now.ty) (F.post self.now.ty) }
+        ensures { Reads arguments_view (types.read_segment_arguments (read_type self.now.depth)) input.old result input.new }
     {
-        if sees_group(Delim::Paren, c) {
-            return self.parens(level, c);
+        if input.sees_group(Delim::Paren) {
+            return self.parens(input);
         }
-        if sees_arguments(c) {
-            return self.angled(level, c);
+        if input.sees_arguments() {
+            return self.angled(input);
         }
-        Ok((no_arguments(), c))
+        Ok(no_arguments())
+    }
+
+    /// A segment's name and its arguments.
+    fn segment_parts(
+        &self,
+        input: &mut Input<'_, 'a>,
+    ) -> Result<(Ident<'a>, PathArguments<'a>), Error>
+        requires { Nests self.now.depth (F.pre self.now.ty) (F.post self.now.ty) }
+        ensures { Reads (λ v. (v.0, arguments_view v.1)) (types.read_segment_parts (read_type self.now.depth)) input.old result input.new }
+    {
+        let ident = input.path_word()?;
+        joined(ident, self.segment_arguments(input))
     }
 
     /// A segment.
-    fn segment<'t>(
-        &self,
-        level: usize,
-        c: Cursor<'t, 'a>,
-    ) -> Result<(PathSegment<'a>, Cursor<'t, 'a>), Error>
-        requires here { sound c }
-        requires nests { Nests self.now.depth (F.pre self.now.ty) (F.post self.now.ty) }
-        requires fits { HasInside self.now.depth level }
-        ensures reads { Reads segment_view (types.read_segment (read_type self.now.depth) (place level c.entry) (left c.entry)) result }
-        ensures place { IfOk result (λ r. IsPlaceAfter c.entry r.1) }
+    fn segment(&self, input: &mut Input<'_, 'a>) -> Result<PathSegment<'a>, Error>
+        requires { Nests self.now.depth (F.pre self.now.ty) (F.post self.now.ty) }
+        ensures { Reads segment_view (types.read_segment (read_type self.now.depth)) input.old result input.new }
     {
-        let (found, behind) = path_word(level, c)?;
-        let ident = found.clone_in(self.alloc)?;
-        let (arguments, rest) = self.segment_arguments(level, behind)?;
-        Ok((segment_of(ident, arguments), rest))
+        let (ident, arguments) = self.segment_parts(input)?;
+        Ok(segment_of(ident, arguments))
     }
 
     /// Segments with `::` between.
-    pub fn segments<'t>(
-        &self,
-        level: usize,
-        c: Cursor<'t, 'a>,
-    ) -> Result<(Seq<PathSegment<'a>>, Cursor<'t, 'a>), Error>
-        requires here { sound c }
-        requires nests { Nests self.now.depth (F.pre self.now.ty) (F.post self.now.ty) }
-        requires fits { HasInside self.now.depth level }
-        ensures reads { Reads (λ l. map segment_view l) (types.read_segments (read_type self.now.depth) (place level c.entry) (left c.entry)) result }
-        ensures place { IfOk result (λ r. IsPlaceAfter c.entry r.1) }
+    pub fn segments(&self, input: &mut Input<'_, 'a>) -> Result<Seq<PathSegment<'a>>, Error>
+        requires { Nests self.now.depth (F.pre self.now.ty) (F.post self.now.ty) }
+        ensures { Reads (map segment_view) (types.read_segments (read_type self.now.depth)) input.old result input.new }
     {
-        chained(
-            self.alloc,
-            &SegmentRule { grammar: self },
-            Link::Colons,
-            level,
-            c,
-        )
+        chained(&SegmentRule { grammar: self }, Link::Colons, input)
+    }
+
+    /// The segments of a path.
+    fn segment_trees(&self, input: &mut Input<'_, 'a>) -> Result<Seq<PathSegment<'a>>, Error>
+        requires { Nests self.now.depth (F.pre self.now.ty) (F.post self.now.ty) }
+        ensures { Reads (λ l. segments_of (map segment_view l)) (types.read_segment_trees (read_type self.now.depth)) input.old result input.new }
+    {
+        self.segments(input)
     }
 
     /// A path.
-    pub fn path<'t>(
-        &self,
-        level: usize,
-        c: Cursor<'t, 'a>,
-    ) -> Result<(Path<'a>, Cursor<'t, 'a>), Error>
-        requires here { sound c }
-        requires nests { Nests self.now.depth (F.pre self.now.ty) (F.post self.now.ty) }
-        requires fits { HasInside self.now.depth level }
-        ensures reads { Reads path_view (types.read_path (read_type self.now.depth) (place level c.entry) (left c.entry)) result }
-        ensures place { IfOk result (λ r. IsPlaceAfter c.entry r.1) }
+    pub fn path(&self, input: &mut Input<'_, 'a>) -> Result<Path<'a>, Error>
+        requires { Nests self.now.depth (F.pre self.now.ty) (F.post self.now.ty) }
+        ensures { Reads path_view (types.read_path (read_type self.now.depth)) input.old result input.new }
     {
-        let (leading_colon, behind) = leading(level, c)?;
-        let (segments, rest) = self.segments(level, behind)?;
-        Ok((path_of(leading_colon, segments), rest))
+        let leading_colon = input.leading()?;
+        Ok(path_of(leading_colon, self.segment_trees(input)?))
     }
 }
 
@@ -259,19 +229,10 @@ struct SegmentRule<'g, F> {
     grammar: &'g Grammar<F>,
 }
 
-impl<
-    'g,
-    'a,
-    F: for<'t> Fn(
-        Global,
-        usize,
-        Mode,
-        usize,
-        Cursor<'t, 'a>,
-    ) -> Result<(Ty<'a>, Cursor<'t, 'a>), Error>,
-> Rule<'a> for SegmentRule<'g, F> {
+impl<'g, 'a, F: for<'t> Fn(&mut Input<'t, 'a>, usize, Mode) -> Result<Ty<'a>, Error>> Rule<'a>
+    for SegmentRule<'g, F> {
     ghost use Rattle.dm_ast.specs.Tree.{SegmentTree, segment_view};
-    ghost use Rattle.dm_read_types.specs.Nests.{Nests, HasInside};
+    ghost use Rattle.dm_read_types.specs.Nests.{Nests};
     ghost use Rattle.dm_read_types.specs.TypeReaders as types;
     ghost use Rattle.dm_read_types.specs.TypeReaders.{read_type};
 
@@ -281,15 +242,11 @@ impl<
 
     ghost view = { segment_view };
 
-    ghost usable = { λ r level. Nests r.grammar.now.depth (F.pre r.grammar.now.ty) (F.post r.grammar.now.ty) × HasInside r.grammar.now.depth level };
+    ghost usable = { λ r. Nests r.grammar.now.depth (F.pre r.grammar.now.ty) (F.post r.grammar.now.ty) };
 
     ghost reader = { λ r w. types.read_segment (read_type r.grammar.now.depth) w };
 
-    fn read<'t>(
-        &self,
-        level: usize,
-        c: Cursor<'t, 'a>,
-    ) -> Result<(PathSegment<'a>, Cursor<'t, 'a>), Error> {
-        self.grammar.segment(level, c)
+    fn read(&self, input: &mut Input<'_, 'a>) -> Result<PathSegment<'a>, Error> {
+        self.grammar.segment(input)
     }
 }

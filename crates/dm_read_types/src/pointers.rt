@@ -1,57 +1,41 @@
 //! References and pointers.
 #![tactic(auto)]
 
-ghost use Rattle.std.specs.Prelude.{◌≡◌, IfOk, true, false, codes};
-ghost use Rattle.dm_stream.specs.Cursors.{left, sound, IsPlaceAfter};
-ghost use Rattle.dm_ast.specs.Spelling as spelling;
-ghost use Rattle.dm_ast.specs.Readers as spec;
-ghost use Rattle.dm_ast.specs.Readers.{place, Reads, ◌and◌};
+ghost use Rattle.std.specs.Prelude.{◌≡◌, ◌≤◌, IfOk, true, false, codes};
+ghost use Rattle.dm_ast.specs.Spelling.{deepest};
+ghost use Rattle.dm_ast.specs.Tree.{ty_view, node_view, reference, pointer};
+ghost use Rattle.dm_input.specs.Inputs.{Reads};
 ghost use Rattle.dm_read_types.specs.TypeReaders as types;
 ghost use Rattle.dm_read_types.specs.TypeReaders.{read_type};
-ghost use Rattle.dm_read_types.specs.Nests.{Nests, Fits, HasRoom};
-ghost use Rattle.dm_ast.specs.Tree.{ty_view, node_view, reference, pointer};
-ghost use Rattle.dm_read_types.specs.declared.kind.Mode.TheVariants.{Single};
+ghost use Rattle.dm_read_types.specs.Nests.{Nests};
 
 use crate::grammar::Grammar;
 use crate::kind::Mode;
 use dm_ast::{Ty, TyNode};
-use dm_read::token::{lifetime, punct, sees_lifetime, sees_word, word};
-use dm_stream::{Cursor, Error, Lifetime};
+use dm_input::Input;
+use dm_input::join::joined;
+use dm_stream::{Error, Lifetime};
 use std::alloc::{AllocError, Global};
 
 /// A lifetime where it comes next.
-fn maybe_lifetime<'t, 'a>(
-    alloc: Global,
-    level: usize,
-    c: Cursor<'t, 'a>,
-) -> Result<(Option<Lifetime<'a>>, Cursor<'t, 'a>), Error>
-    requires { sound c }
-    ensures reads { Reads (λ l. l) (spec.read_perhaps spelling.sees_lifetime (spec.read_lifetime (place level c.entry)) (left c.entry)) result }
-    ensures place { IfOk result (λ r. IsPlaceAfter c.entry r.1) }
+fn maybe_lifetime<'a>(input: &mut Input<'_, 'a>) -> Result<Option<Lifetime<'a>>, Error>
+    ensures { Reads (λ l. l) types.read_maybe_lifetime input.old result input.new }
 {
-    if !sees_lifetime(c) {
-        return Ok((None, c));
+    if !input.sees_lifetime() {
+        return Ok(None);
     }
-    let (found, rest) = lifetime(level, c)?;
-    let own = found.clone_in(alloc)?;
-    Ok((Some(own), rest))
+    Ok(Some(input.lifetime()?))
 }
 
-/// Whether this keyword comes next, and what follows it.
-pub fn flag<'t, 'a>(
-    keyword: &str,
-    level: usize,
-    c: Cursor<'t, 'a>,
-) -> Result<(bool, Cursor<'t, 'a>), Error>
-    requires { sound c }
-    ensures reads { Reads (λ b. b) (spec.read_flag (spelling.sees_word keyword.now) (spec.read_word keyword.now (place level c.entry)) (left c.entry)) result }
-    ensures place { IfOk result (λ r. IsPlaceAfter c.entry r.1) }
+/// A keyword where it comes next: whether it stands there.
+pub fn keyword(spelled: &str, input: &mut Input<'_, '_>) -> Result<bool, Error>
+    ensures { Reads (λ b. b) (types.read_keyword spelled.now) input.old result input.new }
 {
-    if !sees_word(keyword, c) {
-        return Ok((false, c));
+    if !input.sees_word(spelled) {
+        return Ok(false);
     }
-    let rest = word(keyword, level, c)?;
-    Ok((true, rest))
+    input.word(spelled)?;
+    Ok(true)
 }
 
 /// A reference.
@@ -77,135 +61,131 @@ fn pointer_node<'a>(alloc: Global, is_mut: bool, found: Ty<'a>) -> Result<TyNode
     Ok(TyNode::Pointer(is_mut, inner))
 }
 
-impl<
-    'a,
-    F: for<'t> Fn(
-        Global,
-        usize,
-        Mode,
-        usize,
-        Cursor<'t, 'a>,
-    ) -> Result<(Ty<'a>, Cursor<'t, 'a>), Error>,
-> Grammar<F> {
+impl<'a, F: for<'t> Fn(&mut Input<'t, 'a>, usize, Mode) -> Result<Ty<'a>, Error>> Grammar<F> {
     /// A type, perhaps behind `mut`.
-    fn mutable<'t>(
-        &self,
-        level: usize,
-        c: Cursor<'t, 'a>,
-    ) -> Result<((bool, Ty<'a>), Cursor<'t, 'a>), Error>
-        requires here { sound c }
-        requires nests { Nests self.now.depth (F.pre self.now.ty) (F.post self.now.ty) }
-        requires fits { Fits self.now.depth level }
-        ensures reads { Reads (λ v. (v.0, ty_view v.1)) ((spec.read_flag (spelling.sees_word (codes "mut")) (spec.read_word (codes "mut") (place level c.entry)) and read_type self.now.depth Single (place level c.entry)) (left c.entry)) result }
-        ensures place { IfOk result (λ r. IsPlaceAfter c.entry r.1) }
+    fn mutable(&self, input: &mut Input<'_, 'a>) -> Result<(bool, Ty<'a>), Error>
+        requires { Nests self.now.depth (F.pre self.now.ty) (F.post self.now.ty) }
+        ensures { Reads (λ v. (v.0, ty_view v.1)) (types.read_mutable (read_type self.now.depth)) input.old result input.new }
     {
-        let (is_mut, behind) = flag("mut", level, c)?;
-        let (found, rest) = self.ty(Mode::Single, level, behind)?;
-        Ok(((is_mut, found), rest))
+        let is_mut = keyword("mut", input)?;
+        joined(is_mut, self.ty(Mode::Single, input))
     }
 
-    /// What follows `&`.
-    fn referred<'t>(
+    /// A lifetime, `mut` and a type, the first two where they come next.
+    fn referred(
         &self,
-        level: usize,
-        c: Cursor<'t, 'a>,
-    ) -> Result<((Option<Lifetime<'a>>, (bool, Ty<'a>)), Cursor<'t, 'a>), Error>
-        requires here { sound c }
-        requires nests { Nests self.now.depth (F.pre self.now.ty) (F.post self.now.ty) }
-        requires fits { Fits self.now.depth level }
-        ensures reads { Reads (λ v. (v.0, (v.1.0, ty_view v.1.1))) ((spec.read_perhaps spelling.sees_lifetime (spec.read_lifetime (place level c.entry)) and (spec.read_flag (spelling.sees_word (codes "mut")) (spec.read_word (codes "mut") (place level c.entry)) and read_type self.now.depth Single (place level c.entry))) (left c.entry)) result }
-        ensures place { IfOk result (λ r. IsPlaceAfter c.entry r.1) }
+        input: &mut Input<'_, 'a>,
+    ) -> Result<(Option<Lifetime<'a>>, (bool, Ty<'a>)), Error>
+        requires { Nests self.now.depth (F.pre self.now.ty) (F.post self.now.ty) }
+        ensures { Reads (λ v. (v.0, (v.1.0, ty_view v.1.1))) (types.read_referred (read_type self.now.depth)) input.old result input.new }
     {
-        let (name, behind) = maybe_lifetime(self.alloc, level, c)?;
-        let (found, rest) = self.mutable(level, behind)?;
-        Ok(((name, found), rest))
+        let name = maybe_lifetime(input)?;
+        joined(name, self.mutable(input))
+    }
+
+    /// What follows `&`: its tokens stand one level deeper.
+    #[tactic(auto, using(dm_input::proofs::Levels::level_steps))]
+    fn deep_referred(
+        &self,
+        input: &mut Input<'_, 'a>,
+    ) -> Result<(Option<Lifetime<'a>>, (bool, Ty<'a>)), Error>
+        requires level { input.old.at.level ≤ deepest }
+        requires nests { Nests self.now.depth (F.pre self.now.ty) (F.post self.now.ty) }
+        ensures { Reads (λ v. (v.0, (v.1.0, ty_view v.1.1))) (types.read_deep_referred (read_type self.now.depth)) input.old result input.new }
+    {
+        input.down();
+        let found = self.referred(input)?;
+        input.up();
+        Ok(found)
+    }
+
+    /// `&` and what follows it.
+    fn behind_and(
+        &self,
+        input: &mut Input<'_, 'a>,
+    ) -> Result<(Option<Lifetime<'a>>, (bool, Ty<'a>)), Error>
+        requires { Nests self.now.depth (F.pre self.now.ty) (F.post self.now.ty) }
+        ensures { Reads (λ v. (v.0, (v.1.0, ty_view v.1.1))) (types.read_behind_and (read_type self.now.depth)) input.old result input.new }
+    {
+        input.punct('&')?;
+        self.deep_referred(input)
     }
 
     /// A reference.
-    pub fn reference<'t>(
-        &self,
-        level: usize,
-        c: Cursor<'t, 'a>,
-    ) -> Result<(TyNode<'a>, Cursor<'t, 'a>), Error>
-        requires here { sound c }
-        requires nests { Nests self.now.depth (F.pre self.now.ty) (F.post self.now.ty) }
-        requires fits { HasRoom self.now.depth level }
-        ensures reads { Reads node_view (types.read_reference (read_type self.now.depth) (place level c.entry) (left c.entry)) result }
-        ensures place { IfOk result (λ r. IsPlaceAfter c.entry r.1) }
+    pub fn reference(&self, input: &mut Input<'_, 'a>) -> Result<TyNode<'a>, Error>
+        requires { Nests self.now.depth (F.pre self.now.ty) (F.post self.now.ty) }
+        ensures { Reads node_view (types.read_reference (read_type self.now.depth)) input.old result input.new }
     {
-        let behind = punct('&', level, c)?;
-        let ((name, (is_mut, found)), rest) = self.referred(level + 1, behind)?;
-        let node = reference_node(self.alloc, name, is_mut, found)?;
-        Ok((node, rest))
+        let (name, (is_mut, found)) = self.behind_and(input)?;
+        Ok(reference_node(input.alloc(), name, is_mut, found)?)
     }
 
     /// `mut` and a type.
-    fn mut_pointed<'t>(
-        &self,
-        level: usize,
-        c: Cursor<'t, 'a>,
-    ) -> Result<(Ty<'a>, Cursor<'t, 'a>), Error>
-        requires here { sound c }
-        requires nests { Nests self.now.depth (F.pre self.now.ty) (F.post self.now.ty) }
-        requires fits { HasRoom self.now.depth level }
-        ensures reads { Reads ty_view (types.pointed (read_type self.now.depth) true (place level c.entry) (left c.entry)) result }
-        ensures place { IfOk result (λ r. IsPlaceAfter c.entry r.1) }
+    fn mut_pointed(&self, input: &mut Input<'_, 'a>) -> Result<Ty<'a>, Error>
+        requires { Nests self.now.depth (F.pre self.now.ty) (F.post self.now.ty) }
+        ensures { Reads ty_view (types.pointed_at (read_type self.now.depth) true) input.old result input.new }
     {
-        let behind = word("mut", level + 1, c)?;
-        self.ty(Mode::Single, level + 1, behind)
+        input.word("mut")?;
+        self.ty(Mode::Single, input)
     }
 
     /// `const` and a type.
-    fn const_pointed<'t>(
-        &self,
-        level: usize,
-        c: Cursor<'t, 'a>,
-    ) -> Result<(Ty<'a>, Cursor<'t, 'a>), Error>
-        requires here { sound c }
-        requires nests { Nests self.now.depth (F.pre self.now.ty) (F.post self.now.ty) }
-        requires fits { HasRoom self.now.depth level }
-        ensures reads { Reads ty_view (types.pointed (read_type self.now.depth) false (place level c.entry) (left c.entry)) result }
-        ensures place { IfOk result (λ r. IsPlaceAfter c.entry r.1) }
+    fn const_pointed(&self, input: &mut Input<'_, 'a>) -> Result<Ty<'a>, Error>
+        requires { Nests self.now.depth (F.pre self.now.ty) (F.post self.now.ty) }
+        ensures { Reads ty_view (types.pointed_at (read_type self.now.depth) false) input.old result input.new }
     {
-        let behind = word("const", level + 1, c)?;
-        self.ty(Mode::Single, level + 1, behind)
+        input.word("const")?;
+        self.ty(Mode::Single, input)
     }
 
-    /// What follows `*`.
-    fn behind_star<'t>(
-        &self,
-        level: usize,
-        c: Cursor<'t, 'a>,
-    ) -> Result<(TyNode<'a>, Cursor<'t, 'a>), Error>
-        requires here { sound c }
-        requires nests { Nests self.now.depth (F.pre self.now.ty) (F.post self.now.ty) }
-        requires fits { HasRoom self.now.depth level }
-        ensures reads { Reads node_view (types.read_pointed (read_type self.now.depth) (place level c.entry) (left c.entry)) result }
-        ensures place { IfOk result (λ r. IsPlaceAfter c.entry r.1) }
+    /// A pointer by what follows its `*`, which is `mut` and a type.
+    fn mut_pointer(&self, input: &mut Input<'_, 'a>) -> Result<TyNode<'a>, Error>
+        requires { Nests self.now.depth (F.pre self.now.ty) (F.post self.now.ty) }
+        ensures { Reads node_view (types.pointer_at (read_type self.now.depth) true) input.old result input.new }
     {
-        if sees_word("mut", c) {
-            let (found, rest) = self.mut_pointed(level, c)?;
-            let node = pointer_node(self.alloc, true, found)?;
-            return Ok((node, rest));
+        let found = self.mut_pointed(input)?;
+        Ok(pointer_node(input.alloc(), true, found)?)
+    }
+
+    /// A pointer by what follows its `*`, which is `const` and a type.
+    fn const_pointer(&self, input: &mut Input<'_, 'a>) -> Result<TyNode<'a>, Error>
+        requires { Nests self.now.depth (F.pre self.now.ty) (F.post self.now.ty) }
+        ensures { Reads node_view (types.pointer_at (read_type self.now.depth) false) input.old result input.new }
+    {
+        let found = self.const_pointed(input)?;
+        Ok(pointer_node(input.alloc(), false, found)?)
+    }
+
+    /// A pointer by what follows its `*`.
+    fn pointed(&self, input: &mut Input<'_, 'a>) -> Result<TyNode<'a>, Error>
+        requires { Nests self.now.depth (F.pre self.now.ty) (F.post self.now.ty) }
+        ensures { Reads node_view (types.read_pointed_at (read_type self.now.depth)) input.old result input.new }
+    {
+        if input.sees_word("mut") {
+            return self.mut_pointer(input);
         }
-        let (found, rest) = self.const_pointed(level, c)?;
-        let node = pointer_node(self.alloc, false, found)?;
-        Ok((node, rest))
+        self.const_pointer(input)
+    }
+
+    /// A pointer by what follows its `*`: its tokens stand one level deeper.
+    #[tactic(auto, using(dm_input::proofs::Levels::level_steps))]
+    fn deep_pointed(&self, input: &mut Input<'_, 'a>) -> Result<TyNode<'a>, Error>
+        requires level { input.old.at.level ≤ deepest }
+        requires nests { Nests self.now.depth (F.pre self.now.ty) (F.post self.now.ty) }
+        ensures { Reads node_view (types.read_pointed (read_type self.now.depth)) input.old result input.new }
+    {
+        input.down();
+        let found = self.pointed(input)?;
+        input.up();
+        Ok(found)
     }
 
     /// A pointer.
-    pub fn pointer<'t>(
-        &self,
-        level: usize,
-        c: Cursor<'t, 'a>,
-    ) -> Result<(TyNode<'a>, Cursor<'t, 'a>), Error>
-        requires here { sound c }
-        requires nests { Nests self.now.depth (F.pre self.now.ty) (F.post self.now.ty) }
-        requires fits { HasRoom self.now.depth level }
-        ensures reads { Reads node_view (types.read_pointer (read_type self.now.depth) (place level c.entry) (left c.entry)) result }
-        ensures place { IfOk result (λ r. IsPlaceAfter c.entry r.1) }
+    pub fn pointer(&self, input: &mut Input<'_, 'a>) -> Result<TyNode<'a>, Error>
+        requires { Nests self.now.depth (F.pre self.now.ty) (F.post self.now.ty) }
+        ensures { Reads node_view (types.read_pointer (read_type self.now.depth)) input.old result input.new }
     {
-        let behind = punct('*', level, c)?;
-        self.behind_star(level, behind)
+        input.punct('*')?;
+        self.deep_pointed(input)
     }
 }

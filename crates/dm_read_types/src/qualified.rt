@@ -1,25 +1,22 @@
 //! Types like `<T as A::B>::C`.
 #![tactic(auto)]
 
-ghost use Rattle.std.specs.Prelude.{◌≡◌, ◌+◌, IfOk, codes, map};
-ghost use Rattle.dm_stream.specs.Cursors.{left, sound, IsPlaceAfter};
-ghost use Rattle.dm_ast.specs.Readers as spec;
-ghost use Rattle.dm_ast.specs.Readers.{place, Reads, ◌and◌, ◌next◌};
-ghost use Rattle.dm_ast.specs.PlainReaders as plain;
+ghost use Rattle.std.specs.Prelude.{◌≡◌, ◌≤◌, IfOk, map};
+ghost use Rattle.dm_ast.specs.Spelling.{deepest};
+ghost use Rattle.dm_input.specs.Inputs.{Reads};
 ghost use Rattle.dm_read_types.specs.TypeReaders as types;
 ghost use Rattle.dm_read_types.specs.TypeReaders.{read_type};
-ghost use Rattle.dm_read_types.specs.Nests.{Nests, HasInside, HasRoom};
+ghost use Rattle.dm_read_types.specs.Nests.{Nests};
 ghost use Rattle.dm_read_types.specs.Bindings.{as_view};
 ghost use Rattle.dm_ast.specs.Tree.{ty_view, node_view, segment_view, segments_of, path, path_tree, some_self};
-ghost use Rattle.dm_read_types.specs.declared.kind.Mode.TheVariants.{Whole};
 
 use crate::grammar::Grammar;
 use crate::kind::Mode;
 use crate::path::path_of;
 use dm_ast::{PathSegment, QSelf, Ty, TyNode};
-use dm_read::parts::leading;
-use dm_read::token::{colons, punct, sees_word, word};
-use dm_stream::{Cursor, Error, Seq};
+use dm_input::Input;
+use dm_input::join::joined;
+use dm_stream::{Error, Seq};
 use std::alloc::{AllocError, Global};
 
 /// A type, and a path that belongs to it.
@@ -63,149 +60,110 @@ fn qualified_of<'a>(
     }
 }
 
-impl<
-    'a,
-    F: for<'t> Fn(
-        Global,
-        usize,
-        Mode,
-        usize,
-        Cursor<'t, 'a>,
-    ) -> Result<(Ty<'a>, Cursor<'t, 'a>), Error>,
-> Grammar<F> {
+impl<'a, F: for<'t> Fn(&mut Input<'t, 'a>, usize, Mode) -> Result<Ty<'a>, Error>> Grammar<F> {
     /// A path behind `as`.
-    fn as_path<'t>(
-        &self,
-        level: usize,
-        c: Cursor<'t, 'a>,
-    ) -> Result<((bool, Seq<PathSegment<'a>>), Cursor<'t, 'a>), Error>
-        requires here { sound c }
-        requires nests { Nests self.now.depth (F.pre self.now.ty) (F.post self.now.ty) }
-        requires fits { HasInside self.now.depth level }
-        ensures reads { Reads (λ v. (v.0, map segment_view v.1)) ((plain.read_leading (place level c.entry) and types.read_segments (read_type self.now.depth) (place level c.entry)) (left c.entry)) result }
-        ensures place { IfOk result (λ r. IsPlaceAfter c.entry r.1) }
+    fn as_path(&self, input: &mut Input<'_, 'a>) -> Result<(bool, Seq<PathSegment<'a>>), Error>
+        requires { Nests self.now.depth (F.pre self.now.ty) (F.post self.now.ty) }
+        ensures { Reads (λ v. (v.0, map segment_view v.1)) (types.read_as_path (read_type self.now.depth)) input.old result input.new }
     {
-        let (leading_colon, behind) = leading(level, c)?;
-        let (found, rest) = self.segments(level, behind)?;
-        Ok(((leading_colon, found), rest))
+        let leading_colon = input.leading()?;
+        joined(leading_colon, self.segments(input))
     }
 
     /// `as` and a path.
-    fn some_as<'t>(
-        &self,
-        level: usize,
-        c: Cursor<'t, 'a>,
-    ) -> Result<((bool, Seq<PathSegment<'a>>), Cursor<'t, 'a>), Error>
-        requires here { sound c }
-        requires nests { Nests self.now.depth (F.pre self.now.ty) (F.post self.now.ty) }
-        requires fits { HasInside self.now.depth level }
-        ensures reads { Reads (λ v. (v.0, map segment_view v.1)) ((spec.read_word (codes "as") (place level c.entry) next (plain.read_leading (place level c.entry) and types.read_segments (read_type self.now.depth) (place level c.entry))) (left c.entry)) result }
-        ensures place { IfOk result (λ r. IsPlaceAfter c.entry r.1) }
+    fn some_as(&self, input: &mut Input<'_, 'a>) -> Result<(bool, Seq<PathSegment<'a>>), Error>
+        requires { Nests self.now.depth (F.pre self.now.ty) (F.post self.now.ty) }
+        ensures { Reads (λ v. (v.0, map segment_view v.1)) (types.read_some_as (read_type self.now.depth)) input.old result input.new }
     {
-        let behind = word("as", level, c)?;
-        self.as_path(level, behind)
+        input.word("as")?;
+        self.as_path(input)
+    }
+
+    /// `as` and a path, whose tokens stand one level deeper.
+    #[tactic(auto, using(dm_input::proofs::Levels::level_steps))]
+    fn deep_as(&self, input: &mut Input<'_, 'a>) -> Result<(bool, Seq<PathSegment<'a>>), Error>
+        requires level { input.old.at.level ≤ deepest }
+        requires nests { Nests self.now.depth (F.pre self.now.ty) (F.post self.now.ty) }
+        ensures { Reads (λ v. (v.0, map segment_view v.1)) (types.read_deep_as (read_type self.now.depth)) input.old result input.new }
+    {
+        input.down();
+        let found = self.some_as(input)?;
+        input.up();
+        Ok(found)
     }
 
     /// `as` and a path where they come next.
-    fn maybe_as<'t>(
+    fn maybe_as(
         &self,
-        level: usize,
-        c: Cursor<'t, 'a>,
-    ) -> Result<(Option<(bool, Seq<PathSegment<'a>>)>, Cursor<'t, 'a>), Error>
-        requires here { sound c }
+        input: &mut Input<'_, 'a>,
+    ) -> Result<Option<(bool, Seq<PathSegment<'a>>)>, Error>
+        requires level { input.old.at.level ≤ deepest }
         requires nests { Nests self.now.depth (F.pre self.now.ty) (F.post self.now.ty) }
-        requires fits { HasRoom self.now.depth level }
-        ensures reads { Reads as_view (types.read_as (read_type self.now.depth) (place level c.entry) (left c.entry)) result }
-        ensures place { IfOk result (λ r. IsPlaceAfter c.entry r.1) }
+        ensures { Reads as_view (types.read_as (read_type self.now.depth)) input.old result input.new }
     {
-        if !sees_word("as", c) {
-            return Ok((None, c));
+        if !input.sees_word("as") {
+            return Ok(None);
         }
-        let (found, rest) = self.some_as(level + 1, c)?;
-        Ok((Some(found), rest))
+        Ok(Some(self.deep_as(input)?))
+    }
+
+    /// `::` and segments.
+    fn further(&self, input: &mut Input<'_, 'a>) -> Result<Seq<PathSegment<'a>>, Error>
+        requires { Nests self.now.depth (F.pre self.now.ty) (F.post self.now.ty) }
+        ensures { Reads (map segment_view) (types.read_further (read_type self.now.depth)) input.old result input.new }
+    {
+        input.colons()?;
+        self.segments(input)
     }
 
     /// `>`, `::` and segments.
-    fn behind_angle<'t>(
-        &self,
-        level: usize,
-        c: Cursor<'t, 'a>,
-    ) -> Result<(Seq<PathSegment<'a>>, Cursor<'t, 'a>), Error>
-        requires here { sound c }
-        requires nests { Nests self.now.depth (F.pre self.now.ty) (F.post self.now.ty) }
-        requires fits { HasRoom self.now.depth level }
-        ensures reads { Reads (λ l. map segment_view l) ((spec.read_punct 62 (place level c.entry) next (spec.read_colons (place level c.entry) next types.read_segments (read_type self.now.depth) (place level c.entry))) (left c.entry)) result }
-        ensures place { IfOk result (λ r. IsPlaceAfter c.entry r.1) }
+    fn behind_angle(&self, input: &mut Input<'_, 'a>) -> Result<Seq<PathSegment<'a>>, Error>
+        requires { Nests self.now.depth (F.pre self.now.ty) (F.post self.now.ty) }
+        ensures { Reads (map segment_view) (types.read_behind_angle (read_type self.now.depth)) input.old result input.new }
     {
-        let ended = punct('>', level, c)?;
-        let behind = colons(level, ended)?;
-        self.segments(level, behind)
+        input.punct('>')?;
+        self.further(input)
     }
 
     /// What follows the type.
-    fn behind_self<'t>(
+    fn behind_self(
         &self,
-        level: usize,
-        c: Cursor<'t, 'a>,
-    ) -> Result<
-        (
-            (Option<(bool, Seq<PathSegment<'a>>)>, Seq<PathSegment<'a>>),
-            Cursor<'t, 'a>,
-        ),
-        Error,
-    >
-        requires here { sound c }
+        input: &mut Input<'_, 'a>,
+    ) -> Result<(Option<(bool, Seq<PathSegment<'a>>)>, Seq<PathSegment<'a>>), Error>
+        requires level { input.old.at.level ≤ deepest }
         requires nests { Nests self.now.depth (F.pre self.now.ty) (F.post self.now.ty) }
-        requires fits { HasRoom self.now.depth level }
-        ensures reads { Reads (λ v. (as_view v.0, map segment_view v.1)) ((types.read_as (read_type self.now.depth) (place level c.entry) and (spec.read_punct 62 (place level c.entry) next (spec.read_colons (place level c.entry) next types.read_segments (read_type self.now.depth) (place level c.entry)))) (left c.entry)) result }
-        ensures place { IfOk result (λ r. IsPlaceAfter c.entry r.1) }
+        ensures { Reads (λ v. (as_view v.0, map segment_view v.1)) (types.read_behind_self (read_type self.now.depth)) input.old result input.new }
     {
-        let (behind_as, behind) = self.maybe_as(level, c)?;
-        let (found, rest) = self.behind_angle(level, behind)?;
-        Ok(((behind_as, found), rest))
+        let behind_as = self.maybe_as(input)?;
+        joined(behind_as, self.behind_angle(input))
     }
 
     /// What follows `<`.
-    fn self_and_path<'t>(
+    fn self_and_path(
         &self,
-        level: usize,
-        c: Cursor<'t, 'a>,
+        input: &mut Input<'_, 'a>,
     ) -> Result<
         (
-            (
-                Ty<'a>,
-                (Option<(bool, Seq<PathSegment<'a>>)>, Seq<PathSegment<'a>>),
-            ),
-            Cursor<'t, 'a>,
+            Ty<'a>,
+            (Option<(bool, Seq<PathSegment<'a>>)>, Seq<PathSegment<'a>>),
         ),
         Error,
     >
-        requires here { sound c }
+        requires level { input.old.at.level ≤ deepest }
         requires nests { Nests self.now.depth (F.pre self.now.ty) (F.post self.now.ty) }
-        requires fits { HasRoom self.now.depth level }
-        ensures reads { Reads (λ v. (ty_view v.0, (as_view v.1.0, map segment_view v.1.1))) ((read_type self.now.depth Whole (place (level + 1) c.entry) and (types.read_as (read_type self.now.depth) (place level c.entry) and (spec.read_punct 62 (place level c.entry) next (spec.read_colons (place level c.entry) next types.read_segments (read_type self.now.depth) (place level c.entry))))) (left c.entry)) result }
-        ensures place { IfOk result (λ r. IsPlaceAfter c.entry r.1) }
+        ensures { Reads (λ v. (ty_view v.0, (as_view v.1.0, map segment_view v.1.1))) (types.read_self_and_path (read_type self.now.depth)) input.old result input.new }
     {
-        let (found, behind) = self.ty(Mode::Whole, level + 1, c)?;
-        let (more, rest) = self.behind_self(level, behind)?;
-        Ok(((found, more), rest))
+        let found = self.deep_ty(Mode::Whole, input)?;
+        joined(found, self.behind_self(input))
     }
 
     /// A type like `<T as A::B>::C`.
-    pub fn qualified<'t>(
-        &self,
-        level: usize,
-        c: Cursor<'t, 'a>,
-    ) -> Result<(TyNode<'a>, Cursor<'t, 'a>), Error>
-        requires here { sound c }
-        requires nests { Nests self.now.depth (F.pre self.now.ty) (F.post self.now.ty) }
-        requires fits { HasRoom self.now.depth level }
-        ensures reads { Reads node_view (types.read_qualified (read_type self.now.depth) (place level c.entry) (left c.entry)) result }
-        ensures place { IfOk result (λ r. IsPlaceAfter c.entry r.1) }
+    pub fn qualified(&self, input: &mut Input<'_, 'a>) -> Result<TyNode<'a>, Error>
+        requires { Nests self.now.depth (F.pre self.now.ty) (F.post self.now.ty) }
+        ensures { Reads node_view (types.read_qualified (read_type self.now.depth)) input.old result input.new }
     {
-        let behind = punct('<', level, c)?;
-        let ((found, (behind_as, segments)), rest) = self.self_and_path(level, behind)?;
-        let node = qualified_of(self.alloc, found, behind_as, segments)?;
-        Ok((node, rest))
+        input.punct('<')?;
+        let (found, (behind_as, segments)) = self.self_and_path(input)?;
+        Ok(qualified_of(input.alloc(), found, behind_as, segments)?)
     }
 }

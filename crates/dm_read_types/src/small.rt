@@ -1,24 +1,20 @@
 //! Types of one part: `dyn`, `impl`, `_`, `!`, a path, and a macro call.
 #![tactic(auto)]
 
-ghost use Rattle.std.specs.Prelude.{◌≡◌, ◌<◌, IfOk, map, false};
-ghost use Rattle.dm_stream.specs.Cursors.{left, sound, IsPlaceAfter};
-ghost use Rattle.dm_ast.specs.Readers as spec;
-ghost use Rattle.dm_ast.specs.Readers.{place, Reads, ◌next◌};
-ghost use Rattle.dm_ast.specs.PlainReaders as plain;
+ghost use Rattle.std.specs.Prelude.{◌≡◌, ◌≤◌, map, false};
+ghost use Rattle.dm_ast.specs.Spelling.{deepest};
+ghost use Rattle.dm_ast.specs.Tree.{node_view, path_view, bound_view, bounds_of, trait_object, impl_trait, infer, never, path, no_self, macro_type};
+ghost use Rattle.dm_input.specs.Inputs.{Reads};
 ghost use Rattle.dm_read_types.specs.TypeReaders as types;
 ghost use Rattle.dm_read_types.specs.TypeReaders.{read_type};
-ghost use Rattle.dm_read_types.specs.Nests.{Nests, HasRoom};
-ghost use Rattle.dm_ast.specs.Tree.{node_view, path_view, bound_view, bounds_of, trait_object, impl_trait, infer, never, path, no_self, macro_type};
-ghost use Rattle.dm_read_types.specs.declared.kind.NodeKind.TheVariants as kind;
+ghost use Rattle.dm_read_types.specs.Nests.{Nests};
 
 use crate::grammar::Grammar;
 use crate::kind::Mode;
 use dm_ast::{Bound, Path, PlainPath, Ty, TyNode};
-use dm_read::parts::{kept, plain_path};
-use dm_read::token::{punct, word};
-use dm_stream::{Cursor, Delim, Error, Punctuated, Seq, TokenStream};
-use std::alloc::Global;
+use dm_input::Input;
+use dm_input::join::joined;
+use dm_stream::{Delim, Error, Punctuated, Seq, TokenStream};
 
 /// `dyn` and bounds.
 #[tactic(auto, using(crate::proofs::Built::built_steps))]
@@ -74,132 +70,85 @@ fn call_node<'a>(path: PlainPath<'a>, delim: Delim, inside: TokenStream<'a>) -> 
     TyNode::Macro(path, delim, inside)
 }
 
-/// `!` and a group.
-fn behind_name<'t, 'a>(
-    alloc: Global,
-    level: usize,
-    c: Cursor<'t, 'a>,
-) -> Result<((Delim, TokenStream<'a>), Cursor<'t, 'a>), Error>
-    requires here { sound c }
-    requires fits { level < 1000 }
-    ensures reads { Reads (λ v. v) ((spec.read_punct 33 (place level c.entry) next plain.read_kept (place level c.entry)) (left c.entry)) result }
-    ensures place { IfOk result (λ r. IsPlaceAfter c.entry r.1) }
+/// `_` as a type.
+pub fn infer_type<'a>(input: &mut Input<'_, 'a>) -> Result<TyNode<'a>, Error>
+    ensures { Reads node_view types.read_infer input.old result input.new }
 {
-    let behind = punct('!', level, c)?;
-    kept(alloc, level, behind)
+    input.word("_")?;
+    Ok(infer_node())
 }
 
-impl<
-    'a,
-    F: for<'t> Fn(
-        Global,
-        usize,
-        Mode,
-        usize,
-        Cursor<'t, 'a>,
-    ) -> Result<(Ty<'a>, Cursor<'t, 'a>), Error>,
-> Grammar<F> {
-    /// `dyn` and bounds.
-    pub fn object<'t>(
-        &self,
-        single: bool,
-        level: usize,
-        c: Cursor<'t, 'a>,
-    ) -> Result<(TyNode<'a>, Cursor<'t, 'a>), Error>
-        requires here { sound c }
+/// `!` as a type.
+pub fn never_type<'a>(input: &mut Input<'_, 'a>) -> Result<TyNode<'a>, Error>
+    ensures { Reads node_view types.read_never input.old result input.new }
+{
+    input.punct('!')?;
+    Ok(never_node())
+}
+
+/// `!` and a group.
+fn behind_bang<'a>(input: &mut Input<'_, 'a>) -> Result<(Delim, TokenStream<'a>), Error>
+    ensures { Reads (λ v. v) types.read_behind_bang input.old result input.new }
+{
+    input.punct('!')?;
+    input.kept()
+}
+
+/// A macro's path, `!` and a group.
+fn call_parts<'a>(
+    input: &mut Input<'_, 'a>,
+) -> Result<(PlainPath<'a>, (Delim, TokenStream<'a>)), Error>
+    ensures { Reads (λ v. v) types.read_call_parts input.old result input.new }
+{
+    let path = input.plain_path()?;
+    joined(path, behind_bang(input))
+}
+
+/// A macro call as a type.
+pub fn call_type<'a>(input: &mut Input<'_, 'a>) -> Result<TyNode<'a>, Error>
+    ensures { Reads node_view types.read_macro_type input.old result input.new }
+{
+    let (path, (delim, inside)) = call_parts(input)?;
+    Ok(call_node(path, delim, inside))
+}
+
+impl<'a, F: for<'t> Fn(&mut Input<'t, 'a>, usize, Mode) -> Result<Ty<'a>, Error>> Grammar<F> {
+    /// Bounds of a `dyn` or an `impl`: their tokens stand one level deeper.
+    #[tactic(auto, using(dm_input::proofs::Levels::level_steps))]
+    fn deep_bounds(&self, single: bool, input: &mut Input<'_, 'a>) -> Result<Seq<Bound<'a>>, Error>
+        requires level { input.old.at.level ≤ deepest }
         requires nests { Nests self.now.depth (F.pre self.now.ty) (F.post self.now.ty) }
-        requires fits { HasRoom self.now.depth level }
-        ensures reads { Reads node_view (types.node_by (read_type self.now.depth) kind.Object single (place level c.entry) (left c.entry)) result }
-        ensures place { IfOk result (λ r. IsPlaceAfter c.entry r.1) }
+        ensures { Reads (λ l. bounds_of (map bound_view l)) (types.read_deep_bounds (read_type self.now.depth) single) input.old result input.new }
     {
-        let behind = word("dyn", level, c)?;
-        let (found, rest) = self.some_bounds(single, level + 1, behind)?;
-        Ok((object_node(found), rest))
+        input.down();
+        let found = self.some_bounds(single, input)?;
+        input.up();
+        Ok(found)
+    }
+
+    /// `dyn` and bounds.
+    pub fn object(&self, single: bool, input: &mut Input<'_, 'a>) -> Result<TyNode<'a>, Error>
+        requires { Nests self.now.depth (F.pre self.now.ty) (F.post self.now.ty) }
+        ensures { Reads node_view (types.read_object (read_type self.now.depth) single) input.old result input.new }
+    {
+        input.word("dyn")?;
+        Ok(object_node(self.deep_bounds(single, input)?))
     }
 
     /// `impl` and bounds.
-    pub fn implied<'t>(
-        &self,
-        single: bool,
-        level: usize,
-        c: Cursor<'t, 'a>,
-    ) -> Result<(TyNode<'a>, Cursor<'t, 'a>), Error>
-        requires here { sound c }
-        requires nests { Nests self.now.depth (F.pre self.now.ty) (F.post self.now.ty) }
-        requires fits { HasRoom self.now.depth level }
-        ensures reads { Reads node_view (types.node_by (read_type self.now.depth) kind.Implied single (place level c.entry) (left c.entry)) result }
-        ensures place { IfOk result (λ r. IsPlaceAfter c.entry r.1) }
+    pub fn implied(&self, single: bool, input: &mut Input<'_, 'a>) -> Result<TyNode<'a>, Error>
+        requires { Nests self.now.depth (F.pre self.now.ty) (F.post self.now.ty) }
+        ensures { Reads node_view (types.read_implied (read_type self.now.depth) single) input.old result input.new }
     {
-        let behind = word("impl", level, c)?;
-        let (found, rest) = self.some_bounds(single, level + 1, behind)?;
-        Ok((implied_node(found), rest))
-    }
-
-    /// `_`.
-    pub fn infer<'t>(
-        &self,
-        single: bool,
-        level: usize,
-        c: Cursor<'t, 'a>,
-    ) -> Result<(TyNode<'a>, Cursor<'t, 'a>), Error>
-        requires here { sound c }
-        requires nests { Nests self.now.depth (F.pre self.now.ty) (F.post self.now.ty) }
-        requires fits { HasRoom self.now.depth level }
-        ensures reads { Reads node_view (types.node_by (read_type self.now.depth) kind.Infer single (place level c.entry) (left c.entry)) result }
-        ensures place { IfOk result (λ r. IsPlaceAfter c.entry r.1) }
-    {
-        let rest = word("_", level, c)?;
-        Ok((infer_node(), rest))
-    }
-
-    /// `!`.
-    pub fn never<'t>(
-        &self,
-        single: bool,
-        level: usize,
-        c: Cursor<'t, 'a>,
-    ) -> Result<(TyNode<'a>, Cursor<'t, 'a>), Error>
-        requires here { sound c }
-        requires nests { Nests self.now.depth (F.pre self.now.ty) (F.post self.now.ty) }
-        requires fits { HasRoom self.now.depth level }
-        ensures reads { Reads node_view (types.node_by (read_type self.now.depth) kind.Never single (place level c.entry) (left c.entry)) result }
-        ensures place { IfOk result (λ r. IsPlaceAfter c.entry r.1) }
-    {
-        let rest = punct('!', level, c)?;
-        Ok((never_node(), rest))
+        input.word("impl")?;
+        Ok(implied_node(self.deep_bounds(single, input)?))
     }
 
     /// A path as a type.
-    pub fn path_type<'t>(
-        &self,
-        single: bool,
-        level: usize,
-        c: Cursor<'t, 'a>,
-    ) -> Result<(TyNode<'a>, Cursor<'t, 'a>), Error>
-        requires here { sound c }
-        requires nests { Nests self.now.depth (F.pre self.now.ty) (F.post self.now.ty) }
-        requires fits { HasRoom self.now.depth level }
-        ensures reads { Reads node_view (types.node_by (read_type self.now.depth) kind.Path single (place level c.entry) (left c.entry)) result }
-        ensures place { IfOk result (λ r. IsPlaceAfter c.entry r.1) }
+    pub fn path_type(&self, input: &mut Input<'_, 'a>) -> Result<TyNode<'a>, Error>
+        requires { Nests self.now.depth (F.pre self.now.ty) (F.post self.now.ty) }
+        ensures { Reads node_view (types.read_path_type (read_type self.now.depth)) input.old result input.new }
     {
-        let (found, rest) = self.path(level, c)?;
-        Ok((path_node(found), rest))
-    }
-
-    /// A macro call as a type.
-    pub fn call<'t>(
-        &self,
-        level: usize,
-        c: Cursor<'t, 'a>,
-    ) -> Result<(TyNode<'a>, Cursor<'t, 'a>), Error>
-        requires here { sound c }
-        requires nests { Nests self.now.depth (F.pre self.now.ty) (F.post self.now.ty) }
-        requires fits { HasRoom self.now.depth level }
-        ensures reads { Reads node_view (types.read_call (read_type self.now.depth) (place level c.entry) (left c.entry)) result }
-        ensures place { IfOk result (λ r. IsPlaceAfter c.entry r.1) }
-    {
-        let (path, behind) = plain_path(self.alloc, level, c)?;
-        let ((delim, inside), rest) = behind_name(self.alloc, level, behind)?;
-        Ok((call_node(path, delim, inside), rest))
+        Ok(path_node(self.path(input)?))
     }
 }

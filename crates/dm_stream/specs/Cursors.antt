@@ -27,8 +27,8 @@ end_of c = c.limit
 abbrev pub sound : Cursor → Type 0
 sound c = flatten (unflatten c.entries.now) ≡ c.entries.now
 
--- d is a place further on in the list of c
-pub record IsPlaceAfter (c d : Cursor) : Type 0 where
+-- d stands in a list of trees that ends where that of c does
+pub record SharesEnd (c d : Cursor) : Type 0 where
   pub is_sound : sound d
   pub same_limit : end_of d ≡ end_of c
 

@@ -1,7 +1,7 @@
 ghost use Rattle.std.specs.Prelude.{◌≡◌, ◌↔◌, IsTrue, None, Some, MatchOption, IfSome, [], ◌∷◌, ◌<◌, ◌≤◌, ◌-◌, length, take, drop};
 ghost use Rattle.dm_stream.specs.Trees.{no_trees, flatten, unflatten};
 ghost use Rattle.dm_stream.specs.Sizes.{size};
-ghost use Rattle.dm_stream.specs.Cursors.{left, end_of, sound, first_ident, first_lifetime, first_literal, first_punct, first_group, first_token, first_tree, first_span, front_span, token_span, trees_in, piece_end, sound_piece, IsPlaceAfter, IsFlat, IsTreeLen, IsCutAfter, split_trees, entry_start, entry_end};
+ghost use Rattle.dm_stream.specs.Cursors.{left, end_of, sound, first_ident, first_lifetime, first_literal, first_punct, first_group, first_token, first_tree, first_span, front_span, token_span, trees_in, piece_end, sound_piece, SharesEnd, IsFlat, IsTreeLen, IsCutAfter, split_trees, entry_start, entry_end};
 
 use crate::tokens::{Delim, Entry, Ident, Lifetime, Literal, Punct, Span, Token};
 
@@ -55,7 +55,7 @@ impl<'t, 'a> Cursor<'t, 'a> {
     /// The place behind all trees.
     pub fn behind_all(self) -> Cursor<'t, 'a>
         ensures left { left result ≡ no_trees }
-        ensures place { IsPlaceAfter self.entry result }
+        ensures place { SharesEnd self.entry result }
     {
         Cursor {
             entries: &[],
@@ -67,7 +67,7 @@ impl<'t, 'a> Cursor<'t, 'a> {
     fn token(self) -> Option<(&'t Token<'a>, Cursor<'t, 'a>)>
         requires { sound self }
         ensures gives { MatchOption result (first_token (left self.entry) ≡ None) (λ r. first_token (left self.entry) ≡ Some (r.0.now, left r.1)) }
-        ensures place { IfSome result (λ r. IsPlaceAfter self.entry r.1) }
+        ensures place { IfSome result (λ r. SharesEnd self.entry r.1) }
     {
         match self.entries {
             [first, rest @ ..] => match first {
@@ -89,7 +89,7 @@ impl<'t, 'a> Cursor<'t, 'a> {
     pub fn ident(self) -> Option<(&'t Ident<'a>, Cursor<'t, 'a>)>
         requires { sound self }
         ensures gives { MatchOption result (first_ident (left self.entry) ≡ None) (λ r. first_ident (left self.entry) ≡ Some (r.0.now, left r.1)) }
-        ensures place { IfSome result (λ r. IsPlaceAfter self.entry r.1) }
+        ensures place { IfSome result (λ r. SharesEnd self.entry r.1) }
     {
         let (token, rest) = self.token()?;
         match token {
@@ -103,7 +103,7 @@ impl<'t, 'a> Cursor<'t, 'a> {
     pub fn lifetime(self) -> Option<(&'t Lifetime<'a>, Cursor<'t, 'a>)>
         requires { sound self }
         ensures gives { MatchOption result (first_lifetime (left self.entry) ≡ None) (λ r. first_lifetime (left self.entry) ≡ Some (r.0.now, left r.1)) }
-        ensures place { IfSome result (λ r. IsPlaceAfter self.entry r.1) }
+        ensures place { IfSome result (λ r. SharesEnd self.entry r.1) }
     {
         let (token, rest) = self.token()?;
         match token {
@@ -117,7 +117,7 @@ impl<'t, 'a> Cursor<'t, 'a> {
     pub fn punct(self) -> Option<(&'t Punct, Cursor<'t, 'a>)>
         requires { sound self }
         ensures gives { MatchOption result (first_punct (left self.entry) ≡ None) (λ r. first_punct (left self.entry) ≡ Some (r.0.now, left r.1)) }
-        ensures place { IfSome result (λ r. IsPlaceAfter self.entry r.1) }
+        ensures place { IfSome result (λ r. SharesEnd self.entry r.1) }
     {
         let (token, rest) = self.token()?;
         match token {
@@ -131,7 +131,7 @@ impl<'t, 'a> Cursor<'t, 'a> {
     pub fn literal(self) -> Option<(&'t Literal<'a>, Cursor<'t, 'a>)>
         requires { sound self }
         ensures gives { MatchOption result (first_literal (left self.entry) ≡ None) (λ r. first_literal (left self.entry) ≡ Some (r.0.now, left r.1)) }
-        ensures place { IfSome result (λ r. IsPlaceAfter self.entry r.1) }
+        ensures place { IfSome result (λ r. SharesEnd self.entry r.1) }
     {
         let (token, rest) = self.token()?;
         match token {
@@ -146,7 +146,7 @@ impl<'t, 'a> Cursor<'t, 'a> {
         ensures gives { MatchOption result (first_tree (left self.entry) ≡ None) (λ r. first_tree (left self.entry) ≡ Some (trees_in r.0, left r.1)) }
         ensures sound { IfSome result (λ r. sound_piece r.0) }
         ensures piece_end { IfSome result (λ r. piece_end r.0 ≡ end_of self.entry) }
-        ensures place { IfSome result (λ r. IsPlaceAfter self.entry r.1) }
+        ensures place { IfSome result (λ r. SharesEnd self.entry r.1) }
     {
         if self.entries.is_empty() {
             return None;
@@ -170,7 +170,7 @@ impl<'t, 'a> Cursor<'t, 'a> {
         ensures gives { MatchOption result (split_trees count (left self.entry) ≡ None) (λ r. split_trees count (left self.entry) ≡ Some (trees_in r.0, left r.1)) }
         ensures sound { IfSome result (λ r. sound_piece r.0) }
         ensures piece_end { IfSome result (λ r. piece_end r.0 ≡ end_of self.entry) }
-        ensures place { IfSome result (λ r. IsPlaceAfter self.entry r.1) }
+        ensures place { IfSome result (λ r. SharesEnd self.entry r.1) }
     {
         let at = entries_of(self.entries, count)?;
         let (front, back) = self.entries.split_at(at);
@@ -235,7 +235,7 @@ impl<'t, 'a> Cursor<'t, 'a> {
         requires { sound self }
         ensures gives { MatchOption result (first_group delim (left self.entry) ≡ None) (λ r. first_group delim (left self.entry) ≡ Some (left r.0, end_of r.0, left r.1)) }
         ensures inside { IfSome result (λ r. sound r.0) }
-        ensures place { IfSome result (λ r. IsPlaceAfter self.entry r.1) }
+        ensures place { IfSome result (λ r. SharesEnd self.entry r.1) }
     {
         let (first, rest) = first_and_rest(self.entries)?;
         match first {

@@ -16,7 +16,7 @@ use Rattle.dm_stream.specs.Layout.{nowhere}
 use Rattle.dm_stream.specs.Trees.{Trees, no_trees, token, group}
 use Rattle.dm_ast.specs.Spelling.{is_joint, one_of, sees, sees_one, sees_pair, sees_lone, sees_word, sees_lifetime, sees_literal, sees_group, sees_colons, sees_arrow, sees_colon, sees_equals}
 use Rattle.dm_ast.specs.TypeGrammar.{is_input_name, sees_path_word, behind_colons, sees_turbofish, sees_arguments, sees_bound, sees_named, ends_bounds}
-use Rattle.dm_type_eq.proofs.Unplaced.{unplaced_ident}
+use Rattle.dm_type_eq.specs.Unplaced.{unplaced_ident}
 
 -- a `:` or a `=` of this spacing is alone before these trees
 pub record IsAlone (c : ℕ) (s : Spacing) (ts : Trees) : Type 0 where

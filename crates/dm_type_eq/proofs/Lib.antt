@@ -5,5 +5,4 @@ pub mod RespelledTypes
 pub mod Respelling
 pub mod SameSpelled
 pub mod SameTokens
-pub mod Unplaced
 pub mod UnplacedSame

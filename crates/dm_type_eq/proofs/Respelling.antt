@@ -26,7 +26,7 @@ use Rattle.dm_ast.specs.Spelling.{Where, deeper, Marks, Spelling, deepest, first
 use Rattle.dm_ast.specs.TypeGrammar.{name, plain_path, opaque, kept, attribute_args, attribute, attributes, between_angles, for_lifetimes, constant_spelled, constant_argument, not_named}
 use Rattle.dm_ast.specs.TypeTokens as spell
 use Rattle.dm_read_types.proofs.PlainParts.{nothing_left}
-use Rattle.dm_type_eq.proofs.Unplaced.{unplaced_ident, unplaced_lifetime, unplaced_literal, unplaced_token, unplaced_trees, unplaced_stream, unplaced_opaque, unplaced_option, unplaced_plain, unplaced_args, unplaced_attribute, unplaced_lifetimes, unplaced_abi, unplaced_constant}
+use Rattle.dm_type_eq.specs.Unplaced.{unplaced_ident, unplaced_lifetime, unplaced_literal, unplaced_token, unplaced_trees, unplaced_stream, unplaced_opaque, unplaced_option, unplaced_plain, unplaced_args, unplaced_attribute, unplaced_lifetimes, unplaced_abi, unplaced_constant}
 use Rattle.dm_type_eq.proofs.Cutting.{IsAlone, Cut, cut_end, cut_ident, cut_lifetime, cut_literal, cut_punct, cut_pair, cut_group, Unseen, closed, unseen_sees, unseen_word, unseen_lifetime, unseen_literal, unseen_colons}
 use Rattle.dm_type_eq.proofs.CutMacros.{unseen_macro}
 

@@ -18,7 +18,7 @@ use Rattle.dm_read_types.specs.declared.kind.Mode.TheVariants.{Whole}
 use Rattle.dm_ast.proofs.View.{view-Ty}
 use Rattle.dm_read.proofs.Deciding.{IsRefused, Decides}
 use Rattle.dm_read_types.proofs.TypeTheorem.{type_decided}
-use Rattle.dm_type_eq.proofs.Unplaced.{unplaced_type}
+use Rattle.dm_type_eq.specs.Unplaced.{unplaced_type}
 use Rattle.dm_type_eq.proofs.UnplacedSame.{same_unplaced, unplaced_tokens}
 use Rattle.dm_type_eq.proofs.Cutting.{cut_end}
 use Rattle.dm_type_eq.proofs.Respelling.{Again, lowered_within}
@@ -77,20 +77,23 @@ Whole_of t = type_spelled t false top
 -- at the top, by its own tokens, and nothing behind it
 record IsRespelled (t : TypeTree) : Type 0 where
   marks : Marks
-  spelled : type_spelled (unplaced_type t) false top (type_trees (unplaced_type t)) no_trees marks
+  spelled : type_spelled t false top (type_trees t) no_trees marks
   within : first_too_deep marks ≡ None
 
-respelled : (t : TypeTree) → IsSpelled t → IsRespelled t
-respelled t h =
-    let own : Trees = type_trees (unplaced_type t) in
-    let x : Again (type_spelled (unplaced_type t) h.single top) own h.trees no_trees h.marks =
-    again_type t h.single (record { level = omega arith; limit = refl }) h.trees h.others h.marks h.spelled no_trees (cut_end h.others) tt in
+like_respelled : (t : TypeTree) (h : IsSpelled t) → IsRespelled (unplaced_type h.like)
+like_respelled t h =
+    let own : Trees = type_trees (unplaced_type h.like) in
+    let x : Again (type_spelled (unplaced_type h.like) h.single top) own h.trees no_trees h.marks =
+    again_type h.like h.single (record { level = omega arith; limit = refl }) h.trees h.others h.marks h.spelled no_trees (cut_end h.others) tt in
     record {
       marks = x.marks;
-      spelled = type_whole (unplaced_type t) h.single top own x.marks
-          (subst (λ z. type_spelled (unplaced_type t) h.single top z no_trees x.marks) (join-no_trees own) x.spelled);
+      spelled = type_whole (unplaced_type h.like) h.single top own x.marks
+          (subst (λ z. type_spelled (unplaced_type h.like) h.single top z no_trees x.marks) (join-no_trees own) x.spelled);
       within = lowered_within x.marks h.marks x.lower h.within;
     }
+
+respelled : (t : TypeTree) → IsSpelled t → IsRespelled (unplaced_type t)
+respelled t h = subst IsRespelled h.same (like_respelled t h)
 
 -- ---- one type for the trees
 
@@ -110,8 +113,8 @@ read_as_one ts (Err f) h t u m k s e r = absurd (not_refused ts f.kind f.span h 
 
 pub same_spelled : (a b : TypeTree) → IsSpelled a → IsSpelled b → tokens_of (type_trees a) ≡ tokens_of (type_trees b) → same_type a b ≡ true
 same_spelled a b h g e =
-    let x : IsRespelled a = respelled a h in
-    let y : IsRespelled b = respelled b g in
+    let x : IsRespelled (unplaced_type a) = respelled a h in
+    let y : IsRespelled (unplaced_type b) = respelled b g in
     let own : Trees = type_trees (unplaced_type a) in
     same_unplaced a b
     (read_as_one own (read_type 129 Whole top own) (type_decided top own) (unplaced_type a) (unplaced_type b) x.marks y.marks x.spelled x.within

@@ -1,3 +1,4 @@
 pub mod BareTokens
 pub mod SameTypes
 pub mod Shapes
+pub mod Unplaced

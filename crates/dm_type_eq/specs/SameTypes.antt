@@ -24,6 +24,7 @@ use Rattle.dm_ast.specs.declared.plain.ConstArg.{ConstArg}
 use Rattle.dm_ast.specs.declared.plain.ConstArg.TheVariants as constant
 use Rattle.dm_ast.specs.Spelling.{Where, Marks, first_too_deep}
 use Rattle.dm_ast.specs.TypeGrammar.{type_spelled}
+use Rattle.dm_type_eq.specs.Unplaced.{unplaced_type}
 use Rattle.dm_ast.specs.Tree.{Lifetimes, TypeTree, type_tree, TypeNode, paren, tuple, slice, array, reference, pointer, bare_fn, trait_object, impl_trait, infer, never, path, macro_type, TypeTrees, no_types, type_then, MaybeType, no_type, some_type, MaybeSelf, no_self, some_self, BoundTree, outlives, implements, BoundTrees, no_bounds, bound_then, TraitBoundTree, trait_bound, FnTree, fn_tree, InputTree, input, InputTrees, no_inputs, input_then, PathTree, path_tree, SegmentTree, segment, SegmentTrees, no_segments, segment_then, ArgumentsTree, absent, angle, parens, ArgumentTree, lifetime_arg, type_arg, const_arg, assoc_type, assoc_const, constraint, ArgumentTrees, no_arguments, argument_then, MaybeArguments, arguments_absent, some_arguments}
 
 -- ---- truth values, options and lists
@@ -217,12 +218,15 @@ abbrev mutual
 
 -- ---- types that are read somewhere
 
--- some trees spell the type, within the deepest level, at whatever place, and whatever follows it
+-- some trees spell the type, or one that differs from it in ranges alone, within the deepest level, at whatever place, and whatever
+-- follows it
 pub record IsSpelled (t : TypeTree) : Type 0 where
+  pub like : TypeTree
+  pub same : unplaced_type like ≡ unplaced_type t
   pub single : Bool
   pub place : Where
   pub trees : Trees
   pub others : Trees
   pub marks : Marks
-  pub spelled : type_spelled t single place trees others marks
+  pub spelled : type_spelled like single place trees others marks
   pub within : first_too_deep marks ≡ None

@@ -84,7 +84,8 @@ fn shape_of<'x, 'a>(node: &'x TyNode<'a>) -> Shape<'x, 'a>
 }
 
 /// Whether two types have the same tokens, wherever these stand. Spacing counts only between tokens that are not read.
-/// The answer is yes exactly for the same tokens where both types were read, by whichever call.
+/// The answer is yes exactly for the same tokens where each type was read, by whichever call, or differs from a read one in ranges alone,
+/// as types made by hand do.
 #[cycle(same)]
 pub fn type_eq(a: &Ty<'_>, b: &Ty<'_>) -> bool
     ensures is { result ≡ same.same_type (ty_view a.now) (ty_view b.now) }

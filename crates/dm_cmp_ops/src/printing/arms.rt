@@ -5,25 +5,25 @@ ghost use Rattle.std.specs.Prelude.{◌≡◌, cond, true, map, OnOk, IsTrue};
 ghost use Rattle.dm_stream.specs.Trees as trees;
 ghost use Rattle.dm_stream.specs.Trees.{no_trees};
 ghost use Rattle.dm_ast.specs.Declarations.{declaration_view, field_view};
-ghost use Rattle.dm_emit.specs.Output.{arms_of};
-ghost use Rattle.dm_emit.specs.Tokens as tokens;
-ghost use Rattle.dm_emit.specs.Values as values;
-ghost use Rattle.dm_emit.specs.Laying.{lay};
-ghost use Rattle.dm_cmp_ops.specs.Heads as heads;
+ghost use Rattle.dm_output.specs.Output.{arms_of};
+ghost use Rattle.dm_output.specs.Tokens as tokens;
+ghost use Rattle.dm_output.specs.Values as values;
+ghost use Rattle.dm_print.specs.Laying.{lay};
+ghost use Rattle.dm_operands.specs.Kept as kept;
 ghost use Rattle.dm_cmp_ops.specs.Emitted as spec;
 ghost use Rattle.dm_cmp_ops.specs.Printed as printed;
-ghost use Rattle.dm_cmp_ops.specs.CaseViews.{case_view, fields_ref_view};
+ghost use Rattle.dm_operands.specs.CaseViews.{case_view, fields_ref_view};
 
 use super::sides::{numbered, side};
-use crate::cases::{CaseRef, FieldsRef, is_compared};
 use crate::comparing::add_rest;
 use crate::partial_eq::Comparing;
-use crate::sides::Operand;
-use crate::skips::is_skipped;
 use dm_ast::{DeriveInput, Field};
-use dm_emit::print::expr::arms as tree_arms;
-use dm_emit::print::token::{close, joint, open, punct};
+use dm_attr::skips::is_skipped;
 use dm_layout::Layout;
+use dm_operands::cases::{CaseRef, FieldsRef, is_compared};
+use dm_operands::sides::Operand;
+use dm_print::expr::arms as tree_arms;
+use dm_print::token::{close, joint, open, punct};
 use dm_stream::{Delim, Seq};
 use std::alloc::{AllocError, Global};
 
@@ -110,7 +110,7 @@ fn tested(
     comparing: Comparing,
     case: &CaseRef<'_, '_>,
 ) -> Result<(), AllocError>
-    requires { IsTrue (heads.is_compared (case_view case.now)) }
+    requires { IsTrue (kept.is_compared (case_view case.now)) }
     ensures { OnOk result (out.new ≡ lay out.old (tokens.expr_trees (spec.chain comparing (spec.tests comparing 0 (values.field_list (case_view case.now).fields))))) }
 {
     tests_of(alloc, out, comparing, case.fields)
@@ -123,7 +123,7 @@ fn arm(
     input: &DeriveInput<'_>,
     case: &CaseRef<'_, '_>,
 ) -> Result<(), AllocError>
-    requires { IsTrue (heads.is_compared (case_view case.now)) }
+    requires { IsTrue (kept.is_compared (case_view case.now)) }
     ensures { OnOk result (out.new ≡ lay out.old (tokens.arm_trees (spec.arm comparing (declaration_view input.now) (case_view case.now)))) }
 {
     open(out, Delim::Paren)?;

@@ -1,8 +1,8 @@
 use Rattle.std.proofs.Common.{◌∙◌}
-use Rattle.dm_cmp_ops.specs.CaseViews.{case_view}
-use Rattle.dm_cmp_ops.specs.Skips.{partial_eq_skip}
+use Rattle.dm_operands.specs.CaseViews.{case_view}
+use Rattle.dm_attr.specs.Skips.{partial_eq_skip}
 use Rattle.dm_cmp_ops.proofs.CheckSteps.{kept_case, skipped_case}
-use Rattle.dm_cmp_ops.proofs.SkipSteps.{found_none, found_some}
+use Rattle.dm_attr.proofs.SkipSteps.{found_none, found_some}
 use Rattle.dm_cmp_ops.proofs.checks.case_refusal.Goals as goal
 
 pub returns-in-Ok-None : goal.returns-in-Ok-None

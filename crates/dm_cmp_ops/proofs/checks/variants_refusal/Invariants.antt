@@ -1,7 +1,7 @@
 use Rattle.std.proofs.Common.{◌≡◌, map, drop}
 use Rattle.std.specs.Prelude.{flat_map}
 use Rattle.dm_ast.specs.Declarations.{variant_view}
-use Rattle.dm_emit.specs.Values.{case_of_variant}
+use Rattle.dm_output.specs.Values.{case_of_variant}
 use Rattle.dm_cmp_ops.specs.Checks as spec
 use Rattle.dm_cmp_ops.proofs.checks.variants_refusal.Given as goal
 

@@ -1,7 +1,7 @@
 use Rattle.std.proofs.Common.{◌≡◌, ◌++◌, map, drop}
 use Rattle.dm_ast.specs.Declarations.{declaration_view}
-use Rattle.dm_emit.specs.Output.{arm_view}
-use Rattle.dm_cmp_ops.specs.CaseViews.{case_view}
+use Rattle.dm_output.specs.Output.{arm_view}
+use Rattle.dm_operands.specs.CaseViews.{case_view}
 use Rattle.dm_cmp_ops.specs.Emitted as spec
 use Rattle.dm_cmp_ops.proofs.comparing.arms.Given as goal
 

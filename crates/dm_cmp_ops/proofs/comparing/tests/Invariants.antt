@@ -1,6 +1,6 @@
 use Rattle.std.proofs.Common.{◌≡◌, ◌++◌, map, drop}
 use Rattle.dm_ast.specs.Declarations.{field_view}
-use Rattle.dm_emit.specs.Output.{expr_view}
+use Rattle.dm_output.specs.Output.{expr_view}
 use Rattle.dm_cmp_ops.specs.Emitted as spec
 use Rattle.dm_cmp_ops.proofs.comparing.tests.Given as goal
 

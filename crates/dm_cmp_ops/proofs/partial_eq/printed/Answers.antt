@@ -3,4 +3,4 @@ use Rattle.dm_cmp_ops.proofs.Expansions.{prints}
 use Rattle.dm_cmp_ops.proofs.partial_eq.printed.Goals as goal
 
 pub returns : goal.returns
-returns c = prints (declaration_view c.args.input.now) c.printed_item.result c.requires c.in_ok-counted.ensures c.printed_item.ensures
+returns c = prints (declaration_view c.args.input.now) c.printed_item.result c.requires c.printed_item.ensures

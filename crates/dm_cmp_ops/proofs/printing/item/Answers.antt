@@ -2,8 +2,8 @@ use Rattle.std.proofs.Common.{map, ap, ◌∙◌}
 use Rattle.dm_stream.specs.declared.tokens.Delim.TheVariants.{Brace}
 use Rattle.dm_stream.specs.Layout.{Laid}
 use Rattle.dm_ast.specs.Declarations.{declaration_view}
-use Rattle.dm_emit.specs.Laying.{lay, begun, done}
-use Rattle.dm_emit.specs.Tokens.{in_turn, method_trees}
+use Rattle.dm_print.specs.Laying.{lay, begun, done}
+use Rattle.dm_output.specs.Tokens.{in_turn, method_trees}
 use Rattle.dm_cmp_ops.specs.Emitted.{methods}
 use Rattle.dm_cmp_ops.proofs.PrintLaws.{on-ok, item-laid}
 use Rattle.dm_cmp_ops.proofs.printing.item.Goals as goal

@@ -2,10 +2,10 @@ use Rattle.std.proofs.Common.{List, ap, ◌∙◌}
 use Rattle.dm_stream.specs.declared.tokens.Delim.TheVariants.{Brace}
 use Rattle.dm_stream.specs.Layout.{Laid}
 use Rattle.dm_ast.specs.Declarations.{declaration_view}
-use Rattle.dm_emit.specs.Laying.{lay, begun, done}
-use Rattle.dm_emit.specs.Output.{arms_of}
-use Rattle.dm_emit.specs.Tokens.{expr_trees, arms_trees}
-use Rattle.dm_emit.specs.Values.{Case, cases}
+use Rattle.dm_print.specs.Laying.{lay, begun, done}
+use Rattle.dm_output.specs.Output.{arms_of}
+use Rattle.dm_output.specs.Tokens.{expr_trees, arms_trees}
+use Rattle.dm_output.specs.Values.{Case, cases}
 use Rattle.dm_cmp_ops.specs.Emitted.{arms, both, rest}
 use Rattle.dm_cmp_ops.proofs.PrintLaws.{on-ok}
 use Rattle.dm_cmp_ops.proofs.printing.matching.Goals as goal

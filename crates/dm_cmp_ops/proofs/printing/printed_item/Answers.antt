@@ -1,8 +1,8 @@
 use Rattle.std.proofs.Common.{ℕ, List, [], ◌∷◌, ◌++◌, ap, ◌∙◌}
 use Rattle.dm_stream.specs.Layout.{Laid, line_ended}
 use Rattle.dm_ast.specs.Declarations.{declaration_view}
-use Rattle.dm_emit.specs.Laying.{lay}
-use Rattle.dm_emit.specs.Tokens.{item_trees}
+use Rattle.dm_print.specs.Laying.{lay}
+use Rattle.dm_output.specs.Tokens.{item_trees}
 use Rattle.dm_cmp_ops.specs.Emitted.{item}
 use Rattle.dm_cmp_ops.proofs.PrintLaws.{laid-start}
 use Rattle.dm_cmp_ops.proofs.printing.printed_item.Goals as goal

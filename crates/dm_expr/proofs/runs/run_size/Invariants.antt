@@ -1,5 +1,5 @@
 use Rattle.std.proofs.Common.{◌≡◌, ◌≤◌, ◌+◌, ◌-◌, true, false}
-use Rattle.dm_stream.specs.Cursors.{left, IsPlaceAfter}
+use Rattle.dm_stream.specs.Cursors.{left, SharesEnd}
 use Rattle.dm_stream.specs.Sizes.{size}
 use Rattle.dm_expr.specs.Cuts.{run_from}
 use Rattle.dm_expr.specs.Reach.{reach}
@@ -8,7 +8,7 @@ use Rattle.dm_expr.proofs.runs.run_size.Given as goal
 
 abbrev pub invariant-loop-unit : goal.invariant-loop-unit
 invariant-loop-unit l = record {
-  place : IsPlaceAfter l.fn.c l.at;
+  place : SharesEnd l.fn.c l.at;
   reads : run_from l.with_bars 0 (left l.fn.c) ≡ passed l.count (run_from l.with_bars 0 (left l.at));
   counts : l.count + size (left l.at) ≡ size (left l.fn.c);
   last : reach false (left l.at) ≤ l.ends.last - l.count;

@@ -12,10 +12,10 @@ pub returns-clause-found : goal.returns-clause-found
 returns-clause-found c =
     let w = place 0 c.args.c in
     let ts = left c.args.c in
-    front_found (λ t. type_spelled t false w) ts ty_view w.limit (whole_type w ts) (whole_type_decided w ts) (type_refused_at w ts) c.ty.result c.ty.ensures.reads
+    front_found (λ t. type_spelled t false w) ts ty_view w.limit (whole_type w ts) (whole_type_decided w ts) (type_refused_at w ts) c.one_type.result c.one_type.ensures.reads
 
 pub returns-clause-refused : goal.returns-clause-refused
 returns-clause-refused c =
     let w = place 0 c.args.c in
     let ts = left c.args.c in
-    front_refused (λ t. type_spelled t false w) ts ty_view w.limit (whole_type w ts) (whole_type_decided w ts) (type_refused_at w ts) c.ty.result c.ty.ensures.reads
+    front_refused (λ t. type_spelled t false w) ts ty_view w.limit (whole_type w ts) (whole_type_decided w ts) (type_refused_at w ts) c.one_type.result c.one_type.ensures.reads

@@ -1,9 +1,9 @@
 use Rattle.std.proofs.Common.{◌≡◌, map, drop}
 use Rattle.dm_ast.specs.Declarations.{declaration_view}
-use Rattle.dm_emit.specs.Laying.{lay}
-use Rattle.dm_emit.specs.Output.{arms_of}
-use Rattle.dm_emit.specs.Tokens.{arms_trees}
-use Rattle.dm_cmp_ops.specs.CaseViews.{case_view}
+use Rattle.dm_print.specs.Laying.{lay}
+use Rattle.dm_output.specs.Output.{arms_of}
+use Rattle.dm_output.specs.Tokens.{arms_trees}
+use Rattle.dm_operands.specs.CaseViews.{case_view}
 use Rattle.dm_cmp_ops.specs.Emitted as spec
 use Rattle.dm_cmp_ops.proofs.printing.arms.arms.Given as goal
 

@@ -1,5 +1,5 @@
-use Rattle.dm_emit.specs.Values.{field_list}
-use Rattle.dm_cmp_ops.specs.CaseViews.{case_view, fields_ref_view}
+use Rattle.dm_output.specs.Values.{field_list}
+use Rattle.dm_operands.specs.CaseViews.{case_view, fields_ref_view}
 use Rattle.dm_cmp_ops.proofs.PrintLaws.{tests-laid, keeps}
 use Rattle.dm_cmp_ops.proofs.printing.arms.tested.Goals as goal
 

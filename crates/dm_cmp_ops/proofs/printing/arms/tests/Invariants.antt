@@ -1,6 +1,6 @@
 use Rattle.std.proofs.Common.{◌≡◌, map, drop, true}
 use Rattle.dm_ast.specs.Declarations.{field_view}
-use Rattle.dm_emit.specs.Laying.{lay}
+use Rattle.dm_print.specs.Laying.{lay}
 use Rattle.dm_cmp_ops.specs.Emitted as spec
 use Rattle.dm_cmp_ops.specs.Printed.{joined}
 use Rattle.dm_cmp_ops.proofs.printing.arms.tests.Given as goal

@@ -1,11 +1,11 @@
 use Rattle.std.proofs.Common.{◌≡◌, map, drop}
 use Rattle.dm_ast.specs.Declarations.{field_view}
-use Rattle.dm_emit.specs.Laying.{lay}
-use Rattle.dm_emit.specs.Output.{patterns_of}
-use Rattle.dm_emit.specs.Tokens.{ended, each_pattern}
-use Rattle.dm_cmp_ops.specs.CaseViews.{naming}
-use Rattle.dm_cmp_ops.specs.Sides as spec
-use Rattle.dm_cmp_ops.specs.Emitted.{binds}
+use Rattle.dm_print.specs.Laying.{lay}
+use Rattle.dm_output.specs.Output.{patterns_of}
+use Rattle.dm_output.specs.Tokens.{ended, each_pattern}
+use Rattle.dm_operands.specs.CaseViews.{naming}
+use Rattle.dm_operands.specs.Sides as spec
+use Rattle.dm_operands.specs.Numbered.{binds}
 use Rattle.dm_cmp_ops.proofs.printing.sides.bindings.Given as goal
 
 abbrev pub invariant-loop-i : goal.invariant-loop-i

@@ -1,17 +1,11 @@
--- A refusal of what follows `unsafe`.
-use Rattle.std.proofs.Common.{refl}
-use Rattle.std.specs.Prelude.{codes}
-use Rattle.dm_ast.specs.Spelling.{sees_word}
-use Rattle.dm_ast.specs.Readers.{read_flag, read_word, ◌and◌}
-use Rattle.dm_read_types.specs.TypeReaders.{read_type, read_abi, read_signature}
-use Rattle.dm_read.proofs.Following.{as_is, second_err}
-use Rattle.dm_read_types.proofs.TypeParts.{abi_view, unsafe_view}
+-- Whether it is unsafe, and what follows.
+use Rattle.std.proofs.Common.{Bool, codes}
+use Rattle.dm_read_types.specs.FunctionViews.{abi_view}
+use Rattle.dm_read_types.specs.TypeReaders.{read_type, read_keyword, read_behind_unsafe}
+use Rattle.dm_read_types.proofs.InputParts.{joined_part}
 use Rattle.dm_read_types.proofs.grammar.Grammar.behind_for.Goals as goal
 
-pub returns-in_err-found-clause-reads : goal.returns-in_err-found-clause-reads
-returns-in_err-found-clause-reads g c =
-    let inner = read_type c.args.self.now.depth in
-    second_err as_is (λ w. read_flag (sees_word (codes "unsafe")) (read_word (codes "unsafe") w)) (λ w. read_abi inner w and read_signature inner w)
-    c.args.level c.args.c c.in_ok-is_unsafe.behind c.in_ok-is_unsafe.is_unsafe unsafe_view abi_view
-    (λ _. refl) c.in_ok-is_unsafe.ensures.place c.in_ok-is_unsafe.ensures.reads
-    c.in_err-found.field-0.0 c.in_err-found.ensures.reads c.from_residual-in_err-found.result c.from_residual-in_err-found.ensures.1
+pub returns : goal.returns
+returns g c =
+    joined_part (λ (b : Bool). b) abi_view (read_keyword (codes "unsafe")) (read_behind_unsafe (read_type c.args.self.now.depth)) c.args.input.now c.keyword.new.input
+    c.behind_unsafe.new.input c.in_ok-is_unsafe.is_unsafe c.in_ok-is_unsafe.ensures.0 c.in_ok-is_unsafe.ensures.1 c.behind_unsafe.result c.behind_unsafe.ensures c.joined.result c.joined.ensures

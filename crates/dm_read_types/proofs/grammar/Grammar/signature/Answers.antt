@@ -1,17 +1,12 @@
 -- What follows `fn`.
-use Rattle.std.proofs.Common.{◌+◌, option_map}
 use Rattle.std.specs.Prelude.{codes}
-use Rattle.dm_stream.specs.declared.tokens.Delim.TheVariants.{Paren}
-use Rattle.dm_ast.specs.Readers.{place, read_word, read_group, ◌and◌}
-use Rattle.dm_read.specs.Stops.{list_view}
-use Rattle.dm_ast.specs.Tree.{ty_view, input_view, maybe_type}
-use Rattle.dm_read_types.specs.TypeReaders.{read_type, read_inputs, read_output, inputs_pair}
-use Rattle.dm_read.proofs.Following.{last_part}
+use Rattle.dm_ast.specs.Readers.{read_word}
+use Rattle.dm_read_types.specs.FunctionViews.{signature_view}
+use Rattle.dm_read_types.specs.TypeReaders.{read_type, read_deep_behind_fn}
+use Rattle.dm_read_types.proofs.InputParts.{behind_token}
 use Rattle.dm_read_types.proofs.grammar.Grammar.signature.Goals as goal
 
-pub returns-clause-reads : goal.returns-clause-reads
-returns-clause-reads g c =
-    let inner = read_type c.args.self.now.depth in
-    last_part (λ v. (inputs_pair (list_view input_view v.0), maybe_type (option_map ty_view v.1))) (λ _. read_word (codes "fn") (place c.args.level c.args.c))
-    (λ w _. read_group Paren (read_inputs inner) w and read_output inner w w) (c.args.level + 1) c.args.c c.in_ok-behind.behind tt
-    c.in_ok-behind.ensures.place c.in_ok-behind.ensures.reads _ c.behind_fn.ensures.reads
+pub returns : goal.returns
+returns g c =
+    behind_token signature_view (read_word (codes "fn")) (read_deep_behind_fn (read_type c.args.self.now.depth)) c.args.input.now c.word.new.self c.deep_behind_fn.new.input
+    c.in_ok-word.ensures.reads.0 c.in_ok-word.ensures.reads.1 c.deep_behind_fn.result c.deep_behind_fn.ensures

@@ -1,0 +1,3 @@
+pub mod Skips
+pub mod SkipRefusals
+pub mod Merged

@@ -1,4 +1,0 @@
-pub mod View
-pub mod Laying
-pub mod Lines
-pub mod Copies

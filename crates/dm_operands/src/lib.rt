@@ -1,0 +1,8 @@
+//! The operands of emitted methods: the variants of a declaration, the patterns that bind their fields, and what a head takes over.
+#![tactic(auto)]
+
+pub mod cases;
+pub mod generics;
+pub mod heads;
+pub mod names;
+pub mod sides;

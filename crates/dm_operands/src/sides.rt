@@ -1,0 +1,215 @@
+//! The patterns by which a variant's fields are bound, for each operand.
+#![tactic(auto, using(crate::proofs::Builders::builder_steps))]
+
+ghost use Rattle.std.specs.Prelude.{◌≡◌, map, IfOk, IfSome, string_bytes};
+ghost use Rattle.dm_ast.specs.Tree.{path_view};
+ghost use Rattle.dm_ast.specs.Declarations.{declaration_view, field_view};
+ghost use Rattle.dm_output.specs.Output.{pattern_view, named_view, bind};
+ghost use Rattle.dm_output.specs.declared.pattern.Binding.TheVariants.{Plain};
+ghost use Rattle.dm_operands.specs.Heads as heads;
+ghost use Rattle.dm_operands.specs.Sides as spec;
+ghost use Rattle.dm_operands.specs.Numbered.{self_name, other_name, binds};
+ghost use Rattle.dm_operands.specs.CaseViews.{case_view, fields_ref_view, naming};
+
+use crate::cases::{CaseRef, FieldsRef, is_enum, some_skipped_field};
+use crate::names::{emitted, path_of_one, path_of_two, word};
+use dm_ast::{DeriveInput, Field, Path};
+use dm_attr::skips::is_skipped;
+use dm_output::{Binding, NamedPattern, Pattern};
+use dm_stream::{Ident, Seq, Text};
+use std::alloc::{AllocError, Global};
+
+/// Which of the two values that are compared.
+#[derive(Clone, Copy, Debug, PartialEq, Eq)]
+pub enum Operand {
+    Mine,
+    Theirs,
+}
+
+/// The names of the first fields of the left operand, which need no memory.
+fn first_mine(n: usize) -> Option<&'static str>
+    ensures { IfSome result (λ name. name.now ≡ self_name n) }
+{
+    match n {
+        0 => Some("__self_0"),
+        1 => Some("__self_1"),
+        2 => Some("__self_2"),
+        3 => Some("__self_3"),
+        4 => Some("__self_4"),
+        5 => Some("__self_5"),
+        6 => Some("__self_6"),
+        7 => Some("__self_7"),
+        _ => None,
+    }
+}
+
+/// The names of the first fields of the right operand.
+fn first_theirs(n: usize) -> Option<&'static str>
+    ensures { IfSome result (λ name. name.now ≡ other_name n) }
+{
+    match n {
+        0 => Some("__other_0"),
+        1 => Some("__other_1"),
+        2 => Some("__other_2"),
+        3 => Some("__other_3"),
+        4 => Some("__other_4"),
+        5 => Some("__other_5"),
+        6 => Some("__other_6"),
+        7 => Some("__other_7"),
+        _ => None,
+    }
+}
+
+pub fn first_name(operand: Operand, n: usize) -> Option<&'static str>
+    ensures { IfSome result (λ name. name.now ≡ naming operand n) }
+{
+    match operand {
+        Operand::Mine => first_mine(n),
+        Operand::Theirs => first_theirs(n),
+    }
+}
+
+pub fn formatted(alloc: Global, operand: Operand, n: usize) -> Result<String, AllocError>
+    ensures { IfOk result (λ name. string_bytes name ≡ naming operand n) }
+{
+    match operand {
+        Operand::Mine => format!(in alloc; "__self_{n}"),
+        Operand::Theirs => format!(in alloc; "__other_{n}"),
+    }
+}
+
+/// The name of a field of an operand, by its number.
+pub fn numbered<'a>(alloc: Global, operand: Operand, n: usize) -> Result<Ident<'a>, AllocError>
+    ensures { IfOk result (λ i. i ≡ heads.word (naming operand n)) }
+{
+    match first_name(operand, n) {
+        Some(name) => Ok(word(name)),
+        None => Ok(emitted(Text::owned(formatted(alloc, operand, n)?))),
+    }
+}
+
+fn bound<'a>(alloc: Global, operand: Operand, n: usize) -> Result<Pattern<'a>, AllocError>
+    ensures { IfOk result (λ p. pattern_view p ≡ bind Plain (heads.word (naming operand n))) }
+{
+    Ok(Pattern::Bind(Binding::Plain, numbered(alloc, operand, n)?))
+}
+
+fn binding<'a>(
+    alloc: Global,
+    operand: Operand,
+    n: usize,
+    skip: bool,
+) -> Result<Pattern<'a>, AllocError>
+    ensures { IfOk result (λ p. pattern_view p ≡ spec.binding skip (naming operand n)) }
+{
+    if skip {
+        return Ok(Pattern::Wild);
+    }
+    bound(alloc, operand, n)
+}
+
+fn bindings<'a>(
+    alloc: Global,
+    operand: Operand,
+    fields: &[Field<'_>],
+) -> Result<Seq<Pattern<'a>>, AllocError>
+    ensures { IfOk result (λ ps. map pattern_view ps ≡ spec.bindings (binds (naming operand)) 0 (map field_view fields.now)) }
+{
+    let mut out = Seq::with_capacity(alloc, fields.len())?;
+    for (i, field) in fields.iter().enumerate() {
+        let skip = is_skipped(field.attrs.as_slice());
+        let pattern = binding(alloc, operand, i, skip)?;
+        out.add(pattern)?;
+    }
+    Ok(out)
+}
+
+fn field_ident<'a>(alloc: Global, field: &Field<'a>) -> Result<Ident<'a>, AllocError>
+    ensures { IfOk result (λ i. i ≡ spec.field_ident field.now.ident) }
+{
+    match &field.ident {
+        Some(ident) => ident.clone_in(alloc),
+        None => Ok(word("")),
+    }
+}
+
+fn named_binding<'a>(
+    alloc: Global,
+    operand: Operand,
+    n: usize,
+    field: &Field<'a>,
+) -> Result<NamedPattern<'a>, AllocError>
+    ensures { IfOk result (λ p. named_view p ≡ (spec.field_ident field.now.ident, bind Plain (heads.word (naming operand n)))) }
+{
+    Ok(NamedPattern {
+        name: field_ident(alloc, field)?,
+        pattern: bound(alloc, operand, n)?,
+    })
+}
+
+fn named_bindings<'a>(
+    alloc: Global,
+    operand: Operand,
+    fields: &[Field<'a>],
+) -> Result<Seq<NamedPattern<'a>>, AllocError>
+    ensures { IfOk result (λ ps. map named_view ps ≡ spec.named_bindings (binds (naming operand)) 0 (map field_view fields.now)) }
+{
+    let mut out = Seq::with_capacity(alloc, fields.len())?;
+    for (i, field) in fields.iter().enumerate() {
+        if !is_skipped(field.attrs.as_slice()) {
+            let pattern = named_binding(alloc, operand, i, field)?;
+            out.add(pattern)?;
+        }
+    }
+    Ok(out)
+}
+
+/// `Self`, or `Self::V`.
+fn case_path<'a>(
+    alloc: Global,
+    input: &DeriveInput<'a>,
+    case: &CaseRef<'_, 'a>,
+) -> Result<Path<'a>, AllocError>
+    ensures { IfOk result (λ p. path_view p ≡ spec.case_path (declaration_view input.now) (case_view case.now)) }
+{
+    if is_enum(input) {
+        return path_of_two(alloc, word("Self"), case.ident.clone_in(alloc)?);
+    }
+    path_of_one(alloc, word("Self"))
+}
+
+fn side_of_fields<'a>(
+    alloc: Global,
+    operand: Operand,
+    path: Path<'a>,
+    fields: FieldsRef<'_, 'a>,
+) -> Result<Pattern<'a>, AllocError>
+    ensures { IfOk result (λ p. pattern_view p ≡ spec.side (binds (naming operand)) (path_view path.entry) (fields_ref_view fields.entry)) }
+{
+    match fields {
+        FieldsRef::Named(all) => {
+            let items = all.items.as_slice();
+            let rest = some_skipped_field(items);
+            Ok(Pattern::Named(path, named_bindings(alloc, operand, items)?, rest))
+        }
+        FieldsRef::Unnamed(all) => Ok(Pattern::Tuple(
+            path,
+            bindings(alloc, operand, all.items.as_slice())?,
+        )),
+        FieldsRef::Unit => Ok(Pattern::Tuple(path, Seq::new(alloc))),
+    }
+}
+
+/// The pattern of an operand that is of this variant.
+pub fn side<'a>(
+    alloc: Global,
+    operand: Operand,
+    input: &DeriveInput<'a>,
+    case: &CaseRef<'_, 'a>,
+) -> Result<Box<Pattern<'a>>, AllocError>
+    ensures { IfOk result (λ p. pattern_view p.value ≡ spec.side (binds (naming operand)) (spec.case_path (declaration_view input.now) (case_view case.now)) (case_view case.now).fields) }
+{
+    let path = case_path(alloc, input, case)?;
+    let pattern = side_of_fields(alloc, operand, path, case.fields)?;
+    Ok(Box::new(alloc, pattern)?)
+}

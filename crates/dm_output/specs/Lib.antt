@@ -1,0 +1,4 @@
+pub mod Output
+pub mod Values
+pub mod Run
+pub mod Tokens

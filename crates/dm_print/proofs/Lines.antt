@@ -1,0 +1,33 @@
+-- Lines of items, and qualified paths.
+use Rattle.std.specs.Prelude.{◌≡◌, ℕ, List, [], ◌∷◌, ◌++◌, map, Bool, true}
+use Rattle.std.proofs.Common.{ap, ◌∙◌, append_assoc}
+use Rattle.std.proofs.lemmas.Grind.{common_steps}
+use Rattle.dm_stream.specs.declared.tokens.Span.{Span}
+use Rattle.dm_stream.specs.Trees.{Trees}
+use Rattle.dm_stream.specs.Layout.{Laid, layout}
+use Rattle.dm_ast.specs.declared.ty.Path.{Path}
+use Rattle.dm_ast.specs.declared.ty.QSelf.{QSelf}
+use Rattle.dm_ast.specs.declared.ty.Bound.TheViews.{out-Path}
+use Rattle.dm_ast.specs.Tree.{TypeTree, path, PathTree, path_tree, some_self, ty_view, self_view, path_view, segment_view, segments_of}
+use Rattle.dm_ast.specs.TypeTokens.{node_trees, type_trees, qualified_trees, each_segment}
+use Rattle.dm_ast.proofs.View.{view-Path, view-QSelf}
+use Rattle.dm_print.specs.Laying.{lay}
+use Rattle.dm_print.proofs.Laying.{lay-text, print_steps}
+
+-- behind a text that the next token follows with no space
+pub lay_fresh : (s : Laid) (ts : Trees) → s.glued ≡ true → (lay s ts).text ≡ s.text ++ layout ts
+lay_fresh s ts fresh = ap (λ (g : Bool). (lay (record { text = s.text; glued = g }) ts).text) fresh ∙ lay-text s.text ts
+
+pub lay_line : (s : Laid) (ts : Trees) → s.glued ≡ true → (lay s ts).text ++ 10 ∷ [] ≡ s.text ++ (layout ts ++ 10 ∷ [])
+lay_line s ts fresh = ap (λ (l : List ℕ). l ++ 10 ∷ []) (lay_fresh s ts fresh) ∙ append_assoc s.text (layout ts) (10 ∷ [])
+
+pub qualified_tokens : (s : Span) (q : QSelf) (p : Path) →
+    node_trees s (path (some_self (self_view q).0 (self_view q).1) (path_view p)) ≡
+    qualified_trees s (type_trees (ty_view q.ty)) q.position (out-Path p).leading_colon (each_segment s (segments_of (map segment_view (out-Path p).segments)))
+qualified_tokens s q p =
+    ap (λ (r : PathTree). node_trees s (path (some_self (self_view q).0 (self_view q).1) r)) (view-Path p) ∙
+    ap (λ (r : TypeTree × ℕ). node_trees s (path (some_self r.0 r.1) (path_tree (out-Path p).leading_colon (segments_of (map segment_view (out-Path p).segments))))) (view-QSelf q)
+
+pub ruleset line_steps = (common_steps, lay_fresh, lay_line)
+
+pub ruleset qualified_steps = (print_steps, qualified_tokens)

@@ -1,0 +1,9 @@
+use Rattle.std.proofs.Common.{◌≡◌, map, drop}
+use Rattle.dm_output.specs.Output.{method_view}
+use Rattle.dm_output.specs.Tokens.{in_turn, method_trees}
+use Rattle.dm_print.specs.Laying.{lay}
+use Rattle.dm_print.proofs.item.methods.Given as goal
+
+abbrev pub invariant-loop-one : goal.invariant-loop-one
+invariant-loop-one l =
+    lay l.out (in_turn (map method_trees (map method_view (drop l.one-index l.all)))) ≡ lay l.initial.out (in_turn (map method_trees (map method_view l.all)))
