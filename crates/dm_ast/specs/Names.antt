@@ -81,13 +81,13 @@ abbrev mutual
   pub in_input : InputTree → List Found
   in_input (input attrs i t) = in_type t
 
-  pub in_bounds : BoundTrees → List Found
-  in_bounds no_bounds = []
-  in_bounds (bound_then b bs) = in_bound b ++ in_bounds bs
-
   pub in_bound : BoundTree → List Found
   in_bound (outlives l) = []
   in_bound (implements t) = in_trait t
+
+  pub in_bounds : BoundTrees → List Found
+  in_bounds no_bounds = []
+  in_bounds (bound_then b bs) = in_bound b ++ in_bounds bs
 
   pub in_trait : TraitBoundTree → List Found
   in_trait (trait_bound round maybe ls p) = in_for ls ++ in_path p

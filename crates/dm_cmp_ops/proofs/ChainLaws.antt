@@ -4,8 +4,8 @@ use Rattle.dm_ast.specs.Declarations.{Declaration, FieldTree}
 use Rattle.dm_output.specs.Output.{ExprTree, exprs_of}
 use Rattle.dm_output.specs.Values.{mine, theirs, Thing, truth, value, pair, place, discriminant, term}
 use Rattle.dm_output.specs.Run.{Env, Setting, bound, run, if_truth}
-use Rattle.dm_cmp_ops.specs.declared.partial_eq.Comparing.{Comparing}
-use Rattle.dm_cmp_ops.specs.declared.partial_eq.Comparing.TheVariants.{Equal, Unequal}
+use Rattle.dm_cmp_ops.specs.declared.comparing.Comparing.{Comparing}
+use Rattle.dm_cmp_ops.specs.declared.comparing.Comparing.TheVariants.{Equal, Unequal}
 use Rattle.dm_attr.specs.Skips.{is_skipped}
 use Rattle.dm_cmp_ops.specs.Direct.{all_kept}
 use Rattle.dm_cmp_ops.specs.Emitted.{says, neutral_of, join_of, test, tests, chain}

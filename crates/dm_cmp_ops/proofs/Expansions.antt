@@ -7,8 +7,8 @@ use Rattle.dm_print.specs.declared.expansion.Expansion.{Expansion}
 use Rattle.dm_output.specs.Output.{ItemTree, item_view}
 use Rattle.dm_output.specs.Values.{cases}
 use Rattle.dm_output.specs.Tokens.{printed}
-use Rattle.dm_cmp_ops.specs.declared.partial_eq.Comparing.{Comparing}
-use Rattle.dm_cmp_ops.specs.declared.partial_eq.Comparing.TheVariants.{Equal, Unequal}
+use Rattle.dm_cmp_ops.specs.declared.comparing.Comparing.{Comparing}
+use Rattle.dm_cmp_ops.specs.declared.comparing.Comparing.TheVariants.{Equal, Unequal}
 use Rattle.dm_cmp_ops.specs.Direct.{Gives, direct_eq, direct_ne}
 use Rattle.dm_cmp_ops.specs.Heads.{IsComparison, AreMethods, IsPartialEq}
 use Rattle.dm_operands.specs.Kept.{some_compared}

@@ -5,8 +5,8 @@ use Rattle.dm_ast.specs.Declarations.{Declaration, FieldTree, FieldsTree, named,
 use Rattle.dm_output.specs.Output.{exprs_of, arms_of, MethodTree}
 use Rattle.dm_output.specs.Values.{Value, mine, theirs, truth, value, Case, cases, is_enum, field_list, fits_case, IsValue}
 use Rattle.dm_output.specs.Run.{Env, run, run_arms, run_block}
-use Rattle.dm_cmp_ops.specs.declared.partial_eq.Comparing.{Comparing}
-use Rattle.dm_cmp_ops.specs.declared.partial_eq.Comparing.TheVariants.{Equal, Unequal}
+use Rattle.dm_cmp_ops.specs.declared.comparing.Comparing.{Comparing}
+use Rattle.dm_cmp_ops.specs.declared.comparing.Comparing.TheVariants.{Equal, Unequal}
 use Rattle.dm_attr.specs.Skips.{is_skipped}
 use Rattle.dm_cmp_ops.specs.Direct.{all_kept, direct_in, direct_eq, direct_ne, Gives}
 use Rattle.dm_operands.specs.Kept.{keeps_some, is_compared, some_compared}

@@ -1,26 +1,26 @@
 -- Steps of what is printed without its trees.
-use Rattle.std.proofs.Common.{◌≡◌, ℕ, ◌+◌, List, [], ◌∷◌, map, Bool, true, false, cond, Result, Ok, Err, refl, sym}
-use Rattle.std.specs.Prelude.{not, ◌&&◌, ◌||◌, OnOk}
+use Rattle.std.proofs.Common.{◌≡◌, ℕ, ◌+◌, List, [], ◌∷◌, map, Bool, true, false, cond, refl, sym}
+use Rattle.std.specs.Prelude.{not, ◌&&◌, ◌||◌}
 use Rattle.dm_stream.specs.declared.tokens.Delim.TheVariants.{Brace}
-use Rattle.dm_stream.specs.Trees.{Trees, no_trees}
-use Rattle.dm_stream.specs.Layout.{Laid, laid_start, layout}
+use Rattle.dm_stream.specs.Trees.{no_trees}
+use Rattle.dm_stream.specs.Layout.{Laid}
 use Rattle.dm_ast.specs.Declarations.{Declaration, FieldTree}
 use Rattle.dm_print.specs.Laying.{lay, begun, done}
 use Rattle.dm_output.specs.Output.{ExprTree}
 use Rattle.dm_output.specs.Tokens.{expr_trees, word, enclosed, in_turn, method_trees, head_trees, item_trees}
 use Rattle.dm_output.specs.Values.{Case, field_list}
-use Rattle.dm_print.proofs.Laying.{print_steps, lay-join, lay-text}
-use Rattle.dm_cmp_ops.specs.declared.partial_eq.Comparing.{Comparing}
-use Rattle.dm_cmp_ops.specs.declared.partial_eq.Comparing.TheVariants.{Equal, Unequal}
+use Rattle.dm_print.proofs.Laying.{lay-join}
+use Rattle.dm_cmp_ops.specs.declared.comparing.Comparing.{Comparing}
+use Rattle.dm_cmp_ops.specs.declared.comparing.Comparing.TheVariants.{Equal, Unequal}
 use Rattle.dm_attr.specs.Skips.{is_skipped}
 use Rattle.dm_operands.specs.Kept.{keeps_some, is_compared}
 use Rattle.dm_cmp_ops.specs.Emitted.{test, tests, chain, methods, item}
 use Rattle.dm_operands.specs.declared.sides.Operand.TheVariants.{Mine, Theirs}
 use Rattle.dm_operands.specs.CaseViews.{naming}
 use Rattle.dm_cmp_ops.specs.Printed.{sign_trees, joined}
-use Rattle.dm_operands.proofs.Builders.{segments_of_plain}
+use Rattle.dm_sides.proofs.Patterns.{pattern_steps}
 
-pub ruleset printing_steps = (print_steps, segments_of_plain)
+pub ruleset printing_steps = (pattern_steps)
 
 -- ---- tests
 
@@ -60,16 +60,7 @@ keeps v h = both (not (is_skipped v.attrs)) (keeps_some (field_list v.fields)) h
 
 -- ---- the implementation
 
--- what holds where a call succeeds
-pub on-ok : {T E P Q : Type 0} (r : Result T E) → (P → Q) → OnOk r P → OnOk r Q
-on-ok (Ok x) f h = f h
-on-ok (Err e) f h = tt
-
 -- the head, and the methods in braces
 pub item-laid : (s : Laid) (d : Declaration) →
     done (lay (begun (lay s (head_trees (item d))) Brace) (in_turn (map method_trees (methods d)))) Brace ≡ lay s (item_trees (item d))
 item-laid s d = sym (lay-join s (head_trees (item d)) (enclosed Brace (in_turn (map method_trees (methods d)))))
-
--- a text from its start
-pub laid-start : (ts : Trees) → (lay laid_start ts).text ≡ layout ts
-laid-start ts = lay-text [] ts

@@ -1,18 +1,19 @@
 -- The bodies that are emitted for `eq` and `ne`: one form, with the test, the join and the neutral truth of each.
-use Rattle.std.specs.Prelude.{ℕ, ◌+◌, List, [], ◌∷◌, ◌++◌, length, Bool, true, false, not, cond, ◌&&◌, ◌||◌, eqb, nat_lt, Some, codes}
+use Rattle.std.specs.Prelude.{ℕ, ◌+◌, List, [], ◌∷◌, length, Bool, true, false, not, cond, ◌&&◌, ◌||◌, eqb, nat_lt, Some, codes}
 use Rattle.dm_ast.specs.Tree.{no_self}
 use Rattle.dm_ast.specs.Declarations.{Declaration, FieldTree}
-use Rattle.dm_ast.specs.Implementors.{plain_path, name_type, params_of, predicates_of, implementor}
-use Rattle.dm_output.specs.Output.{wild, patterns_of, ExprTree, or_expr, and_expr, equal, unequal, deref, path_expr, call, tuple, bool, match_expr, unsafe_expr, ExprTrees, no_exprs, expr_then, exprs_of, no_expr, some_expr, ArmTree, no_arms, arms_of, expr_body, BlockTree, last_expr, MethodTree, ItemTree}
+use Rattle.dm_ast.specs.Implementors.{plain_path, name_type, params_of, implementor}
+use Rattle.dm_output.specs.Output.{ExprTree, or_expr, and_expr, equal, unequal, call, tuple, bool, match_expr, unsafe_expr, ExprTrees, no_exprs, expr_then, exprs_of, some_expr, ArmTree, arms_of, BlockTree, last_expr, MethodTree, ItemTree}
 use Rattle.dm_output.specs.Values.{Text, Case, cases, is_enum, field_list}
 use Rattle.dm_output.specs.Run.{discriminant_names}
-use Rattle.dm_cmp_ops.specs.declared.partial_eq.Comparing.{Comparing}
-use Rattle.dm_cmp_ops.specs.declared.partial_eq.Comparing.TheVariants.{Equal, Unequal}
+use Rattle.dm_cmp_ops.specs.declared.comparing.Comparing.{Comparing}
+use Rattle.dm_cmp_ops.specs.declared.comparing.Comparing.TheVariants.{Equal, Unequal}
 use Rattle.dm_operands.specs.Numbered.{self_name, other_name, binds}
 use Rattle.dm_attr.specs.Skips.{is_skipped}
 use Rattle.dm_operands.specs.Heads.{word, words, ref_self}
+use Rattle.dm_operands.specs.Bodies.{name, no_match, unreachable_call, otherwise}
 use Rattle.dm_operands.specs.Kept.{is_compared, some_compared, all_compared, some_skipped_case}
-use Rattle.dm_cmp_ops.specs.Heads.{partial_eq_path}
+use Rattle.dm_cmp_ops.specs.Heads.{partial_eq_path, all_predicates}
 use Rattle.dm_operands.specs.Sides.{PairArms, pair_arm, pair_arms}
 use Rattle.dm_output.specs.declared.item.ItemAttr.TheVariants.{AllowPrivateBounds, AutomaticallyDerived, Inline}
 use Rattle.dm_output.specs.declared.item.Receiver.TheVariants.{Ref}
@@ -35,11 +36,6 @@ neutral_of Unequal = false
 abbrev pub says : Comparing → Bool → Bool
 says Equal b = b
 says Unequal b = not b
-
--- ---- names
-
-abbrev pub name : Text → ExprTree
-name x = path_expr no_self (plain_path (word x ∷ []))
 
 -- ---- one arm for each variant that is compared
 
@@ -67,16 +63,9 @@ arms c d vs more = pair_arms (compared_arms c) d vs more
 
 -- ---- the last arm
 
--- derive_more::core::hint::unreachable_unchecked()
-abbrev pub unreachable_call : ExprTree
-unreachable_call = call no_self (plain_path (words (codes "derive_more" ∷ codes "core" ∷ codes "hint" ∷ codes "unreachable_unchecked" ∷ []))) no_exprs
-
-abbrev pub otherwise : ExprTree → List ArmTree
-otherwise e = record { patterns = patterns_of (wild ∷ []); guard = no_expr; body = expr_body e } ∷ []
-
 -- the neutral truth where some variant has no arm; unreachable where every variant has one and there are several
 abbrev pub rest : Comparing → List Case → List ArmTree
-rest c vs = cond (all_compared vs) (cond (nat_lt 1 (length vs)) (otherwise (unsafe_expr unreachable_call)) []) (otherwise (bool (neutral_of c)))
+rest c vs = cond (all_compared vs) (cond (nat_lt 1 (length vs)) (otherwise (unsafe_expr unreachable_call) ∷ []) []) (otherwise (bool (neutral_of c)) ∷ [])
 
 -- ---- the body
 
@@ -107,7 +96,7 @@ parts c d = with_discriminants c (needs_discriminants d) (match_part c d (some_c
 
 -- `match *self {}` for an enum without variants
 abbrev pub body_expr : Comparing → Declaration → ExprTree
-body_expr c d = cond (eqb (length (cases d)) 0) (match_expr (deref (name (codes "self"))) no_arms) (chain c (parts c d))
+body_expr c d = cond (eqb (length (cases d)) 0) no_match (chain c (parts c d))
 
 abbrev pub body : Comparing → Declaration → BlockTree
 body c d = last_expr (some_expr (body_expr c d))
@@ -146,7 +135,7 @@ with_methods d ms =
       params = params_of d;
       trait_path = Some partial_eq_path;
       ty = implementor d;
-      predicates = predicates_of d;
+      predicates = all_predicates d;
       assocs = [];
       methods = ms;
     }

@@ -1,7 +1,7 @@
 -- The implementation of `PartialEq` but for its bodies.
-use Rattle.std.specs.Prelude.{◌≡◌, List, [], ◌∷◌, Bool, true, false, codes, Some}
+use Rattle.std.specs.Prelude.{◌≡◌, List, [], ◌∷◌, ◌++◌, Bool, true, false, codes, Some}
 use Rattle.dm_ast.specs.Tree.{PathTree}
-use Rattle.dm_ast.specs.Declarations.{Declaration}
+use Rattle.dm_ast.specs.Declarations.{PredicateTree, Declaration}
 use Rattle.dm_ast.specs.Implementors.{plain_path, name_type, params_of, predicates_of, implementor}
 use Rattle.dm_output.specs.Output.{ItemTree, MethodTree}
 use Rattle.dm_output.specs.Values.{Text, cases}
@@ -9,6 +9,7 @@ use Rattle.dm_output.specs.declared.item.ItemAttr.TheVariants.{AllowPrivateBound
 use Rattle.dm_output.specs.declared.item.Receiver.TheVariants.{Ref}
 use Rattle.dm_operands.specs.Heads.{word, words, ref_self}
 use Rattle.dm_operands.specs.Kept.{some_compared}
+use Rattle.dm_bounds.specs.Needed.{needed}
 use Rattle.dm_cmp_ops.specs.Direct.{Gives, direct_eq, direct_ne}
 
 -- derive_more::core::cmp::PartialEq
@@ -30,12 +31,16 @@ AreMethods d false (eq ∷ []) = IsComparison (codes "eq") eq × Gives d eq dire
 AreMethods d true (eq ∷ ne ∷ []) = (IsComparison (codes "eq") eq × Gives d eq direct_eq) × (IsComparison (codes "ne") ne × Gives d ne direct_ne)
 AreMethods d _ _ = ⊥
 
+-- the declared predicates, and behind them those that the kept fields need
+abbrev pub all_predicates : Declaration → List PredicateTree
+all_predicates d = predicates_of d ++ needed partial_eq_path d
+
 -- the implementation of `PartialEq`: its head, and what its methods give
 pub record IsPartialEq (d : Declaration) (item : ItemTree) : Type 0 where
   pub attrs : item.attrs ≡ AllowPrivateBounds ∷ AutomaticallyDerived ∷ []
   pub params : item.params ≡ params_of d
   pub trait_path : item.trait_path ≡ Some partial_eq_path
   pub ty : item.ty ≡ implementor d
-  pub predicates : item.predicates ≡ predicates_of d
+  pub predicates : item.predicates ≡ all_predicates d
   pub assocs : item.assocs ≡ []
   pub methods : AreMethods d (some_compared (cases d)) item.methods

@@ -5,8 +5,8 @@ use Rattle.dm_ast.specs.Declarations.{Declaration}
 use Rattle.dm_ast.specs.TypeTokens.{spaced}
 use Rattle.dm_output.specs.Output.{ExprTree, exprs_of}
 use Rattle.dm_output.specs.Tokens.{joint, each_expr, expr_trees}
-use Rattle.dm_cmp_ops.specs.declared.partial_eq.Comparing.{Comparing}
-use Rattle.dm_cmp_ops.specs.declared.partial_eq.Comparing.TheVariants.{Equal, Unequal}
+use Rattle.dm_cmp_ops.specs.declared.comparing.Comparing.{Comparing}
+use Rattle.dm_cmp_ops.specs.declared.comparing.Comparing.TheVariants.{Equal, Unequal}
 use Rattle.dm_cmp_ops.specs.Emitted.{discriminants, matching, needs_discriminants}
 
 -- `==`, or `!=`

@@ -1,51 +1,37 @@
 //! `PartialEq`.
 #![tactic(auto, using(crate::proofs::Builders::builder_steps))]
 
-ghost use Rattle.std.specs.Prelude.{◌≡◌, ◌∷◌, [], map, ◌++◌, codes, IfOk, OnOk, string_bytes};
-ghost use Rattle.dm_ast.specs.Tree.{path_view, no_self};
-ghost use Rattle.dm_ast.specs.Declarations.{declaration_view};
-ghost use Rattle.dm_output.specs.Output.{expr_view, block_view, method_view, item_view, match_expr, deref, no_arms, call, exprs_of, tuple, expr_then, no_exprs};
+ghost use Rattle.std.specs.Prelude.{◌≡◌, ◌∷◌, [], map, ◌++◌, IfOk, OnOk, string_bytes};
+ghost use Rattle.dm_ast.specs.Tree.{path_view};
+ghost use Rattle.dm_ast.specs.Declarations.{declaration_view, predicate_view};
+ghost use Rattle.dm_output.specs.Output.{expr_view, block_view, method_view, item_view};
 ghost use Rattle.dm_output.specs.Values as values;
 ghost use Rattle.dm_output.specs.Tokens.{printed};
-ghost use Rattle.dm_cmp_ops.specs.Heads.{partial_eq_path};
-ghost use Rattle.dm_operands.specs.Heads as heads;
+ghost use Rattle.dm_cmp_ops.specs.Heads.{partial_eq_path, all_predicates};
 ghost use Rattle.dm_operands.specs.Kept as kept;
 ghost use Rattle.dm_cmp_ops.specs.Emitted as spec;
-ghost use Rattle.dm_operands.specs.CaseViews.{case_view, IsCasesOf};
+ghost use Rattle.dm_operands.specs.CaseViews.{IsCasesOf};
 ghost use Rattle.dm_cmp_ops.specs.Expanded.{IsAnswer, IsExpanded, IsPrinted, IsReadable, IsText};
 
+use crate::arms::{arms, chain};
 use crate::checks::refusal;
-use crate::comparing::{arms, block_of, chain, test_of};
+use crate::comparing::Comparing;
 use crate::printing::printed_item;
-use dm_ast::{DeriveInput, Path};
+use dm_ast::{DeriveInput, Path, WherePredicate};
+use dm_bounds::needed::add_needed;
+use dm_operands::arms::block_of;
 use dm_operands::cases::{CaseRef, cases_of, is_enum, some_compared, some_skipped_case};
+use dm_operands::exprs::{call_of, no_match, pair_of, word_name};
 use dm_operands::generics::{implementor, params, predicates};
 use dm_operands::heads::{other_param, word_type};
-use dm_operands::names::{boxed, name, one, path_of, two, word};
-use dm_output::{Block, Expr, Item, ItemAttr, Method, PathExpr, Receiver};
+use dm_operands::names::{boxed, one, path_of, two};
+use dm_output::{Block, Expr, Item, ItemAttr, Method, Receiver};
 use dm_print::{Expansion, with_text};
-use dm_stream::{Error, Ident, Seq};
+use dm_stream::{Error, Seq};
 use std::alloc::{AllocError, Global};
 
-/// Which of the two methods is made.
-#[derive(Clone, Copy, Debug, PartialEq, Eq)]
-pub(crate) enum Comparing {
-    Equal,
-    Unequal,
-}
-
-fn word_name<'a>(alloc: Global, text: &'a str) -> Result<Expr<'a>, AllocError>
-    ensures { IfOk result (λ e. expr_view e ≡ spec.name text.now) }
-{
-    name(alloc, word(text))
-}
-
-fn pair_of<'a>(alloc: Global, mine: Expr<'a>, theirs: Expr<'a>) -> Result<Expr<'a>, AllocError>
-    ensures { IfOk result (λ e. expr_view e ≡ tuple (expr_then (expr_view mine.entry) (expr_then (expr_view theirs.entry) no_exprs))) }
-{
-    let parts = two(alloc, mine, theirs)?;
-    Ok(Expr::Tuple(parts))
-}
+/// The path of the trait, from the crate that emitted code stands on.
+const PARTIAL_EQ: [&str; 4] = ["derive_more", "core", "cmp", "PartialEq"];
 
 pub(crate) fn both_expr<'a>(alloc: Global) -> Result<Expr<'a>, AllocError>
     ensures { IfOk result (λ e. expr_view e ≡ spec.both) }
@@ -77,13 +63,6 @@ fn matching<'a>(
     Ok(Expr::Match(operands, all))
 }
 
-#[tactic(auto, using(crate::proofs::Builders::joined_steps))]
-fn call_of<'a>(path: Path<'a>, operands: Seq<Expr<'a>>) -> Expr<'a>
-    ensures { expr_view result ≡ call no_self (path_view path.entry) (exprs_of (map expr_view operands.entry)) }
-{
-    Expr::Call(PathExpr { qself: None, path }, operands)
-}
-
 fn discriminant_of<'a>(alloc: Global, text: &'a str) -> Result<Expr<'a>, AllocError>
     ensures { IfOk result (λ e. expr_view e ≡ spec.discriminant_call text.now) }
 {
@@ -105,7 +84,7 @@ pub(crate) fn discriminants<'a>(alloc: Global, comparing: Comparing) -> Result<E
 {
     let mine = discriminant_call(alloc, "self")?;
     let theirs = discriminant_call(alloc, "__other")?;
-    Ok(test_of(comparing, mine, theirs))
+    Ok(comparing.test_of(mine, theirs))
 }
 
 /// Whether values of two variants have to be told apart.
@@ -163,35 +142,6 @@ fn parts<'a>(
     Ok(made)
 }
 
-fn deref_of<'a>(operand: Box<Expr<'a>>) -> Expr<'a>
-    ensures { expr_view result ≡ deref (expr_view operand.entry.value) }
-{
-    Expr::Deref(operand)
-}
-
-fn this<'a>(alloc: Global) -> Result<Box<Expr<'a>>, AllocError>
-    ensures { IfOk result (λ e. expr_view e.value ≡ spec.name (codes "self")) }
-{
-    let name = word_name(alloc, "self")?;
-    boxed(alloc, name)
-}
-
-/// `*self`.
-fn this_value<'a>(alloc: Global) -> Result<Box<Expr<'a>>, AllocError>
-    ensures { IfOk result (λ e. expr_view e.value ≡ deref (spec.name (codes "self"))) }
-{
-    let operand = this(alloc)?;
-    boxed(alloc, deref_of(operand))
-}
-
-/// `match *self {}`.
-fn no_match<'a>(alloc: Global) -> Result<Expr<'a>, AllocError>
-    ensures { IfOk result (λ e. expr_view e ≡ match_expr (deref (spec.name (codes "self"))) no_arms) }
-{
-    let value = this_value(alloc)?;
-    Ok(Expr::Match(value, Seq::new(alloc)))
-}
-
 pub(crate) fn body_expr<'a>(
     alloc: Global,
     comparing: Comparing,
@@ -221,15 +171,6 @@ fn body<'a>(
     Ok(block_of(alloc, e))
 }
 
-fn method_name<'a>(comparing: Comparing) -> Ident<'a>
-    ensures { result ≡ heads.word (spec.method_name comparing) }
-{
-    match comparing {
-        Comparing::Equal => word("eq"),
-        Comparing::Unequal => word("ne"),
-    }
-}
-
 /// `#[inline] fn NAME(&self, __other: &Self) -> bool { .. }`.
 pub(crate) fn method_with<'a>(
     alloc: Global,
@@ -241,7 +182,7 @@ pub(crate) fn method_with<'a>(
     Ok(Method {
         attrs: one(alloc, ItemAttr::Inline)?,
         is_const: false,
-        name: method_name(comparing),
+        name: comparing.method_name(),
         receiver: Some(Receiver::Ref),
         param: Some(other_param(alloc)?),
         output: Some(word_type(alloc, "bool")?),
@@ -279,11 +220,22 @@ fn methods<'a>(
     one(alloc, equal)
 }
 
-/// `derive_more::core::cmp::PartialEq`.
 fn trait_path<'a>(alloc: Global) -> Result<Path<'a>, AllocError>
     ensures { IfOk result (λ p. path_view p ≡ partial_eq_path) }
 {
-    path_of(alloc, &["derive_more", "core", "cmp", "PartialEq"])
+    path_of(alloc, &PARTIAL_EQ)
+}
+
+/// The declared predicates, and behind them those that the kept fields need.
+fn all_predicates<'a>(
+    alloc: Global,
+    input: &DeriveInput<'a>,
+) -> Result<Seq<WherePredicate<'a>>, AllocError>
+    ensures { IfOk result (λ ps. map predicate_view ps ≡ all_predicates (declaration_view input.now)) }
+{
+    let mut all = predicates(alloc, input)?;
+    add_needed(input, &PARTIAL_EQ, alloc, &mut all)?;
+    Ok(all)
 }
 
 /// The implementation with these methods.
@@ -298,7 +250,7 @@ pub(crate) fn with_methods<'a>(
     let attrs = two(alloc, private, ItemAttr::AutomaticallyDerived)?;
     let params = params(alloc, input)?;
     let path = trait_path(alloc)?;
-    let predicates = predicates(alloc, input)?;
+    let predicates = all_predicates(alloc, input)?;
     let ty = implementor(alloc, input, params.as_slice())?;
     Ok(Item {
         attrs,
@@ -336,6 +288,10 @@ fn expanded<'a>(alloc: Global, input: &DeriveInput<'a>) -> Result<Expansion<'a>,
 }
 
 /// The implementation of `PartialEq`: `eq`, and `ne` where some variant is compared, each field by field, with their text.
+///
+/// It has the declared parameters, lifetimes first, and the declared predicates. Behind these stands, for each field that is kept,
+/// in an unskipped struct or variant, in order and with repeats, `F: derive_more::core::cmp::PartialEq`: for its type `F`, where that mentions
+/// a parameter and neither `Self` nor the declared type with its parameters stands in it. A `for<..>` at the front of `F` is the predicate's.
 ///
 /// The declaration is any that the reader gives, whose names may be declared. The trait's name isn't looked at.
 ///

@@ -13,12 +13,12 @@ ghost use Rattle.dm_cmp_ops.specs.Printed as printed;
 ghost use Rattle.dm_operands.specs.CaseViews.{IsCasesOf};
 
 mod arms;
-mod sides;
 
+use crate::comparing::Comparing;
 use crate::partial_eq::{
-    Comparing, body_expr, both_expr, discriminants, method_with, needs_discriminants, with_methods,
+    body_expr, both_expr, discriminants, method_with, needs_discriminants, with_methods,
 };
-use arms::{arms, join};
+use arms::arms;
 use dm_ast::DeriveInput;
 use dm_layout::Layout;
 use dm_operands::cases::{CaseRef, cases_of, some_compared};
@@ -76,7 +76,7 @@ fn discriminants_part(
 {
     if wanted {
         discriminant_tests(alloc, out, comparing)?;
-        join(out, comparing)?;
+        comparing.join(out)?;
     }
     Ok(())
 }

@@ -1,11 +1,11 @@
 -- What copies of lists and of nodes show, by what copies of their parts do.
-use Rattle.std.proofs.Common.{◌≡◌, ℕ, List, map, Bool, Option, None, Some, option_map, Result, IfOk, refl, ap, ◌∙◌, sym}
+use Rattle.std.proofs.Common.{◌≡◌, ℕ, List, map, Bool, Option, None, Some, option_map, Result, Ok, IfOk, refl, ap, ◌∙◌, sym}
 use Rattle.std.proofs.lemmas.Grind.{common_steps}
 use Rattle.std.proofs.lemmas.List.{map-id}
 use Rattle.std.proofs.lemmas.Iterator.Adapters.{option_map_id}
 use Rattle.dm_stream.specs.declared.seq.Punctuated.{Punctuated}
 use Rattle.dm_ast.specs.Declarations.{Listed, listed}
-use Rattle.std.proofs.lemmas.Result.{IfOk-weaker}
+use Rattle.std.proofs.lemmas.Result.{IfOk-weaker, IfOk-at_ok}
 use Rattle.std.specs.declared.boxed.Box.{Box}
 use Rattle.std.specs.declared.alloc.Global.{Global}
 use Rattle.dm_stream.specs.declared.tokens.Ident.{Ident}
@@ -41,6 +41,21 @@ same_list xs ys e = sym (map-id xs) ∙ e ∙ map-id ys
 
 pub same_option : {A : Type 0} (o p : Option A) → option_map (λ (a : A). a) o ≡ option_map (λ (a : A). a) p → o ≡ p
 same_option o p e = sym (option_map_id o) ∙ e ∙ option_map_id p
+
+-- ---- copies that were put together
+
+-- what is known of two copies is known of both in their pair
+pub halves : {A B E : Type 0} (a : Result A E) (b : Result B E) (P : A → Type 0) (Q : B → Type 0) {j : Result (A × B) E} {x : A × B} →
+    j ≡ Ok x → IfOk j (λ r. (a ≡ Ok r.0) × (b ≡ Ok r.1)) → IfOk a P → IfOk b Q → P x.0 × Q x.1
+halves a b P Q e both p q = let s = IfOk-at_ok (λ y. (a ≡ Ok y.0) × (b ≡ Ok y.1)) e both in (IfOk-at_ok P s.0 p, IfOk-at_ok Q s.1 q)
+
+-- and of three
+pub thirds : {A B C E : Type 0} (a : Result A E) (b : Result B E) (c : Result C E) (k : Result (A × B) E) (P : A → Type 0) (Q : B → Type 0) (R : C → Type 0)
+    {j : Result ((A × B) × C) E} {x : (A × B) × C} →
+    j ≡ Ok x → IfOk j (λ r. (k ≡ Ok r.0) × (c ≡ Ok r.1)) → IfOk k (λ r. (a ≡ Ok r.0) × (b ≡ Ok r.1)) → IfOk a P → IfOk b Q → IfOk c R →
+    (P x.0.0 × Q x.0.1) × R x.1
+thirds a b c k P Q R e both inner p q r =
+    let s = IfOk-at_ok (λ y. (k ≡ Ok y.0) × (c ≡ Ok y.1)) e both in (halves a b P Q s.0 inner p q, IfOk-at_ok R s.1 r)
 
 -- ---- nodes of parts with equal views
 

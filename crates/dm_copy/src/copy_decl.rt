@@ -3,17 +3,7 @@
 
 ghost use Rattle.std.specs.Prelude.{◌≡◌, IfOk, option_map};
 ghost use Rattle.dm_ast.specs.Tree.{bound_view, ty_view};
-ghost use Rattle.dm_ast.specs.Declarations.{
-  listed,
-  field_view,
-  fields_view,
-  variant_view,
-  shape_view,
-  param_view,
-  predicate_view,
-  generics_view,
-  declaration_view,
-};
+ghost use Rattle.dm_ast.specs.Declarations as tree;
 
 use crate::clone_in::CloneIn;
 use crate::copy_plain::{copy_lifetimes, copy_maybe_lifetimes};
@@ -29,7 +19,7 @@ impl<'a> CloneIn for DeriveInput<'a> {
 
     ghost Shape = { Declaration };
 
-    ghost shape = { declaration_view };
+    ghost shape = { tree.declaration_view };
 
     fn clone_in(&self, alloc: Global) -> Result<Self, AllocError> {
         let generics = self.generics.clone_in(alloc);
@@ -56,7 +46,7 @@ impl<'a> CloneIn for Data<'a> {
 
     ghost Shape = { ShapeTree };
 
-    ghost shape = { shape_view };
+    ghost shape = { tree.shape_view };
 
     fn clone_in(&self, alloc: Global) -> Result<Self, AllocError> {
         match self {
@@ -73,7 +63,7 @@ impl<'a> CloneIn for DataStruct<'a> {
 
     ghost Shape = { Span × FieldsTree };
 
-    ghost shape = { λ s. (s.word, fields_view s.fields) };
+    ghost shape = { λ s. (s.word, tree.fields_view s.fields) };
 
     fn clone_in(&self, alloc: Global) -> Result<Self, AllocError> {
         let fields = self.fields.clone_in(alloc)?;
@@ -90,7 +80,7 @@ impl<'a> CloneIn for DataEnum<'a> {
 
     ghost Shape = { Span × Listed VariantTree };
 
-    ghost shape = { λ e. (e.word, listed variant_view e.variants) };
+    ghost shape = { λ e. (e.word, tree.listed tree.variant_view e.variants) };
 
     fn clone_in(&self, alloc: Global) -> Result<Self, AllocError> {
         let variants = self.variants.clone_in(alloc)?;
@@ -107,7 +97,7 @@ impl<'a> CloneIn for DataUnion<'a> {
 
     ghost Shape = { Span × Listed FieldTree };
 
-    ghost shape = { λ u. (u.word, listed field_view u.fields) };
+    ghost shape = { λ u. (u.word, tree.listed tree.field_view u.fields) };
 
     fn clone_in(&self, alloc: Global) -> Result<Self, AllocError> {
         let fields = self.fields.clone_in(alloc)?;
@@ -123,7 +113,7 @@ impl<'a> CloneIn for Fields<'a> {
 
     ghost Shape = { FieldsTree };
 
-    ghost shape = { fields_view };
+    ghost shape = { tree.fields_view };
 
     fn clone_in(&self, alloc: Global) -> Result<Self, AllocError> {
         match self {
@@ -139,7 +129,7 @@ impl<'a> CloneIn for Field<'a> {
 
     ghost Shape = { FieldTree };
 
-    ghost shape = { field_view };
+    ghost shape = { tree.field_view };
 
     fn clone_in(&self, alloc: Global) -> Result<Self, AllocError> {
         let ty = self.ty.clone_in(alloc);
@@ -162,7 +152,7 @@ impl<'a> CloneIn for Variant<'a> {
 
     ghost Shape = { VariantTree };
 
-    ghost shape = { variant_view };
+    ghost shape = { tree.variant_view };
 
     fn clone_in(&self, alloc: Global) -> Result<Self, AllocError> {
         let fields = self.fields.clone_in(alloc);
@@ -190,7 +180,7 @@ impl<'a> CloneIn for Generics<'a> {
 
     ghost Shape = { GenericsTree };
 
-    ghost shape = { generics_view };
+    ghost shape = { tree.generics_view };
 
     fn clone_in(&self, alloc: Global) -> Result<Self, AllocError> {
         let params = self.params.clone_in(alloc);
@@ -208,7 +198,7 @@ impl<'a> CloneIn for GenericParam<'a> {
 
     ghost Shape = { ParamTree };
 
-    ghost shape = { param_view };
+    ghost shape = { tree.param_view };
 
     fn clone_in(&self, alloc: Global) -> Result<Self, AllocError> {
         match self {
@@ -244,7 +234,7 @@ impl<'a> CloneIn for TyParam<'a> {
 
     ghost Shape = { ParamTree };
 
-    ghost shape = { λ p. type_param p.attrs p.ident (option_map (listed bound_view) p.bounds) (option_map ty_view p.default_ty) };
+    ghost shape = { λ p. type_param p.attrs p.ident (option_map (tree.listed bound_view) p.bounds) (option_map ty_view p.default_ty) };
 
     fn clone_in(&self, alloc: Global) -> Result<Self, AllocError> {
         let bounds = self.bounds.clone_in(alloc);
@@ -294,7 +284,7 @@ impl<'a> CloneIn for WherePredicate<'a> {
 
     ghost Shape = { PredicateTree };
 
-    ghost shape = { predicate_view };
+    ghost shape = { tree.predicate_view };
 
     fn clone_in(&self, alloc: Global) -> Result<Self, AllocError> {
         match self {

@@ -31,10 +31,9 @@ impl<'a> CloneIn for PlainPath<'a> {
     ghost shape = { λ it. it };
 
     fn clone_in(&self, alloc: Global) -> Result<Self, AllocError> {
-        let segments = self.segments.clone_in(alloc)?;
         Ok(PlainPath {
             leading_colon: self.leading_colon,
-            segments,
+            segments: self.segments.clone_in(alloc)?,
         })
     }
 }

@@ -2,19 +2,7 @@
 #![tactic(auto, using(crate::proofs::Copies::copy_steps))]
 
 ghost use Rattle.std.specs.Prelude.{◌≡◌, IfOk, map};
-ghost use Rattle.dm_ast.specs.Tree.{
-  ty_view,
-  node_view,
-  bound_view,
-  trait_view,
-  fn_view,
-  input_view,
-  path_view,
-  segment_view,
-  arguments_view,
-  argument_view,
-  self_view,
-};
+ghost use Rattle.dm_ast.specs.Tree as tree;
 
 use crate::clone_in::CloneIn;
 use crate::joined::{boxed, grown};
@@ -31,14 +19,14 @@ use std::alloc::{AllocError, Global};
 
 #[cycle(copy)]
 fn copy_ty<'a>(ty: &Ty<'a>, alloc: Global) -> Result<Ty<'a>, AllocError>
-    ensures { IfOk result (λ r. ty_view r ≡ ty_view ty.now) }
+    ensures { IfOk result (λ r. tree.ty_view r ≡ tree.ty_view ty.now) }
 {
     ty_of(ty, copy_node(&ty.node, alloc))
 }
 
 #[cycle(copy)]
 fn copy_node<'a>(node: &TyNode<'a>, alloc: Global) -> Result<TyNode<'a>, AllocError>
-    ensures { IfOk result (λ r. node_view r ≡ node_view node.now) }
+    ensures { IfOk result (λ r. tree.node_view r ≡ tree.node_view node.now) }
 {
     match node {
         TyNode::Paren(inner) => Ok(TyNode::Paren(boxed(alloc, copy_ty(inner, alloc))?)),
@@ -82,7 +70,7 @@ fn copy_node<'a>(node: &TyNode<'a>, alloc: Global) -> Result<TyNode<'a>, AllocEr
 
 #[cycle(copy)]
 fn copy_bound<'a>(bound: &Bound<'a>, alloc: Global) -> Result<Bound<'a>, AllocError>
-    ensures { IfOk result (λ r. bound_view r ≡ bound_view bound.now) }
+    ensures { IfOk result (λ r. tree.bound_view r ≡ tree.bound_view bound.now) }
 {
     match bound {
         Bound::Lifetime(name) => Ok(Bound::Lifetime(name.clone_in(alloc)?)),
@@ -95,7 +83,7 @@ fn copy_bound<'a>(bound: &Bound<'a>, alloc: Global) -> Result<Bound<'a>, AllocEr
 
 #[cycle(copy)]
 fn copy_fn<'a>(function: &BareFn<'a>, alloc: Global) -> Result<BareFn<'a>, AllocError>
-    ensures { IfOk result (λ r. fn_view r ≡ fn_view function.now) }
+    ensures { IfOk result (λ r. tree.fn_view r ≡ tree.fn_view function.now) }
 {
     match &function.output {
         None => {
@@ -114,7 +102,7 @@ fn copy_fn<'a>(function: &BareFn<'a>, alloc: Global) -> Result<BareFn<'a>, Alloc
 
 #[cycle(copy)]
 fn copy_path<'a>(path: &Path<'a>, alloc: Global) -> Result<Path<'a>, AllocError>
-    ensures { IfOk result (λ r. path_view r ≡ path_view path.now) }
+    ensures { IfOk result (λ r. tree.path_view r ≡ tree.path_view path.now) }
 {
     let segments = copy_segments(path.segments.as_slice(), alloc)?;
     Ok(Path {
@@ -128,7 +116,7 @@ fn copy_arguments<'a>(
     arguments: &PathArguments<'a>,
     alloc: Global,
 ) -> Result<PathArguments<'a>, AllocError>
-    ensures { IfOk result (λ r. arguments_view r ≡ arguments_view arguments.now) }
+    ensures { IfOk result (λ r. tree.arguments_view r ≡ tree.arguments_view arguments.now) }
 {
     match arguments {
         PathArguments::Absent => Ok(PathArguments::Absent),
@@ -155,7 +143,7 @@ fn copy_argument<'a>(
     argument: &GenericArgument<'a>,
     alloc: Global,
 ) -> Result<GenericArgument<'a>, AllocError>
-    ensures { IfOk result (λ r. argument_view r ≡ argument_view argument.now) }
+    ensures { IfOk result (λ r. tree.argument_view r ≡ tree.argument_view argument.now) }
 {
     match argument {
         GenericArgument::Lifetime(name) => Ok(GenericArgument::Lifetime(name.clone_in(alloc)?)),
@@ -195,7 +183,7 @@ fn copy_types<'a>(
     trailing: bool,
     alloc: Global,
 ) -> Result<Punctuated<Ty<'a>>, AllocError>
-    ensures { IfOk result (λ r. (map ty_view r.items ≡ map ty_view all.now) × (r.trailing ≡ trailing)) }
+    ensures { IfOk result (λ r. (map tree.ty_view r.items ≡ map tree.ty_view all.now) × (r.trailing ≡ trailing)) }
 {
     let mut items = Seq::new(alloc);
     for ty in all {
@@ -210,7 +198,7 @@ fn copy_bounds<'a>(
     trailing: bool,
     alloc: Global,
 ) -> Result<Punctuated<Bound<'a>>, AllocError>
-    ensures { IfOk result (λ r. (map bound_view r.items ≡ map bound_view all.now) × (r.trailing ≡ trailing)) }
+    ensures { IfOk result (λ r. (map tree.bound_view r.items ≡ map tree.bound_view all.now) × (r.trailing ≡ trailing)) }
 {
     let mut items = Seq::new(alloc);
     for bound in all {
@@ -225,7 +213,7 @@ fn copy_inputs<'a>(
     trailing: bool,
     alloc: Global,
 ) -> Result<Punctuated<FnArg<'a>>, AllocError>
-    ensures { IfOk result (λ r. (map input_view r.items ≡ map input_view all.now) × (r.trailing ≡ trailing)) }
+    ensures { IfOk result (λ r. (map tree.input_view r.items ≡ map tree.input_view all.now) × (r.trailing ≡ trailing)) }
 {
     let mut items = Seq::new(alloc);
     for input in all {
@@ -240,7 +228,7 @@ fn copy_argument_list<'a>(
     trailing: bool,
     alloc: Global,
 ) -> Result<Punctuated<GenericArgument<'a>>, AllocError>
-    ensures { IfOk result (λ r. (map argument_view r.items ≡ map argument_view all.now) × (r.trailing ≡ trailing)) }
+    ensures { IfOk result (λ r. (map tree.argument_view r.items ≡ map tree.argument_view all.now) × (r.trailing ≡ trailing)) }
 {
     let mut items = Seq::new(alloc);
     for argument in all {
@@ -254,7 +242,7 @@ fn copy_segments<'a>(
     all: &[PathSegment<'a>],
     alloc: Global,
 ) -> Result<Seq<PathSegment<'a>>, AllocError>
-    ensures { IfOk result (λ r. map segment_view r ≡ map segment_view all.now) }
+    ensures { IfOk result (λ r. map tree.segment_view r ≡ map tree.segment_view all.now) }
 {
     let mut found = Seq::new(alloc);
     for segment in all {
@@ -269,7 +257,7 @@ impl<'a> CloneIn for Ty<'a> {
 
     ghost Shape = { TypeTree };
 
-    ghost shape = { ty_view };
+    ghost shape = { tree.ty_view };
 
     fn clone_in(&self, alloc: Global) -> Result<Self, AllocError> {
         copy_ty(self, alloc)
@@ -281,7 +269,7 @@ impl<'a> CloneIn for TyNode<'a> {
 
     ghost Shape = { TypeNode };
 
-    ghost shape = { node_view };
+    ghost shape = { tree.node_view };
 
     fn clone_in(&self, alloc: Global) -> Result<Self, AllocError> {
         copy_node(self, alloc)
@@ -293,7 +281,7 @@ impl<'a> CloneIn for Bound<'a> {
 
     ghost Shape = { BoundTree };
 
-    ghost shape = { bound_view };
+    ghost shape = { tree.bound_view };
 
     fn clone_in(&self, alloc: Global) -> Result<Self, AllocError> {
         copy_bound(self, alloc)
@@ -305,7 +293,7 @@ impl<'a> CloneIn for BareFn<'a> {
 
     ghost Shape = { FnTree };
 
-    ghost shape = { fn_view };
+    ghost shape = { tree.fn_view };
 
     fn clone_in(&self, alloc: Global) -> Result<Self, AllocError> {
         copy_fn(self, alloc)
@@ -317,7 +305,7 @@ impl<'a> CloneIn for FnArg<'a> {
 
     ghost Shape = { InputTree };
 
-    ghost shape = { input_view };
+    ghost shape = { tree.input_view };
 
     fn clone_in(&self, alloc: Global) -> Result<Self, AllocError> {
         input_of(self, alloc, self.ty.clone_in(alloc))
@@ -329,7 +317,7 @@ impl<'a> CloneIn for Path<'a> {
 
     ghost Shape = { PathTree };
 
-    ghost shape = { path_view };
+    ghost shape = { tree.path_view };
 
     fn clone_in(&self, alloc: Global) -> Result<Self, AllocError> {
         copy_path(self, alloc)
@@ -341,7 +329,7 @@ impl<'a> CloneIn for PathSegment<'a> {
 
     ghost Shape = { SegmentTree };
 
-    ghost shape = { segment_view };
+    ghost shape = { tree.segment_view };
 
     fn clone_in(&self, alloc: Global) -> Result<Self, AllocError> {
         segment_of(self, alloc, self.arguments.clone_in(alloc))
@@ -353,7 +341,7 @@ impl<'a> CloneIn for PathArguments<'a> {
 
     ghost Shape = { ArgumentsTree };
 
-    ghost shape = { arguments_view };
+    ghost shape = { tree.arguments_view };
 
     fn clone_in(&self, alloc: Global) -> Result<Self, AllocError> {
         copy_arguments(self, alloc)
@@ -365,7 +353,7 @@ impl<'a> CloneIn for GenericArgument<'a> {
 
     ghost Shape = { ArgumentTree };
 
-    ghost shape = { argument_view };
+    ghost shape = { tree.argument_view };
 
     fn clone_in(&self, alloc: Global) -> Result<Self, AllocError> {
         copy_argument(self, alloc)
@@ -377,7 +365,7 @@ impl<'a> CloneIn for TraitBound<'a> {
 
     ghost Shape = { TraitBoundTree };
 
-    ghost shape = { trait_view };
+    ghost shape = { tree.trait_view };
 
     fn clone_in(&self, alloc: Global) -> Result<Self, AllocError> {
         trait_of(self, alloc, self.path.clone_in(alloc))
@@ -390,7 +378,7 @@ impl<'a> CloneIn for QSelf<'a> {
 
     ghost Shape = { TypeTree × ℕ };
 
-    ghost shape = { self_view };
+    ghost shape = { tree.self_view };
 
     fn clone_in(&self, alloc: Global) -> Result<Self, AllocError> {
         self_of(self, self.ty.clone_in(alloc))

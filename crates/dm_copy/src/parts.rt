@@ -4,31 +4,6 @@
 ghost use Rattle.std.specs.Prelude.{◌≡◌, IfOk, map, option_map};
 ghost use Rattle.dm_ast.specs.declared.ty.Bound.TheViews.{out-BareFn, out-TraitBound};
 ghost use Rattle.dm_ast.specs.Tree as tree;
-ghost use Rattle.dm_ast.specs.Tree.{
-  array,
-  reference,
-  macro_type,
-  assoc_type,
-  assoc_const,
-  constraint,
-  bounds_of,
-  parens,
-  types_of,
-  some_self,
-  ty_view,
-  node_view,
-  trait_view,
-  fn_view,
-  input_view,
-  path_view,
-  segment_view,
-  arguments_view,
-  argument_view,
-  bound_view,
-  self_view,
-  maybe_ty_view,
-  maybe_arguments_view,
-};
 
 use crate::clone_in::CloneIn;
 use crate::copy_plain::copy_maybe_lifetimes;
@@ -42,8 +17,8 @@ use std::alloc::{AllocError, Global};
 
 /// The type of a copy of its node.
 pub fn ty_of<'a>(ty: &Ty<'a>, node: Result<TyNode<'a>, AllocError>) -> Result<Ty<'a>, AllocError>
-    requires { IfOk node (λ n. node_view n ≡ node_view ty.now.node) }
-    ensures { IfOk result (λ r. ty_view r ≡ ty_view ty.now) }
+    requires { IfOk node (λ n. tree.node_view n ≡ tree.node_view ty.now.node) }
+    ensures { IfOk result (λ r. tree.ty_view r ≡ tree.ty_view ty.now) }
 {
     Ok(Ty {
         node: node?,
@@ -58,8 +33,8 @@ pub fn array_of<'a>(
     alloc: Global,
     copy: Result<Ty<'a>, AllocError>,
 ) -> Result<TyNode<'a>, AllocError>
-    requires { IfOk copy (λ t. ty_view t ≡ ty_view ty.now) }
-    ensures { IfOk result (λ r. node_view r ≡ array (ty_view ty.now) size.now) }
+    requires { IfOk copy (λ t. tree.ty_view t ≡ tree.ty_view ty.now) }
+    ensures { IfOk result (λ r. tree.node_view r ≡ tree.array (tree.ty_view ty.now) size.now) }
 {
     let (inner, size) = both(boxed(alloc, copy), size.clone_in(alloc))?;
     Ok(TyNode::Array(inner, size))
@@ -73,8 +48,8 @@ pub fn reference_of<'a>(
     alloc: Global,
     copy: Result<Ty<'a>, AllocError>,
 ) -> Result<TyNode<'a>, AllocError>
-    requires { IfOk copy (λ t. ty_view t ≡ ty_view ty.now) }
-    ensures { IfOk result (λ r. node_view r ≡ reference name.now is_mut (ty_view ty.now)) }
+    requires { IfOk copy (λ t. tree.ty_view t ≡ tree.ty_view ty.now) }
+    ensures { IfOk result (λ r. tree.node_view r ≡ tree.reference name.now is_mut (tree.ty_view ty.now)) }
 {
     let (name, inner) = both(name.clone_in(alloc), boxed(alloc, copy))?;
     Ok(TyNode::Reference(name, is_mut, inner))
@@ -85,8 +60,8 @@ pub fn self_of<'a>(
     qself: &QSelf<'a>,
     ty: Result<Ty<'a>, AllocError>,
 ) -> Result<QSelf<'a>, AllocError>
-    requires { IfOk ty (λ t. ty_view t ≡ ty_view qself.now.ty) }
-    ensures { IfOk result (λ r. self_view r ≡ self_view qself.now) }
+    requires { IfOk ty (λ t. tree.ty_view t ≡ tree.ty_view qself.now.ty) }
+    ensures { IfOk result (λ r. tree.self_view r ≡ tree.self_view qself.now) }
 {
     Ok(QSelf {
         ty: ty?,
@@ -102,9 +77,9 @@ pub fn qualified_of<'a>(
     ty: Result<Ty<'a>, AllocError>,
     copy: Result<Path<'a>, AllocError>,
 ) -> Result<TyNode<'a>, AllocError>
-    requires ty { IfOk ty (λ t. ty_view t ≡ ty_view qself.now.ty) }
-    requires path { IfOk copy (λ p. path_view p ≡ path_view path.now) }
-    ensures { IfOk result (λ r. node_view r ≡ tree.path (some_self (self_view qself.now).0 (self_view qself.now).1) (path_view path.now)) }
+    requires ty { IfOk ty (λ t. tree.ty_view t ≡ tree.ty_view qself.now.ty) }
+    requires path { IfOk copy (λ p. tree.path_view p ≡ tree.path_view path.now) }
+    ensures { IfOk result (λ r. tree.node_view r ≡ tree.path (tree.some_self (tree.self_view qself.now).0 (tree.self_view qself.now).1) (tree.path_view path.now)) }
 {
     let qself = boxed(alloc, self_of(qself, ty));
     let (qself, path) = both(qself, copy)?;
@@ -118,7 +93,7 @@ pub fn copy_macro<'a>(
     delim: Delim,
     alloc: Global,
 ) -> Result<TyNode<'a>, AllocError>
-    ensures { IfOk result (λ r. node_view r ≡ macro_type path.now delim tokens.now) }
+    ensures { IfOk result (λ r. tree.node_view r ≡ tree.macro_type path.now delim tokens.now) }
 {
     let (path, tokens) = both(path.clone_in(alloc), tokens.clone_in(alloc))?;
     Ok(TyNode::Macro(path, delim, tokens))
@@ -130,8 +105,8 @@ pub fn trait_of<'a>(
     alloc: Global,
     path: Result<Path<'a>, AllocError>,
 ) -> Result<TraitBound<'a>, AllocError>
-    requires { IfOk path (λ p. path_view p ≡ path_view (out-TraitBound bound.now).path) }
-    ensures { IfOk result (λ r. trait_view r ≡ trait_view bound.now) }
+    requires { IfOk path (λ p. tree.path_view p ≡ tree.path_view (out-TraitBound bound.now).path) }
+    ensures { IfOk result (λ r. tree.trait_view r ≡ tree.trait_view bound.now) }
 {
     let (lifetimes, path) = both(copy_maybe_lifetimes(alloc, &bound.lifetimes), path)?;
     Ok(TraitBound {
@@ -149,9 +124,9 @@ pub fn fn_of<'a>(
     output: Option<Ty<'a>>,
     inputs: Result<Punctuated<FnArg<'a>>, AllocError>,
 ) -> Result<BareFn<'a>, AllocError>
-    requires output { option_map ty_view output ≡ option_map ty_view (out-BareFn function.now).output }
-    requires inputs { IfOk inputs (λ i. (map input_view i.items ≡ map input_view (out-BareFn function.now).inputs.items) × (i.trailing ≡ (out-BareFn function.now).inputs.trailing)) }
-    ensures { IfOk result (λ r. fn_view r ≡ fn_view function.now) }
+    requires output { option_map tree.ty_view output ≡ option_map tree.ty_view (out-BareFn function.now).output }
+    requires inputs { IfOk inputs (λ i. (map tree.input_view i.items ≡ map tree.input_view (out-BareFn function.now).inputs.items) × (i.trailing ≡ (out-BareFn function.now).inputs.trailing)) }
+    ensures { IfOk result (λ r. tree.fn_view r ≡ tree.fn_view function.now) }
 {
     let lifetimes = copy_maybe_lifetimes(alloc, &function.lifetimes);
     let head = both(lifetimes, function.abi.clone_in(alloc));
@@ -171,8 +146,8 @@ pub fn input_of<'a>(
     alloc: Global,
     ty: Result<Ty<'a>, AllocError>,
 ) -> Result<FnArg<'a>, AllocError>
-    requires { IfOk ty (λ t. ty_view t ≡ ty_view input.now.ty) }
-    ensures { IfOk result (λ r. input_view r ≡ input_view input.now) }
+    requires { IfOk ty (λ t. tree.ty_view t ≡ tree.ty_view input.now.ty) }
+    ensures { IfOk result (λ r. tree.input_view r ≡ tree.input_view input.now) }
 {
     let head = both(input.attrs.clone_in(alloc), input.name.clone_in(alloc));
     let ((attrs, name), ty) = both(head, ty)?;
@@ -185,8 +160,8 @@ pub fn segment_of<'a>(
     alloc: Global,
     arguments: Result<PathArguments<'a>, AllocError>,
 ) -> Result<PathSegment<'a>, AllocError>
-    requires { IfOk arguments (λ a. arguments_view a ≡ arguments_view segment.now.arguments) }
-    ensures { IfOk result (λ r. segment_view r ≡ segment_view segment.now) }
+    requires { IfOk arguments (λ a. tree.arguments_view a ≡ tree.arguments_view segment.now.arguments) }
+    ensures { IfOk result (λ r. tree.segment_view r ≡ tree.segment_view segment.now) }
 {
     let (ident, arguments) = both(segment.ident.clone_in(alloc), arguments)?;
     Ok(PathSegment { ident, arguments })
@@ -199,9 +174,9 @@ pub fn parens_of<'a>(
     copy: Option<Box<Ty<'a>>>,
     copies: Result<Punctuated<Ty<'a>>, AllocError>,
 ) -> Result<PathArguments<'a>, AllocError>
-    requires output { maybe_ty_view copy ≡ maybe_ty_view output.now }
-    requires all { IfOk copies (λ ts. (map ty_view ts.items ≡ map ty_view all.now.items) × (ts.trailing ≡ all.now.trailing)) }
-    ensures { IfOk result (λ r. arguments_view r ≡ parens (types_of (map ty_view all.now.items)) all.now.trailing (maybe_ty_view output.now)) }
+    requires output { tree.maybe_ty_view copy ≡ tree.maybe_ty_view output.now }
+    requires all { IfOk copies (λ ts. (map tree.ty_view ts.items ≡ map tree.ty_view all.now.items) × (ts.trailing ≡ all.now.trailing)) }
+    ensures { IfOk result (λ r. tree.arguments_view r ≡ tree.parens (tree.types_of (map tree.ty_view all.now.items)) all.now.trailing (tree.maybe_ty_view output.now)) }
 {
     let (all, output) = both(copies, Ok(copy))?;
     Ok(PathArguments::Paren(all, output))
@@ -216,9 +191,9 @@ pub fn assoc_ty_of<'a>(
     copies: Option<Punctuated<GenericArgument<'a>>>,
     copy: Result<Ty<'a>, AllocError>,
 ) -> Result<GenericArgument<'a>, AllocError>
-    requires arguments { maybe_arguments_view copies ≡ maybe_arguments_view arguments.now }
-    requires ty { IfOk copy (λ t. ty_view t ≡ ty_view ty.now) }
-    ensures { IfOk result (λ r. argument_view r ≡ assoc_type label.now (maybe_arguments_view arguments.now) (ty_view ty.now)) }
+    requires arguments { tree.maybe_arguments_view copies ≡ tree.maybe_arguments_view arguments.now }
+    requires ty { IfOk copy (λ t. tree.ty_view t ≡ tree.ty_view ty.now) }
+    ensures { IfOk result (λ r. tree.argument_view r ≡ tree.assoc_type label.now (tree.maybe_arguments_view arguments.now) (tree.ty_view ty.now)) }
 {
     let ((label, arguments), ty) = both(both(label.clone_in(alloc), Ok(copies)), copy)?;
     Ok(GenericArgument::AssocTy(label, arguments, ty))
@@ -232,8 +207,8 @@ pub fn assoc_const_of<'a>(
     alloc: Global,
     copies: Option<Punctuated<GenericArgument<'a>>>,
 ) -> Result<GenericArgument<'a>, AllocError>
-    requires { maybe_arguments_view copies ≡ maybe_arguments_view arguments.now }
-    ensures { IfOk result (λ r. argument_view r ≡ assoc_const label.now (maybe_arguments_view arguments.now) value.now) }
+    requires { tree.maybe_arguments_view copies ≡ tree.maybe_arguments_view arguments.now }
+    ensures { IfOk result (λ r. tree.argument_view r ≡ tree.assoc_const label.now (tree.maybe_arguments_view arguments.now) value.now) }
 {
     let head = both(label.clone_in(alloc), Ok(copies));
     let ((label, arguments), value) = both(head, value.clone_in(alloc))?;
@@ -249,9 +224,9 @@ pub fn constraint_of<'a>(
     copies: Option<Punctuated<GenericArgument<'a>>>,
     copy: Result<Punctuated<Bound<'a>>, AllocError>,
 ) -> Result<GenericArgument<'a>, AllocError>
-    requires arguments { maybe_arguments_view copies ≡ maybe_arguments_view arguments.now }
-    requires bounds { IfOk copy (λ bs. (map bound_view bs.items ≡ map bound_view bounds.now.items) × (bs.trailing ≡ bounds.now.trailing)) }
-    ensures { IfOk result (λ r. argument_view r ≡ constraint label.now (maybe_arguments_view arguments.now) (bounds_of (map bound_view bounds.now.items)) bounds.now.trailing) }
+    requires arguments { tree.maybe_arguments_view copies ≡ tree.maybe_arguments_view arguments.now }
+    requires bounds { IfOk copy (λ bs. (map tree.bound_view bs.items ≡ map tree.bound_view bounds.now.items) × (bs.trailing ≡ bounds.now.trailing)) }
+    ensures { IfOk result (λ r. tree.argument_view r ≡ tree.constraint label.now (tree.maybe_arguments_view arguments.now) (tree.bounds_of (map tree.bound_view bounds.now.items)) bounds.now.trailing) }
 {
     let ((label, arguments), bounds) = both(both(label.clone_in(alloc), Ok(copies)), copy)?;
     Ok(GenericArgument::Constraint(label, arguments, bounds))

@@ -469,19 +469,19 @@ const GENERIC_STRUCTS: &[Row] = &[
     ),
     (
         "struct S<'a>(&'a u8);",
-        "< 'a > derive_more :: core :: cmp :: PartialEq for S < 'a >",
+        "< 'a > derive_more :: core :: cmp :: PartialEq for S < 'a > where & 'a u8 : derive_more :: core :: cmp :: PartialEq",
         "match (self , __other) { (Self (__self_0 ,) , Self (__other_0 ,)) => { __self_0 == __other_0 } , }",
         "match (self , __other) { (Self (__self_0 ,) , Self (__other_0 ,)) => { __self_0 != __other_0 } , }",
     ),
     (
         "struct S<T>(Vec<u8>, T);",
-        "< T > derive_more :: core :: cmp :: PartialEq for S < T >",
+        "< T > derive_more :: core :: cmp :: PartialEq for S < T > where T : derive_more :: core :: cmp :: PartialEq",
         "match (self , __other) { (Self (__self_0 , __self_1 ,) , Self (__other_0 , __other_1 ,)) => { __self_0 == __other_0 && __self_1 == __other_1 } , }",
         "match (self , __other) { (Self (__self_0 , __self_1 ,) , Self (__other_0 , __other_1 ,)) => { __self_0 != __other_0 || __self_1 != __other_1 } , }",
     ),
     (
         "struct S<T, 'a, const N: usize = 3>(&'a [T; N]);",
-        "< 'a , T , const N : usize > derive_more :: core :: cmp :: PartialEq for S < 'a , T , N >",
+        "< 'a , T , const N : usize > derive_more :: core :: cmp :: PartialEq for S < 'a , T , N > where & 'a [T ; N] : derive_more :: core :: cmp :: PartialEq",
         "match (self , __other) { (Self (__self_0 ,) , Self (__other_0 ,)) => { __self_0 == __other_0 } , }",
         "match (self , __other) { (Self (__self_0 ,) , Self (__other_0 ,)) => { __self_0 != __other_0 } , }",
     ),
@@ -493,19 +493,19 @@ const GENERIC_STRUCTS: &[Row] = &[
     ),
     (
         "struct S<T>(T) where T: A;",
-        "< T > derive_more :: core :: cmp :: PartialEq for S < T > where T : A",
+        "< T > derive_more :: core :: cmp :: PartialEq for S < T > where T : A , T : derive_more :: core :: cmp :: PartialEq",
         "match (self , __other) { (Self (__self_0 ,) , Self (__other_0 ,)) => { __self_0 == __other_0 } , }",
         "match (self , __other) { (Self (__self_0 ,) , Self (__other_0 ,)) => { __self_0 != __other_0 } , }",
     ),
     (
         "struct S<'a, T> where T: for<'b> A<'b>, 'a: 'a, for<'c> fn(&'c T): B, { a: &'a T }",
-        "< 'a , T > derive_more :: core :: cmp :: PartialEq for S < 'a , T > where T : for < 'b > A < 'b > , 'a : 'a , for < 'c > fn (& 'c T) : B",
+        "< 'a , T > derive_more :: core :: cmp :: PartialEq for S < 'a , T > where T : for < 'b > A < 'b > , 'a : 'a , for < 'c > fn (& 'c T) : B , & 'a T : derive_more :: core :: cmp :: PartialEq",
         "match (self , __other) { (Self { a : __self_0 , } , Self { a : __other_0 , }) => { __self_0 == __other_0 } , }",
         "match (self , __other) { (Self { a : __self_0 , } , Self { a : __other_0 , }) => { __self_0 != __other_0 } , }",
     ),
     (
         "struct S<T> where { a: T }",
-        "< T > derive_more :: core :: cmp :: PartialEq for S < T >",
+        "< T > derive_more :: core :: cmp :: PartialEq for S < T > where T : derive_more :: core :: cmp :: PartialEq",
         "match (self , __other) { (Self { a : __self_0 , } , Self { a : __other_0 , }) => { __self_0 == __other_0 } , }",
         "match (self , __other) { (Self { a : __self_0 , } , Self { a : __other_0 , }) => { __self_0 != __other_0 } , }",
     ),
@@ -517,7 +517,7 @@ const GENERIC_STRUCTS: &[Row] = &[
     ),
     (
         "struct S<const N: usize> { a: [u8; N], r#type: [u8; 2] }",
-        "< const N : usize > derive_more :: core :: cmp :: PartialEq for S < N >",
+        "< const N : usize > derive_more :: core :: cmp :: PartialEq for S < N > where [u8 ; N] : derive_more :: core :: cmp :: PartialEq",
         "match (self , __other) { (Self { a : __self_0 , r#type : __self_1 , } , Self { a : __other_0 , r#type : __other_1 , }) => { __self_0 == __other_0 && __self_1 == __other_1 } , }",
         "match (self , __other) { (Self { a : __self_0 , r#type : __self_1 , } , Self { a : __other_0 , r#type : __other_1 , }) => { __self_0 != __other_0 || __self_1 != __other_1 } , }",
     ),
@@ -539,19 +539,19 @@ fn generic_structs(rt: HostRuntime) -> Result<(), Error> {
 const GENERIC_ENUMS: &[Row] = &[
     (
         "enum E<T, U,> { A(T), B(U) }",
-        "< T , U > derive_more :: core :: cmp :: PartialEq for E < T , U >",
+        "< T , U > derive_more :: core :: cmp :: PartialEq for E < T , U > where T : derive_more :: core :: cmp :: PartialEq , U : derive_more :: core :: cmp :: PartialEq",
         "derive_more :: core :: mem :: discriminant (self) == derive_more :: core :: mem :: discriminant (__other) && match (self , __other) { (Self :: A (__self_0 ,) , Self :: A (__other_0 ,)) => { __self_0 == __other_0 } , (Self :: B (__self_0 ,) , Self :: B (__other_0 ,)) => { __self_0 == __other_0 } , _ => unsafe { derive_more :: core :: hint :: unreachable_unchecked () } , }",
         "derive_more :: core :: mem :: discriminant (self) != derive_more :: core :: mem :: discriminant (__other) || match (self , __other) { (Self :: A (__self_0 ,) , Self :: A (__other_0 ,)) => { __self_0 != __other_0 } , (Self :: B (__self_0 ,) , Self :: B (__other_0 ,)) => { __self_0 != __other_0 } , _ => unsafe { derive_more :: core :: hint :: unreachable_unchecked () } , }",
     ),
     (
         "enum E<T> where T: A { A(T), B { t: T }, #[eq(skip)] C(T) }",
-        "< T > derive_more :: core :: cmp :: PartialEq for E < T > where T : A",
+        "< T > derive_more :: core :: cmp :: PartialEq for E < T > where T : A , T : derive_more :: core :: cmp :: PartialEq , T : derive_more :: core :: cmp :: PartialEq",
         "derive_more :: core :: mem :: discriminant (self) == derive_more :: core :: mem :: discriminant (__other) && match (self , __other) { (Self :: A (__self_0 ,) , Self :: A (__other_0 ,)) => { __self_0 == __other_0 } , (Self :: B { t : __self_0 , } , Self :: B { t : __other_0 , }) => { __self_0 == __other_0 } , _ => true , }",
         "derive_more :: core :: mem :: discriminant (self) != derive_more :: core :: mem :: discriminant (__other) || match (self , __other) { (Self :: A (__self_0 ,) , Self :: A (__other_0 ,)) => { __self_0 != __other_0 } , (Self :: B { t : __self_0 , } , Self :: B { t : __other_0 , }) => { __self_0 != __other_0 } , _ => false , }",
     ),
     (
         "enum E<const N: usize> { A([u8; N]), B }",
-        "< const N : usize > derive_more :: core :: cmp :: PartialEq for E < N >",
+        "< const N : usize > derive_more :: core :: cmp :: PartialEq for E < N > where [u8 ; N] : derive_more :: core :: cmp :: PartialEq",
         "derive_more :: core :: mem :: discriminant (self) == derive_more :: core :: mem :: discriminant (__other) && match (self , __other) { (Self :: A (__self_0 ,) , Self :: A (__other_0 ,)) => { __self_0 == __other_0 } , _ => true , }",
         "derive_more :: core :: mem :: discriminant (self) != derive_more :: core :: mem :: discriminant (__other) || match (self , __other) { (Self :: A (__self_0 ,) , Self :: A (__other_0 ,)) => { __self_0 != __other_0 } , _ => false , }",
     ),
@@ -563,7 +563,7 @@ const GENERIC_ENUMS: &[Row] = &[
     ),
     (
         "enum E<T: 'a, 'a> { A(&'a T), B { t: T } }",
-        "< 'a , T : 'a > derive_more :: core :: cmp :: PartialEq for E < 'a , T >",
+        "< 'a , T : 'a > derive_more :: core :: cmp :: PartialEq for E < 'a , T > where & 'a T : derive_more :: core :: cmp :: PartialEq , T : derive_more :: core :: cmp :: PartialEq",
         "derive_more :: core :: mem :: discriminant (self) == derive_more :: core :: mem :: discriminant (__other) && match (self , __other) { (Self :: A (__self_0 ,) , Self :: A (__other_0 ,)) => { __self_0 == __other_0 } , (Self :: B { t : __self_0 , } , Self :: B { t : __other_0 , }) => { __self_0 == __other_0 } , _ => unsafe { derive_more :: core :: hint :: unreachable_unchecked () } , }",
         "derive_more :: core :: mem :: discriminant (self) != derive_more :: core :: mem :: discriminant (__other) || match (self , __other) { (Self :: A (__self_0 ,) , Self :: A (__other_0 ,)) => { __self_0 != __other_0 } , (Self :: B { t : __self_0 , } , Self :: B { t : __other_0 , }) => { __self_0 != __other_0 } , _ => unsafe { derive_more :: core :: hint :: unreachable_unchecked () } , }",
     ),
@@ -585,7 +585,7 @@ const TYPES: &[Row] = &[
     ),
     (
         "struct Self_<r#type>(r#type);",
-        "< r#type > derive_more :: core :: cmp :: PartialEq for Self_ < r#type >",
+        "< r#type > derive_more :: core :: cmp :: PartialEq for Self_ < r#type > where r#type : derive_more :: core :: cmp :: PartialEq",
         "match (self , __other) { (Self (__self_0 ,) , Self (__other_0 ,)) => { __self_0 == __other_0 } , }",
         "match (self , __other) { (Self (__self_0 ,) , Self (__other_0 ,)) => { __self_0 != __other_0 } , }",
     ),

@@ -4,6 +4,8 @@
 #[cfg(test)]
 mod answers;
 #[cfg(test)]
+mod heads;
+#[cfg(test)]
 mod implementations;
 #[cfg(test)]
 mod runs;

@@ -15,7 +15,7 @@ const NO_FIELD: &[u8] =
 
 /// The implementation for `struct P<T>(T);`.
 const GENERIC: &[u8] =
-    b"# [allow (private_bounds)] # [automatically_derived] impl < T > derive_more :: core :: cmp :: PartialEq for P < T > { # [inline] fn eq (& self , __other : & Self) -> bool { match (self , __other) { (Self (__self_0 ,) , Self (__other_0 ,)) => { __self_0 == __other_0 } , } } # [inline] fn ne (& self , __other : & Self) -> bool { match (self , __other) { (Self (__self_0 ,) , Self (__other_0 ,)) => { __self_0 != __other_0 } , } } }\n";
+    b"# [allow (private_bounds)] # [automatically_derived] impl < T > derive_more :: core :: cmp :: PartialEq for P < T > where T : derive_more :: core :: cmp :: PartialEq { # [inline] fn eq (& self , __other : & Self) -> bool { match (self , __other) { (Self (__self_0 ,) , Self (__other_0 ,)) => { __self_0 == __other_0 } , } } # [inline] fn ne (& self , __other : & Self) -> bool { match (self , __other) { (Self (__self_0 ,) , Self (__other_0 ,)) => { __self_0 != __other_0 } , } } }\n";
 
 /// The implementation for `struct r#P(i32);`.
 const RAW_NAME: &[u8] =

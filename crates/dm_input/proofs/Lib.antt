@@ -1,2 +1,4 @@
+pub mod Insides
 pub mod Levels
 pub mod Refusals
+pub mod Sequels

@@ -5,6 +5,7 @@ use Rattle.std.specs.Char.{len_utf8}
 use Rattle.std.proofs.lemmas.Str.{len_utf8_bounds, IsUtf8-past_char}
 use Rattle.std.specs.Str.{chars, IsUtf8}
 use Rattle.dm_lexer.specs.declared.blanks.Blank.TheVariants.{Size, Unclosed}
+use Rattle.dm_lexer.specs.declared.blanks.Mark.{Mark}
 use Rattle.dm_lexer.specs.declared.blanks.Mark.TheVariants.{Opens, Closes, Other}
 use Rattle.dm_lexer.specs.declared.words.Class.TheVariants.{Line}
 use Rattle.dm_lexer.specs.TextFronts.{IsFront, IsBehind, IsSized, run}
@@ -53,6 +54,10 @@ pub record IsTwo (rest after beyond : List ℕ) (c d : ℕ) : Type 0 where
   pub after_is : after ≡ encode_utf8 d ++ beyond
   pub chars_after_are : chars after ≡ d ∷ chars beyond
 
+pub two : (rest after beyond : List ℕ) (c d : ℕ) → rest ≡ encode_utf8 c ++ after → chars rest ≡ c ∷ chars after → after ≡ encode_utf8 d ++ beyond →
+    chars after ≡ d ∷ chars beyond → IsTwo rest after beyond c d
+two rest after beyond c d e f g h = record { rest_is = e; chars_are = f; after_is = g; chars_after_are = h }
+
 two-chars : (rest after beyond : List ℕ) (c d : ℕ) → IsTwo rest after beyond c d → chars rest ≡ c ∷ d ∷ chars beyond
 two-chars rest after beyond c d t = t.chars_are ∙ ap (λ l. c ∷ l) t.chars_after_are
 
@@ -71,24 +76,30 @@ behind-both text rest after beyond at n c d b u t =
 both-utf8 : (rest after beyond : List ℕ) (c d : ℕ) → IsUtf8 rest → IsTwo rest after beyond c d → IsUtf8 beyond
 both-utf8 rest after beyond c d u t = IsUtf8-past_char after beyond d (IsUtf8-past_char rest after c u t.rest_is) t.after_is
 
-comment_closing-two : (rest after beyond : List ℕ) (deep c d : ℕ) → IsTwo rest after beyond c d →
-    comment_closing deep (chars rest) ≡ after_mark (mark c d) deep (comment_closing (suc deep) (chars beyond)) (comment_closing (deep - 1) (chars beyond)) (comment_closing deep (d ∷ chars beyond))
-comment_closing-two rest after beyond deep c d t = ap (comment_closing deep) (two-chars rest after beyond c d t)
+-- what is left to read behind two characters of a known mark
+closing-marked : (rest after beyond : List ℕ) (deep c d : ℕ) (m : Mark) → IsTwo rest after beyond c d → mark c d ≡ m →
+    comment_closing deep (chars rest) ≡ after_mark m deep (comment_closing (suc deep) (chars beyond)) (comment_closing (deep - 1) (chars beyond)) (comment_closing deep (d ∷ chars beyond))
+closing-marked rest after beyond deep c d m t h =
+    ap (comment_closing deep) (two-chars rest after beyond c d t) ∙
+    ap (λ v. after_mark v deep (comment_closing (suc deep) (chars beyond)) (comment_closing (deep - 1) (chars beyond)) (comment_closing deep (d ∷ chars beyond))) h
+
+-- two characters are read at once, behind which `next` more comments are open
+closing-both : (text rest after beyond : List ℕ) (at deep next c d : ℕ) → IsClosingSoFar text at deep rest → IsTwo rest after beyond c d → next ≤ suc deep →
+    comment_closing deep (chars rest) ≡ more 2 (comment_closing next (chars beyond)) → IsClosingSoFar text (at + (len_utf8 c + len_utf8 d)) next beyond
+closing-both text rest after beyond at deep next c d s t l e = record {
+  count = s.count + 2;
+  behind = behind-both text rest after beyond at s.count c d s.behind s.utf8 t;
+  utf8 = both-utf8 rest after beyond c d s.utf8 t;
+  within = omega (arith, l, s.within, len_utf8_bounds c);
+  steps = s.steps ∙ ap (more s.count) e ∙ more-more s.count 2 (comment_closing next (chars beyond));
+}
 
 pub comment_closing-opens : (text rest after beyond : List ℕ) (at deep c d : ℕ) → IsClosingSoFar text at deep rest → IsTwo rest after beyond c d → mark c d ≡ Opens →
     IsClosingSoFar text (at + (len_utf8 c + len_utf8 d)) (deep + 1) beyond
 comment_closing-opens text rest after beyond at deep c d s t h =
     let e : suc deep ≡ deep + 1 = omega arith in
-    record {
-      count = s.count + 2;
-      behind = behind-both text rest after beyond at s.count c d s.behind s.utf8 t;
-      utf8 = both-utf8 rest after beyond c d s.utf8 t;
-      within = omega (arith, s.within, len_utf8_bounds c);
-      steps =
-          s.steps ∙ ap (more s.count) (comment_closing-two rest after beyond deep c d t) ∙
-          ap (λ m. more s.count (after_mark m deep (comment_closing (suc deep) (chars beyond)) (comment_closing (deep - 1) (chars beyond)) (comment_closing deep (d ∷ chars beyond)))) h ∙
-          more-more s.count 2 (comment_closing (suc deep) (chars beyond)) ∙ ap (λ i. more (s.count + 2) (comment_closing i (chars beyond))) e;
-    }
+    closing-both text rest after beyond at deep (deep + 1) c d s t (omega arith)
+    (closing-marked rest after beyond deep c d Opens t h ∙ ap (λ i. more 2 (comment_closing i (chars beyond))) e)
 
 marked-closes : (deep : ℕ) (inside outside on : Option ℕ) → 0 < deep → after_mark Closes deep inside outside on ≡ more 2 outside
 marked-closes zero inside outside on h = absurd (omega arith)
@@ -97,17 +108,9 @@ marked-closes (suc deep) inside outside on h = refl
 pub comment_closing-closes : (text rest after beyond : List ℕ) (at deep c d : ℕ) → IsClosingSoFar text at deep rest → IsTwo rest after beyond c d → mark c d ≡ Closes →
     0 < deep → IsClosingSoFar text (at + (len_utf8 c + len_utf8 d)) (deep - 1) beyond
 comment_closing-closes text rest after beyond at deep c d s t h z =
-    record {
-      count = s.count + 2;
-      behind = behind-both text rest after beyond at s.count c d s.behind s.utf8 t;
-      utf8 = both-utf8 rest after beyond c d s.utf8 t;
-      within = omega (arith, s.within, len_utf8_bounds c);
-      steps =
-          s.steps ∙ ap (more s.count) (comment_closing-two rest after beyond deep c d t) ∙
-          ap (λ m. more s.count (after_mark m deep (comment_closing (suc deep) (chars beyond)) (comment_closing (deep - 1) (chars beyond)) (comment_closing deep (d ∷ chars beyond)))) h ∙
-          ap (more s.count) (marked-closes deep (comment_closing (suc deep) (chars beyond)) (comment_closing (deep - 1) (chars beyond)) (comment_closing deep (d ∷ chars beyond)) z) ∙
-          more-more s.count 2 (comment_closing (deep - 1) (chars beyond));
-    }
+    closing-both text rest after beyond at deep (deep - 1) c d s t (omega arith)
+    (closing-marked rest after beyond deep c d Closes t h ∙
+    marked-closes deep (comment_closing (suc deep) (chars beyond)) (comment_closing (deep - 1) (chars beyond)) (comment_closing deep (d ∷ chars beyond)) z)
 
 marked-last : (deep : ℕ) (inside outside on : Option ℕ) → deep ≡ 0 → after_mark Closes deep inside outside on ≡ Some 2
 marked-last zero inside outside on h = refl
@@ -118,8 +121,7 @@ pub comment_closing-last : (text rest after beyond : List ℕ) (at deep c d : �
 comment_closing-last text rest after beyond at deep c d s t h z =
     let b : IsBehind text (at + (len_utf8 c + len_utf8 d)) (s.count + 2) beyond = behind-both text rest after beyond at s.count c d s.behind s.utf8 t in (
       s.count + 2,
-      s.steps ∙ ap (more s.count) (comment_closing-two rest after beyond deep c d t) ∙
-          ap (λ m. more s.count (after_mark m deep (comment_closing (suc deep) (chars beyond)) (comment_closing (deep - 1) (chars beyond)) (comment_closing deep (d ∷ chars beyond)))) h ∙
+      s.steps ∙ ap (more s.count) (closing-marked rest after beyond deep c d Closes t h) ∙
           ap (more s.count) (marked-last deep (comment_closing (suc deep) (chars beyond)) (comment_closing (deep - 1) (chars beyond)) (comment_closing deep (d ∷ chars beyond)) z),
       b.front,
     )
@@ -134,8 +136,7 @@ comment_closing-other text rest after beyond at deep c d s t h =
       utf8 = IsUtf8-past_char rest after c s.utf8 t.rest_is;
       within = omega (arith, s.within);
       steps =
-          s.steps ∙ ap (more s.count) (comment_closing-two rest after beyond deep c d t) ∙
-          ap (λ m. more s.count (after_mark m deep (comment_closing (suc deep) (chars beyond)) (comment_closing (deep - 1) (chars beyond)) (comment_closing deep (d ∷ chars beyond)))) h ∙
+          s.steps ∙ ap (more s.count) (closing-marked rest after beyond deep c d Other t h) ∙
           more-more s.count 1 (comment_closing deep (d ∷ chars beyond)) ∙ ap (λ i. more i (comment_closing deep (d ∷ chars beyond))) e ∙
           ap (λ l. more (suc s.count) (comment_closing deep l)) (sym t.chars_after_are);
     }

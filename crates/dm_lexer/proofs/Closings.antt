@@ -2,15 +2,14 @@
 use Rattle.std.specs.Prelude.{◌≡◌, ℕ, zero, suc, ◌+◌, ◌-◌, ◌<◌, ◌≤◌, Bool, true, false, List, [], ◌∷◌, length, drop, refl, cond, nat_eq, Option, Some, None}
 use Rattle.std.proofs.Common.{ap, ◌∙◌, sym, subst, arith}
 use Rattle.std.proofs.lemmas.Bool.Decides.{nat_tests}
-use Rattle.std.proofs.lemmas.Str.{chars-nil, IsUtf8-drop}
+use Rattle.std.proofs.lemmas.Str.{chars-nil}
 use Rattle.std.proofs.Math.ListN.{drop_of_length-le}
 use Rattle.std.specs.Str.{chars, IsUtf8}
 use Rattle.dm_lexer.specs.declared.quotes.Segment.{Segment}
 use Rattle.dm_lexer.specs.declared.quotes.Inside.{Inside}
 use Rattle.dm_lexer.specs.TextFronts.{IsFront}
 use Rattle.dm_lexer.specs.Quotes.{begins, segment, one_more, more, after_segment, string_closing, IsSegment, IsSized}
-use Rattle.dm_lexer.proofs.LexChars.{front-none}
-use Rattle.dm_lexer.proofs.Segments.{AsciiFront, ascii-front, front-add, drop-drop, more-more, more-zero, one-more}
+use Rattle.dm_lexer.proofs.Segments.{AsciiFront, ascii-front, front-add, behind-front, IsPassed, passed-none, passed-more, more-more, more-zero, one-more}
 
 string_closing-skip : (k : Inside) (n : ℕ) (cs : List ℕ) → string_closing k n cs ≡ more n (string_closing k 0 (drop n cs))
 string_closing-skip k zero cs = sym (more-zero (string_closing k 0 cs))
@@ -46,43 +45,37 @@ string_closing-quote k (c ∷ cs) h = string_closing-as k c cs true (segment k (
 
 -- the segments of the first `at` bytes were passed over
 pub record IsClosingSoFar (k : Inside) (text : List ℕ) (at : ℕ) : Type 0 where
-  pub utf8 : IsUtf8 text
-  pub rest_utf8 : IsUtf8 (drop at text)
-  pub count : ℕ
-  pub front : IsFront text at count
-  pub steps : string_closing k 0 (chars text) ≡ more count (string_closing k 0 (chars (drop at text)))
+  pub passed : IsPassed text at
+  pub steps : string_closing k 0 (chars text) ≡ more passed.count (string_closing k 0 (chars (drop at text)))
 
 pub string_closing-start : (k : Inside) (text : List ℕ) → IsUtf8 text → IsClosingSoFar k text 0
-string_closing-start k text u = record { utf8 = u; rest_utf8 = u; count = 0; front = front-none text u; steps = sym (more-zero (string_closing k 0 (chars text))) }
+string_closing-start k text u = record { passed = passed-none text u; steps = sym (more-zero (string_closing k 0 (chars text))) }
 
 pub string_closing-next : (k : Inside) (text rest : List ℕ) (at : ℕ) (p : Segment) → IsClosingSoFar k text at → rest ≡ drop at text → begins 34 (chars rest) ≡ false →
     IsSegment k rest p → IsClosingSoFar k text (at + p.size) × (0 < p.size) × (at + p.size ≤ length text)
 string_closing-next k text rest at p s e h i =
-    let f : IsFront text (at + p.size) (s.count + i.count) = front-add text rest at s.count p.size i.count s.utf8 s.front e i.front in
+    let q : IsPassed text (at + p.size) = passed-more text rest at p.size i.count s.passed e i.front in
     let a : string_closing k 0 (chars rest) ≡ more i.count (string_closing k 0 (drop i.count (chars rest))) = string_closing-segment k (chars rest) i.count p.means h i.found i.some in
-    let b : drop i.count (chars rest) ≡ chars (drop (at + p.size) text) =
-    ap (λ l. drop i.count (chars l)) e ∙ ap (drop i.count) s.front.rest_is ∙ drop-drop s.count i.count (chars text) ∙ sym f.rest_is in (
+    let b : drop i.count (chars rest) ≡ chars (drop (at + p.size) text) = behind-front text rest at s.passed.count p.size i.count s.passed.front e q.front in (
       record {
-        utf8 = s.utf8;
-        rest_utf8 = IsUtf8-drop text (at + p.size) s.utf8 f.boundary;
-        count = s.count + i.count;
-        front = f;
+        passed = q;
         steps =
-            s.steps ∙ ap (λ l. more s.count (string_closing k 0 (chars l))) (sym e) ∙ ap (more s.count) (a ∙ ap (λ l. more i.count (string_closing k 0 l)) b) ∙
-            more-more s.count i.count (string_closing k 0 (chars (drop (at + p.size) text)));
+            s.steps ∙ ap (λ l. more s.passed.count (string_closing k 0 (chars l))) (sym e) ∙
+            ap (more s.passed.count) (a ∙ ap (λ l. more i.count (string_closing k 0 l)) b) ∙
+            more-more s.passed.count i.count (string_closing k 0 (chars (drop (at + p.size) text)));
       },
       i.positive,
-      f.boundary.0,
+      q.front.boundary.0,
     )
 
 pub string_closing-none : (k : Inside) (text rest : List ℕ) (at : ℕ) → IsClosingSoFar k text at → rest ≡ drop at text → begins 34 (chars rest) ≡ false →
     segment k (chars rest) ≡ None → string_closing k 0 (chars text) ≡ None
 string_closing-none k text rest at s e h i =
-    s.steps ∙ ap (λ l. more s.count (string_closing k 0 (chars l))) (sym e) ∙ ap (more s.count) (string_closing-stuck k (chars rest) h i)
+    s.steps ∙ ap (λ l. more s.passed.count (string_closing k 0 (chars l))) (sym e) ∙ ap (more s.passed.count) (string_closing-stuck k (chars rest) h i)
 
 pub string_closing-open : (k : Inside) (text : List ℕ) (at : ℕ) → IsClosingSoFar k text at → length text ≤ at → string_closing k 0 (chars text) ≡ None
 string_closing-open k text at s h =
-    s.steps ∙ ap (λ l. more s.count (string_closing k 0 l)) (ap chars (drop_of_length-le text h) ∙ chars-nil)
+    s.steps ∙ ap (λ l. more s.passed.count (string_closing k 0 l)) (ap chars (drop_of_length-le text h) ∙ chars-nil)
 
 quote-front : (cs : List ℕ) → begins 34 cs ≡ true → AsciiFront 1 cs
 quote-front [] h = absurd (cc)
@@ -92,8 +85,8 @@ pub string_closing-end : (k : Inside) (text rest : List ℕ) (at : ℕ) → IsCl
     IsSized text (at + 1) (string_closing k 0 (chars text))
 string_closing-end k text rest at s e h =
     let U : List ℕ → Type 0 = λ l. IsUtf8 l in
-    let one : IsFront rest 1 1 = ascii-front rest 1 (subst U (sym e) s.rest_utf8) (quote-front (chars rest) h) in (
-      s.count + 1,
-      s.steps ∙ ap (λ l. more s.count (string_closing k 0 (chars l))) (sym e) ∙ ap (more s.count) (string_closing-quote k (chars rest) h),
-      front-add text rest at s.count 1 1 s.utf8 s.front e one,
+    let one : IsFront rest 1 1 = ascii-front rest 1 (subst U (sym e) s.passed.rest_utf8) (quote-front (chars rest) h) in (
+      s.passed.count + 1,
+      s.steps ∙ ap (λ l. more s.passed.count (string_closing k 0 (chars l))) (sym e) ∙ ap (more s.passed.count) (string_closing-quote k (chars rest) h),
+      front-add text rest at s.passed.count 1 1 s.passed.utf8 s.passed.front e one,
     )

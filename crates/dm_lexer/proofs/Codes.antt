@@ -84,39 +84,44 @@ run-code c cs h = ap (λ b. cond b (suc (run is_code cs)) 0) h
 run-stop : (c : ℕ) (cs : List ℕ) → is_code c ≡ false → run is_code (c ∷ cs) ≡ 0
 run-stop c cs h = ap (λ b. cond b (suc (run is_code cs)) 0) h
 
+-- one character more, of which it is known what it adds
+code-on : (text rest after : List ℕ) (code new : Code) (c : ℕ) → IsCodeSoFar text code rest → chars rest ≡ c ∷ chars after →
+    IsUtf8 after → length after < length rest → is_code c ≡ true → new.size ≡ code.size + 1 →
+    digits_value_after 16 code.value (code_digits (chars rest)) ≡ digits_value_after 16 new.value (code_digits (chars after)) →
+    code.digits + length (code_digits (chars rest)) ≡ new.digits + length (code_digits (chars after)) → new.digits ≤ 6 → new.value < 16 ^ new.digits →
+    IsCodeSoFar text new after
+code-on text rest after code new c s k u l h z v d few small =
+    let r : run is_code (chars rest) ≡ suc (run is_code (chars after)) = ap (run is_code) k ∙ run-code c (chars after) h in
+    let a = s.size_is in
+    let g = s.digits_are in
+    let f = s.fits in
+    record {
+      size_is = omega (arith, a, r, z);
+      value_is = s.value_is ∙ v;
+      digits_are = omega (arith, g, d);
+      few = few;
+      small = small;
+      fits = omega (arith, f, l, z);
+      utf8 = u;
+    }
+
 pub code-next : (text rest after : List ℕ) (code new : Code) (c : ℕ) → IsCodeSoFar text code rest → chars rest ≡ c ∷ chars after →
     IsUtf8 after → length after < length rest → is_code c ≡ true → Stepped code new c → IsCodeSoFar text new after
-code-next text rest after code new c s k u l h (digit x few d v z) =
-    let r : run is_code (chars rest) ≡ suc (run is_code (chars after)) = ap (run is_code) k ∙ run-code c (chars after) h in
-    let ds : code_digits (chars rest) ≡ c ∷ code_digits (chars after) = ap code_digits k ∙ digits-next c (chars after) h ∙ ap (λ b. cond b (c ∷ code_digits (chars after)) (code_digits (chars after))) x in
-    let a = s.size_is in
-    let g = s.digits_are in
-    let f = s.fits in
-    record {
-      size_is = omega (arith, a, r, z);
-      value_is = s.value_is ∙ ap (digits_value_after 16 code.value) ds ∙ ap (λ n. digits_value_after 16 n (code_digits (chars after))) (sym v);
-      digits_are = omega (arith, g, d, ap length ds);
-      few = omega (arith, d, few);
-      small = rw (d, v) (code-small code.digits code.value (digit_value c) few s.small (hex-less c x));
-      fits = omega (arith, f, l, z);
-      utf8 = u;
-    }
-code-next text rest after code new c s k u l h (blank x d v z) =
-    let r : run is_code (chars rest) ≡ suc (run is_code (chars after)) = ap (run is_code) k ∙ run-code c (chars after) h in
-    let ds : code_digits (chars rest) ≡ code_digits (chars after) = ap code_digits k ∙ digits-next c (chars after) h ∙ ap (λ b. cond b (c ∷ code_digits (chars after)) (code_digits (chars after))) x in
-    let a = s.size_is in
-    let g = s.digits_are in
-    let f = s.fits in
-    let w = s.few in
-    record {
-      size_is = omega (arith, a, r, z);
-      value_is = s.value_is ∙ ap (digits_value_after 16 code.value) ds ∙ ap (λ n. digits_value_after 16 n (code_digits (chars after))) (sym v);
-      digits_are = omega (arith, g, d, ap length ds);
-      few = omega (arith, d, w);
-      small = rw (d, v) s.small;
-      fits = omega (arith, f, l, z);
-      utf8 = u;
-    }
+code-next text rest after code new c s k u l h p =
+    let digits : List ℕ = code_digits (chars after) in
+    let value : ℕ → ℕ = λ n. digits_value_after 16 n digits in
+    let one : code_digits (chars rest) ≡ cond (is_hex c) (c ∷ digits) digits = ap code_digits k ∙ digits-next c (chars after) h in
+    elim p [
+      | digit x few d v z ↦
+          let ds : code_digits (chars rest) ≡ c ∷ digits = one ∙ ap (λ b. cond b (c ∷ digits) digits) x in
+          code-on text rest after code new c s k u l h z (ap (digits_value_after 16 code.value) ds ∙ ap value (sym v)) (omega (arith, d, ap length ds))
+          (omega (arith, d, few)) (rw (d, v) (code-small code.digits code.value (digit_value c) few s.small (hex-less c x)))
+      | blank x d v z ↦
+          let ds : code_digits (chars rest) ≡ digits = one ∙ ap (λ b. cond b (c ∷ digits) digits) x in
+          let w = s.few in
+          code-on text rest after code new c s k u l h z (ap (digits_value_after 16 code.value) ds ∙ ap value (sym v)) (omega (arith, d, ap length ds))
+          (omega (arith, d, w)) (rw (d, v) s.small)
+    ]
 
 -- the code ends where no digits follow
 pub code-end : (text rest : List ℕ) (code : Code) → IsCodeSoFar text code rest → run is_code (chars rest) ≡ 0 → code_digits (chars rest) ≡ [] → IsCode text code

@@ -1,6 +1,7 @@
 -- Escapes are ASCII: their characters are their bytes.
 use Rattle.std.specs.Prelude.{◌≡◌, ℕ, zero, suc, ◌+◌, ◌*◌, ◌<◌, Bool, true, false, List, [], ◌∷◌, ◌++◌, length, drop, encode_utf8, refl, cond, nat_lt, nat_eq, ◌&&◌, Option, Some, None, MatchOption}
 use Rattle.std.proofs.Common.{ap, ◌∙◌, sym, subst, arith}
+use Rattle.std.proofs.lemmas.Bool.{and_parts}
 use Rattle.std.proofs.lemmas.Bool.Decides.{nat_tests}
 use Rattle.std.proofs.lemmas.Str.{len_utf8_ascii, len_utf8_bounds}
 use Rattle.std.specs.Char.{digit_value, len_utf8}
@@ -16,14 +17,6 @@ use Rattle.dm_lexer.proofs.Segments.{AsciiFront, ascii-front, ascii-run, front-c
 
 some_segment : {p q : Segment} → Some p ≡ Some q → p ≡ q
 some_segment h = cc
-
-and-left : (a b : Bool) → (a && b) ≡ true → a ≡ true
-and-left true b h = refl
-and-left false b h = h
-
-and-right : (a b : Bool) → (a && b) ≡ true → b ≡ true
-and-right true b h = h
-and-right false b h = absurd (cc)
 
 -- n ASCII characters, and at least one
 abbrev pub Small : ℕ → List ℕ → Type 0
@@ -57,8 +50,8 @@ equal-ascii c d b h l = grind (arith, nat_tests)
 hex-on : (c d e : ℕ) (cs : List ℕ) (x y : Bool) (z : Bool) (p q : Segment) → c < 128 → ((x && y) && z) ≡ true → (x ≡ true → d < 128) → (y ≡ true → e < 128) →
     p.size ≡ 4 → Some p ≡ Some q → Small q.size (92 ∷ c ∷ d ∷ e ∷ cs)
 hex-on c d e cs x y z p q l h f g s k =
-    let xy : (x && y) ≡ true = and-left (x && y) z h in
-    let four : Small 4 (92 ∷ c ∷ d ∷ e ∷ cs) = (omega arith, (omega arith, (l, (f (and-left x y xy), (g (and-right x y xy), tt))))) in
+    let xy : (x && y) ≡ true = (and_parts (x && y) z h).0 in
+    let four : Small 4 (92 ∷ c ∷ d ∷ e ∷ cs) = (omega arith, (omega arith, (l, (f (and_parts x y xy).0, (g (and_parts x y xy).1, tt))))) in
     let P : ℕ → Type 0 = λ n. Small n (92 ∷ c ∷ d ∷ e ∷ cs) in
     small-as p q (92 ∷ c ∷ d ∷ e ∷ cs) k (subst P (sym s) four)
 
@@ -77,9 +70,9 @@ hex-small c limit (d ∷ e ∷ cs) q l h = hex-if c d e limit cs (is_hex d && is
 -- behind `\u`
 point-ascii : (cs : List ℕ) → is_code_point cs ≡ true → AsciiFront (suc (run is_code cs)) cs
 point-ascii cs h =
-    let a = and-left (begins_hex cs && begins 125 (drop (run is_code cs) cs) && nat_lt (length (code_digits cs)) 7) (is_scalar (digits_value 16 (code_digits cs))) h in
-    let b = and-left (begins_hex cs && begins 125 (drop (run is_code cs) cs)) (nat_lt (length (code_digits cs)) 7) a in
-    let d = and-right (begins_hex cs) (begins 125 (drop (run is_code cs) cs)) b in
+    let a = (and_parts (begins_hex cs && begins 125 (drop (run is_code cs) cs) && nat_lt (length (code_digits cs)) 7) (is_scalar (digits_value 16 (code_digits cs))) h).0 in
+    let b = (and_parts (begins_hex cs && begins 125 (drop (run is_code cs) cs)) (nat_lt (length (code_digits cs)) 7) a).0 in
+    let d = (and_parts (begins_hex cs) (begins 125 (drop (run is_code cs) cs)) b).1 in
     ascii-then (run is_code cs) 125 cs (ascii-run is_code cs code-ascii) d (omega arith)
 
 four-more : (n : ℕ) → suc (suc (suc (suc n))) ≡ n + 4
@@ -88,8 +81,8 @@ four-more n = omega arith
 unicode-if : (c d : ℕ) (cs : List ℕ) (b : Bool) (q : Segment) → c < 128 → (nat_eq d 123 && is_code_point cs) ≡ b →
     cond {A = Option Segment} b (Some record { size = run is_code cs + 4; means = Some (digits_value 16 (code_digits cs)) }) None ≡ Some q → Small q.size (92 ∷ c ∷ d ∷ cs)
 unicode-if c d cs true q l h k =
-    let e = and-left (nat_eq d 123) (is_code_point cs) h in
-    let i = and-right (nat_eq d 123) (is_code_point cs) h in
+    let e = (and_parts (nat_eq d 123) (is_code_point cs) h).0 in
+    let i = (and_parts (nat_eq d 123) (is_code_point cs) h).1 in
     let P : ℕ → Type 0 = λ n. Small n (92 ∷ c ∷ d ∷ cs) in
     let s : Small (suc (suc (suc (suc (run is_code cs))))) (92 ∷ c ∷ d ∷ cs) = (omega arith, (omega arith, (l, (equal-ascii d 123 true e (omega arith), point-ascii cs i)))) in
     small-as record { size = run is_code cs + 4; means = Some (digits_value 16 (code_digits cs)) } q (92 ∷ c ∷ d ∷ cs) k (subst P (four-more (run is_code cs)) s)

@@ -1,6 +1,6 @@
 -- What a row finds has no more characters than there are.
 use Rattle.std.specs.Prelude.{◌≡◌, ℕ, zero, suc, ◌+◌, ◌-◌, ◌<◌, ◌≤◌, Bool, true, false, nat_eq, cond, Option, Some, None, List, [], ◌∷◌, length, take, drop, refl}
-use Rattle.std.proofs.Common.{ap, ◌∙◌, sym, arith, length-drop}
+use Rattle.std.proofs.Common.{ap, sym, arith, length-drop}
 use Rattle.std.proofs.lemmas.Bool.Decides.{nat_tests}
 use Rattle.std.specs.Str.Parse.{digits_value}
 use Rattle.dm_stream.specs.declared.tokens.LitKind.{LitKind}
@@ -13,12 +13,12 @@ use Rattle.dm_lexer.specs.declared.quotes.Inside.{Inside}
 use Rattle.dm_lexer.specs.declared.quotes.Inside.TheVariants.{Characters, Bytes, Anything}
 use Rattle.dm_lexer.specs.TextFronts.{run}
 use Rattle.dm_lexer.specs.Words.{begins_word, word_length, begins_raw_word, raw_word_length, is_never_raw, word_bytes, goes_on, passes, radix}
-use Rattle.dm_lexer.specs.Numbers.{begins_digit, number_length, number_behind, length_of, base_of, prefix_length, digits_length, suffix_length, spoils, is_value, digits_among}
+use Rattle.dm_lexer.specs.Numbers.{begins_digit, number_length, number_behind, base_of, prefix_length, digits_length, suffix_length, spoils, is_value, digits_among}
 use Rattle.dm_lexer.specs.Quotes.{begins, is_hash, more, body, quoted_length, segment, one_more, after_segment, string_closing, closes_raw, raw_closing, lone_segment, closed_by_tick, lone_closing, char_length, is_lifetime, lifetime_length}
-use Rattle.dm_lexer.proofs.RowSteps.{some-only, raw_count, with-positive}
+use Rattle.dm_lexer.proofs.RowSteps.{some-only, raw_count}
 use Rattle.dm_lexer.proofs.Kept.{string_closing-skip, raw-some, lone-some}
 use Rattle.dm_lexer.proofs.KeptRows.{more-some, lines-some}
-use Rattle.dm_lexer.proofs.KeptNumbers.{number-parts, prefixed-by, IsNumberBy, number-if}
+use Rattle.dm_lexer.proofs.KeptNumbers.{number-parts, IsNumberBy, IsNumberRead, number-read}
 
 run-cond : (p : ℕ → Bool) (cs : List ℕ) (b : Bool) → run p cs ≤ length cs → cond b (suc (run p cs)) 0 ≤ suc (length cs)
 run-cond p cs true h = omega arith
@@ -149,11 +149,7 @@ behind-fits base cs r e =
 pub number-fits : (n : ℕ) (cs : List ℕ) → begins_digit cs ≡ true → number_length cs ≡ Some n → n ≤ length cs
 number-fits n cs b e =
     let base : Base = base_of cs in
-    let skip : ℕ = prefix_length base in
-    let given : length_of (number-if cs true) ≡ Some n = ap (λ v. length_of (number-if cs v)) (sym b) ∙ e in
-    let found : (r : ℕ × ℕ) × (number_behind base (drop skip cs) ≡ Some r) × (skip + r.0 ≡ n) = prefixed-by skip n (number_behind base (drop skip cs)) given in
-    let r : ℕ × ℕ = found.0 in
-    let z : 0 < r.0 = with-positive base (digits_length base (drop skip cs)) (drop skip cs) r found.1 in
-    let l : r.0 ≤ length (drop skip cs) = behind-fits base (drop skip cs) r found.1 in
-    let size : skip + r.0 ≡ n = found.2 in
-    omega (arith, z, l, size, length-drop skip cs)
+    let rest : List ℕ = drop (prefix_length base) cs in
+    let r : IsNumberRead n cs = number-read n cs b e in
+    let l : r.found.0 ≤ length rest = behind-fits base rest r.found r.behind in
+    omega (arith, r.positive, l, r.size, length-drop (prefix_length base) cs)

@@ -12,7 +12,7 @@ use Rattle.dm_lexer.specs.Words.{begins_pair, begins_word, goes_on, starts_word,
 use Rattle.dm_lexer.specs.Numbers.{begins_digit, base_of, prefix_length, digits_length, digits_among, is_value, suffix_length, begins_exponent, is_float_name, goes_on_as_float, spoils, number_with, number_behind, behind_prefix, number_length, length_of}
 use Rattle.dm_lexer.proofs.RowSteps.{starts-goes_on, with-positive}
 use Rattle.dm_lexer.proofs.Kept.{cut, take-cut, drop-cut, run-cut, run-end}
-use Rattle.dm_lexer.proofs.Stops.{is_stopped, stop-each, goes-not, point-not, stopped-run, stopped-word, stopped-digits, stopped-digit, stopped-exponent, stopped-float, or-false}
+use Rattle.dm_lexer.proofs.Stops.{is_stopped, stop-each, goes-no_ascii, stopped-run, stopped-word, stopped-digits, stopped-digit, stopped-exponent, stopped-float, or-false}
 
 drop-if : (p : ℕ → Bool) (c : ℕ) (cs zs : List ℕ) (b : Bool) → drop (run p cs) (cut (run p cs) cs zs) ≡ zs →
     drop (cond b (suc (run p cs)) 0) (cut (cond b (suc (run p cs)) 0) (c ∷ cs) zs) ≡ zs
@@ -73,7 +73,7 @@ first-false false b h = refl
 no-point : (base : Base) (c : ℕ) (cs : List ℕ) → starts_word c ≡ true → goes_on_as_float base (c ∷ cs) ≡ false
 no-point Binary c cs h = refl
 no-point Octal c cs h = refl
-no-point Decimal c cs h = first-false (nat_eq c 46) _ (goes-not c 46 point-not (starts-goes_on c h))
+no-point Decimal c cs h = first-false (nat_eq c 46) _ (goes-no_ascii c 46 (omega arith) refl (starts-goes_on c h))
 no-point Hexadecimal c cs h = refl
 
 -- a suffix, as characters of a word
@@ -211,27 +211,37 @@ digit-cut zero cs zs z = absurd (omega arith)
 digit-cut (suc n) [] zs z = refl
 digit-cut (suc n) (c ∷ cs) zs z = refl
 
-pub prefixed-by : (n m : ℕ) (o : Option (ℕ × ℕ)) → length_of (behind_prefix n o) ≡ Some m → (r : ℕ × ℕ) × (o ≡ Some r) × (n + r.0 ≡ m)
+prefixed-by : (n m : ℕ) (o : Option (ℕ × ℕ)) → length_of (behind_prefix n o) ≡ Some m → (r : ℕ × ℕ) × (o ≡ Some r) × (n + r.0 ≡ m)
 prefixed-by n m None h = absurd (cc)
 prefixed-by n m (Some r) h = (r, refl, cc)
 
 abbrev pub number-if : List ℕ → Bool → Option (ℕ × ℕ)
 number-if cs b = cond b (behind_prefix (prefix_length (base_of cs)) (number_behind (base_of cs) (drop (prefix_length (base_of cs)) cs))) None
 
+-- a number that was read: what stands behind its prefix
+pub record IsNumberRead (n : ℕ) (cs : List ℕ) : Type 0 where
+  pub found : ℕ × ℕ
+  pub behind : number_behind (base_of cs) (drop (prefix_length (base_of cs)) cs) ≡ Some found
+  pub size : prefix_length (base_of cs) + found.0 ≡ n
+  pub positive : 0 < found.0
+
+pub number-read : (n : ℕ) (cs : List ℕ) → begins_digit cs ≡ true → number_length cs ≡ Some n → IsNumberRead n cs
+number-read n cs b e =
+    let base : Base = base_of cs in
+    let rest : List ℕ = drop (prefix_length base) cs in
+    let r = prefixed-by (prefix_length base) n (number_behind base rest) (ap (λ v. length_of (number-if cs v)) (sym b) ∙ e) in
+    record { found = r.0; behind = r.1; size = r.2; positive = with-positive base (digits_length base rest) rest r.0 r.1 }
+
 pub number-cut : (n : ℕ) (cs zs : List ℕ) → is_stopped zs ≡ true → begins_digit cs ≡ true → number_length cs ≡ Some n → number_length (cut n cs zs) ≡ Some n
 number-cut n cs zs h b e =
     let base : Base = base_of cs in
     let skip : ℕ = prefix_length base in
-    let given : length_of (number-if cs true) ≡ Some n = ap (λ v. length_of (number-if cs v)) (sym b) ∙ e in
-    let found : (r : ℕ × ℕ) × (number_behind base (drop skip cs) ≡ Some r) × (skip + r.0 ≡ n) = prefixed-by skip n (number_behind base (drop skip cs)) given in
-    let r : ℕ × ℕ = found.0 in
-    let z : 0 < r.0 = with-positive base (digits_length base (drop skip cs)) (drop skip cs) r found.1 in
+    let r : IsNumberRead n cs = number-read n cs b e in
     let all : List ℕ = cut n cs zs in
-    let size : skip + r.0 ≡ n = found.2 in
-    let same : base_of all ≡ base = base-kept n r.0 cs zs h b size z in
-    let begun : begins_digit all ≡ true = digit-cut n cs zs (omega (arith, size, z)) ∙ b in
-    let behind : drop skip all ≡ cut r.0 (drop skip cs) zs = drop-cut skip r.0 n cs zs size z in
+    let same : base_of all ≡ base = base-kept n r.found.0 cs zs h b r.size r.positive in
+    let begun : begins_digit all ≡ true = digit-cut n cs zs (omega (arith, r.size, r.positive)) ∙ b in
+    let behind : drop skip all ≡ cut r.found.0 (drop skip cs) zs = drop-cut skip r.found.0 n cs zs r.size r.positive in
     ap (λ v. length_of (number-if all v)) begun ∙
     ap (λ v. length_of (behind_prefix (prefix_length v) (number_behind v (drop (prefix_length v) all)))) same ∙
     ap (λ l. length_of (behind_prefix skip (number_behind base l))) behind ∙
-    ap (λ v. length_of (behind_prefix skip v)) (behind-cut base (drop skip cs) zs r h found.1) ∙ ap (λ v. Some v) size
+    ap (λ v. length_of (behind_prefix skip v)) (behind-cut base (drop skip cs) zs r.found h r.behind) ∙ ap (λ v. Some v) r.size

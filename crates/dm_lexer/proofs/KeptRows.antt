@@ -1,6 +1,7 @@
 -- A row of the table finds its token again where other characters stand behind the token.
 use Rattle.std.specs.Prelude.{◌≡◌, ℕ, zero, suc, ◌+◌, ◌<◌, ◌≤◌, Bool, true, false, ◌||◌, ◌&&◌, nat_eq, nat_lt, cond, Option, Some, None, List, [], ◌∷◌, take, drop, refl}
 use Rattle.std.proofs.Common.{ap, ◌∙◌, sym, subst, arith}
+use Rattle.std.proofs.lemmas.Bool.{and_from, and_parts}
 use Rattle.std.proofs.lemmas.Bool.Decides.{nat_tests}
 use Rattle.std.specs.Str.{encode_utf8_all}
 use Rattle.std.specs.Char.{is_ascii_alphabetic}
@@ -26,7 +27,7 @@ use Rattle.dm_stream.specs.Layout.{nowhere}
 use Rattle.dm_lexer.specs.Written.{unplaced_token}
 use Rattle.dm_lexer.proofs.RowSteps.{starts-goes_on, some-only, raw_count, word-positive, number-positive}
 use Rattle.dm_lexer.proofs.Kept.{cut, take-cut, drop-cut, run-cut, run-end, begins-cut, string_closing-cut, string_closing-skip, raw-cut, raw-some, lone-cut, lone-some}
-use Rattle.dm_lexer.proofs.Stops.{is_stopped, stop-each, goes-not, quote-not, tick-not, slash-not, behind_backslash-not, is_tame, tame-stopped, tame-word, tame-quote, tame-tick, tame-hash, tame-raw, tame-pair, other-pair, stopped-run}
+use Rattle.dm_lexer.proofs.Stops.{is_stopped, stop-each, goes-no_ascii, is_tame, tame-stopped, tame-word, tame-quote, tame-tick, tame-hash, tame-raw, tame-pair, other-pair, stopped-run}
 use Rattle.dm_lexer.proofs.KeptNumbers.{drop-run, word-begun, number-cut}
 
 -- lexemes without their ranges
@@ -447,7 +448,7 @@ name-kept (c ∷ cs) zs h b =
           ap (λ v. lifetime-with v (begins_raw all) (begins 39 (drop (run goes_on all) all))) (ap begins_word begun ∙ b) ∙
           ap (λ v. lifetime-with true v (begins 39 (drop (run goes_on all) all))) (ap begins_raw begun ∙ tame-pair 114 c rest tame) ∙
           ap (λ v. lifetime-with true false v) (ap (begins 39) behind ∙ tame-tick zs (tame-stopped zs h));
-      no_char = ap (lone_closing false) begun ∙ no-lone c rest (goes-not c 92 behind_backslash-not goes) (tame-tick rest tame);
+      no_char = ap (lone_closing false) begun ∙ no-lone c rest (goes-no_ascii c 92 (omega arith) refl goes) (tame-tick rest tame);
       ends = ends;
     }
 
@@ -510,7 +511,7 @@ word-opening c cs zs h g =
     let rest : List ℕ = cut (run goes_on cs) cs zs in
     let tame : is_tame rest ≡ true = tame-word cs zs h in
     none-each (nat_eq c 34) (nat_eq c 98) (nat_eq c 99) (nat_eq c 114) (Some (plain_opening kind.Str 1)) (byte_opening rest) (c_opening rest)
-    (raw_opening kind.RawStr 1 rest) (goes-not c 34 quote-not g)
+    (raw_opening kind.RawStr 1 rest) (goes-no_ascii c 34 (omega arith) refl g)
     (ap (λ v. byte-with rest v (begins 39 rest)) (tame-quote rest tame) ∙ ap (λ v. byte-with rest false v) (tame-tick rest tame) ∙
     second-word kind.RawByteStr cs zs h)
     (ap (c-with rest) (tame-quote rest tame) ∙ second-word kind.RawCStr cs zs h) (none-by kind.RawStr 1 rest tame)
@@ -533,27 +534,16 @@ kept-word a b n (c ∷ cs) zs x s k h q e =
     record {
       again = word a all n;
       row_is =
-          row-word a n all (ap opening whole ∙ word-opening c cs zs s goes) (ap (begins 39) whole ∙ goes-not c 39 tick-not goes)
+          row-word a n all (ap opening whole ∙ word-opening c cs zs s goes) (ap (begins 39) whole ∙ goes-no_ascii c 39 (omega arith) refl goes)
           (ap begins_raw_word whole ∙ first-false (begins_pair 114 35 (c ∷ rest)) (begins_word (drop 2 (c ∷ rest))) (tame-pair 114 c rest tame))
           (ap begins_word whole ∙ h) (ap (run goes_on) (sym same_cut) ∙ run-end goes_on (c ∷ cs) zs (stopped-run zs s) ∙ size);
       same =
           ap (λ l. lexeme.Token (t.Ident record { name = encode_utf8_all l; raw = false; span = nowhere })) (all-taken n (c ∷ cs) zs) ∙
           ap unplaced_lexeme (sym e);
-      no_blank = blank-kept c n cs zs k (goes-not c 47 slash-not goes) (omega (arith, size, word-positive (c ∷ cs) h));
+      no_blank = blank-kept c n cs zs k (goes-no_ascii c 47 (omega arith) refl goes) (omega (arith, size, word-positive (c ∷ cs) h));
     }
 
 -- raw words
-
-both-left : (a b : Bool) → (a && b) ≡ true → a ≡ true
-both-left true b h = refl
-both-left false b h = absurd (cc)
-
-both-right : (a b : Bool) → (a && b) ≡ true → b ≡ true
-both-right true b h = h
-both-right false b h = absurd (cc)
-
-both-true : (a b : Bool) → a ≡ true → b ≡ true → (a && b) ≡ true
-both-true a b h k = ap (λ v. v && b) h ∙ k
 
 hash-raw : (d : ℕ) (cs : List ℕ) → nat_eq d 35 ≡ true → is_tame cs ≡ true → opens_raw (d ∷ cs) ≡ false
 hash-raw d cs h k =
@@ -590,10 +580,10 @@ pub kept-raw : (a b n : ℕ) (cs zs : List ℕ) (x : Lexeme) → is_stopped zs �
 kept-raw a b n [] zs x s k h q e = absurd (cc)
 kept-raw a b n (c ∷ []) zs x s k h q e = absurd (cc)
 kept-raw a b n (c ∷ d ∷ cs) zs x s k h q e =
-    let pair : (nat_eq c 114 && nat_eq d 35) ≡ true = both-left (nat_eq c 114 && nat_eq d 35) (begins_word cs) h in
-    let begun : begins_word cs ≡ true = both-right (nat_eq c 114 && nat_eq d 35) (begins_word cs) h in
-    let first : nat_eq c 114 ≡ true = both-left (nat_eq c 114) (nat_eq d 35) pair in
-    let second : nat_eq d 35 ≡ true = both-right (nat_eq c 114) (nat_eq d 35) pair in
+    let pair : (nat_eq c 114 && nat_eq d 35) ≡ true = (and_parts (nat_eq c 114 && nat_eq d 35) (begins_word cs) h).0 in
+    let begun : begins_word cs ≡ true = (and_parts (nat_eq c 114 && nat_eq d 35) (begins_word cs) h).1 in
+    let first : nat_eq c 114 ≡ true = (and_parts (nat_eq c 114) (nat_eq d 35) pair).0 in
+    let second : nat_eq d 35 ≡ true = (and_parts (nat_eq c 114) (nat_eq d 35) pair).1 in
     let count : ℕ = run goes_on cs in
     let size : 2 + count ≡ n = raw_count (begins_raw_word (c ∷ d ∷ cs)) (is_never_raw (word_bytes cs)) (2 + count) n q in
     let never : is_never_raw (word_bytes cs) ≡ false = never-by (begins_raw_word (c ∷ d ∷ cs)) (is_never_raw (word_bytes cs)) (2 + count) n q in
@@ -603,7 +593,7 @@ kept-raw a b n (c ∷ d ∷ cs) zs x s k h q e =
     let tame : is_tame rest ≡ true = tame-word cs zs s in
     let ends : run goes_on rest ≡ count = run-end goes_on cs zs (stopped-run zs s) in
     let word_kept : begins_word rest ≡ true = word-kept cs zs begun in
-    let raw_begun : begins_raw_word (c ∷ d ∷ rest) ≡ true = both-true (nat_eq c 114 && nat_eq d 35) (begins_word rest) pair word_kept in
+    let raw_begun : begins_raw_word (c ∷ d ∷ rest) ≡ true = and_from (nat_eq c 114 && nat_eq d 35) (begins_word rest) pair word_kept in
     let name : word_bytes rest ≡ word_bytes cs =
     ap (λ i. encode_utf8_all (take i rest)) ends ∙ ap encode_utf8_all (all-taken count cs zs) in
     let length_is : raw_word_length (c ∷ d ∷ rest) ≡ Some n =

@@ -1,11 +1,20 @@
 -- Fronts of a text, by bytes and by characters.
-use Rattle.std.specs.Prelude.{◌≡◌, ℕ, zero, suc, ◌+◌, Bool, true, false, List, [], ◌∷◌, ◌++◌, length, take, drop, encode_utf8, refl, cond}
+use Rattle.std.specs.Prelude.{◌≡◌, ℕ, zero, suc, ◌+◌, Bool, true, false, ◌&&◌, List, [], ◌∷◌, ◌++◌, length, take, drop, encode_utf8, refl, cond}
 use Rattle.std.proofs.Common.{ap, ◌∙◌, sym, subst, arith, length-take, zero-add, append-nil}
 use Rattle.std.proofs.Math.Seq.{take-add, take-append_seam}
+use Rattle.std.proofs.Math.Utf8.{scalar, scalars}
+use Rattle.std.proofs.lemmas.Bool.{and_parts}
 use Rattle.std.proofs.lemmas.Str.{drop_past_char, IsUtf8-past_char, IsCharBoundary-past_char, IsCharBoundary-start, length-encode, chars-nil, encodes-append}
 use Rattle.std.specs.Char.{len_utf8}
 use Rattle.std.specs.Str.{chars, encode_utf8_all, IsUtf8}
 use Rattle.dm_lexer.specs.TextFronts.{IsFront, run}
+
+-- the characters of a front are characters
+pub scalars-take : (n : ℕ) (cs : List ℕ) → scalars cs ≡ true → scalars (take n cs) ≡ true
+scalars-take zero cs h = refl
+scalars-take (suc n) [] h = refl
+scalars-take (suc n) (c ∷ cs) h =
+    ap (λ v. v && scalars (take n cs)) (and_parts (scalar c) (scalars cs) h).0 ∙ scalars-take n cs (and_parts (scalar c) (scalars cs) h).1
 
 take-next : (n c : ℕ) (cs ds : List ℕ) → drop n cs ≡ c ∷ ds → take (suc n) cs ≡ take n cs ++ c ∷ []
 take-next zero c [] ds h = absurd (cc)

@@ -1,6 +1,7 @@
 -- The text of a layout is lexed to the trees that were laid out.
-use Rattle.std.specs.Prelude.{◌≡◌, ℕ, zero, suc, ◌+◌, ◌-◌, ◌<◌, ◌≤◌, Bool, true, false, not, ◌&&◌, cond, if◌then◌else◌, None, List, [], ◌∷◌, ◌++◌, length, take, drop, codes, encode_utf8, refl, ⊤, map}
+use Rattle.std.specs.Prelude.{◌≡◌, ℕ, zero, suc, ◌+◌, ◌-◌, ◌<◌, ◌≤◌, Bool, true, false, not, cond, if◌then◌else◌, None, List, [], ◌∷◌, ◌++◌, length, take, drop, codes, encode_utf8, refl, ⊤, map}
 use Rattle.std.proofs.Common.{ap, ◌∙◌, sym, subst, arith, append_assoc, append-nil, length-append}
+use Rattle.std.proofs.lemmas.Bool.{and_parts}
 use Rattle.std.proofs.lemmas.List.{map-append}
 use Rattle.std.proofs.Math.Seq.{drop-append_seam}
 use Rattle.std.proofs.lemmas.Bool.Decides.{nat_tests}
@@ -260,12 +261,8 @@ AreGood (lexeme.Open d s ∷ xs) = AreGood xs
 AreGood (lexeme.Close d s ∷ xs) = AreGood xs
 
 touch-marks : (c : ℕ) (ts : Trees) (tail : List Lexeme) → may_touch c ts ≡ true → touches c (marks ts ++ tail) ≡ true
-touch-marks c no_trees tail h = absurd (cc)
 touch-marks c (token (t.Punct q) rest) tail h = h
-touch-marks c (token (t.Ident i) rest) tail h = absurd (cc)
-touch-marks c (token (t.Lifetime l) rest) tail h = absurd (cc)
-touch-marks c (token (t.Literal l) rest) tail h = absurd (cc)
-touch-marks c (group d from inside upto rest) tail h = absurd (cc)
+touch-marks c _ tail h = absurd (cc)
 
 spaced-joint : (s : Spacing) (b : Bool) → (if is_joint s then b else true) ≡ true → is_joint s ≡ true → b ≡ true
 spaced-joint Joint b h j = h
@@ -277,26 +274,18 @@ follow-marks (t.Ident i) ts tail h = tt
 follow-marks (t.Lifetime l) ts tail h = tt
 follow-marks (t.Literal l) ts tail h = tt
 
-and-left : (a b : Bool) → (a && b) ≡ true → a ≡ true
-and-left true b h = refl
-and-left false b h = h
-
-and-right : (a b : Bool) → (a && b) ≡ true → b ≡ true
-and-right true b h = h
-and-right false b h = absurd (cc)
-
 good-marks : (ts : Trees) (tail : List Lexeme) → AreSpellable ts → are_spaced ts ≡ true → AreGood tail → AreGood (marks ts ++ tail)
 good-marks no_trees tail h s g = g
 good-marks (token k rest) tail h s g = (
   h.0,
-  follow-marks k rest tail (and-left (is_spaced k rest) (are_spaced rest) s),
-  good-marks rest tail h.1 (and-right (is_spaced k rest) (are_spaced rest) s) g,
+  follow-marks k rest tail (and_parts (is_spaced k rest) (are_spaced rest) s).0,
+  good-marks rest tail h.1 (and_parts (is_spaced k rest) (are_spaced rest) s).1 g,
 )
 good-marks (group d from inside upto rest) tail h s g =
     let P : List Lexeme → Type 0 = λ xs. AreGood xs in
     subst P (sym (append_assoc (marks inside) (lexeme.Close d upto ∷ marks rest) tail))
-    (good-marks inside (lexeme.Close d upto ∷ (marks rest ++ tail)) h.0 (and-left (are_spaced inside) (are_spaced rest) s)
-    (good-marks rest tail h.1 (and-right (are_spaced inside) (are_spaced rest) s) g))
+    (good-marks inside (lexeme.Close d upto ∷ (marks rest ++ tail)) h.0 (and_parts (are_spaced inside) (are_spaced rest) s).0
+    (good-marks rest tail h.1 (and_parts (are_spaced inside) (are_spaced rest) s).1 g))
 
 -- the characters of the bytes
 

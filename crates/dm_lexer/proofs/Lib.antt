@@ -14,7 +14,6 @@ pub mod Meanings
 pub mod Nestings
 pub mod NumberSteps
 pub mod Openings
-pub mod Prefixes
 pub mod Ranges
 pub mod RawStrings
 pub mod ReadWritable

@@ -175,19 +175,11 @@ source-fits b n (c ∷ cs) x (of_mark h) = let e : 1 ≡ n = (marked b c cs x n 
 
 abbrev char_of : Lexeme → ℕ
 char_of (lexeme.Token (t.Punct p)) = p.ch
-char_of (lexeme.Token (t.Ident i)) = 0
-char_of (lexeme.Token (t.Lifetime l)) = 0
-char_of (lexeme.Token (t.Literal l)) = 0
-char_of (lexeme.Open d s) = 0
-char_of (lexeme.Close d s) = 0
+char_of x = 0
 
 abbrev pub gives_punct : Lexeme → Bool
 gives_punct (lexeme.Token (t.Punct p)) = true
-gives_punct (lexeme.Token (t.Ident i)) = false
-gives_punct (lexeme.Token (t.Lifetime l)) = false
-gives_punct (lexeme.Token (t.Literal l)) = false
-gives_punct (lexeme.Open d s) = false
-gives_punct (lexeme.Close d s) = false
+gives_punct x = false
 
 mark-punct : (at c : ℕ) (cs : List ℕ) (x : Lexeme) → Marked at c cs x → gives_punct x ≡ true → is_punct c ≡ true
 mark-punct at c cs x (opens_with d o e) g = absurd (let f : gives_punct x ≡ false = ap gives_punct e in cc)

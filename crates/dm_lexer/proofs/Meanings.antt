@@ -14,9 +14,8 @@ use Rattle.dm_lexer.specs.declared.quotes.Inside.TheVariants.{Characters}
 use Rattle.dm_lexer.specs.TextFronts.{IsFront, IsSized}
 use Rattle.dm_lexer.specs.Quotes.{begins, segment, opening, quoted_length, closes_raw, meant_with, meant_by, meaning, IsSegment}
 use Rattle.dm_lexer.specs.Values.{meant_bytes, raw_meaning, takes_all, whole_by, whole_opening, meant_behind, meant, str_value}
-use Rattle.dm_lexer.proofs.LexChars.{front-none}
 use Rattle.dm_lexer.proofs.Openings.{opening-front}
-use Rattle.dm_lexer.proofs.Segments.{front-add, drop-drop}
+use Rattle.dm_lexer.proofs.Segments.{behind-front, IsPassed, passed-none, passed-more}
 use Rattle.dm_lexer.proofs.RawStrings.{IsRawSoFar, raw-start, raw-next}
 
 -- whether a literal takes all of a text
@@ -117,42 +116,30 @@ meant-encodes (Some c) cs = ap (λ l. l ++ encode_utf8_all cs) (sym (append-nil 
 
 -- `out` is what the first `at` bytes mean
 pub record IsMeantSoFar (text : List ℕ) (at : ℕ) (out : List ℕ) : Type 0 where
-  pub utf8 : IsUtf8 text
-  pub rest_utf8 : IsUtf8 (drop at text)
-  pub count : ℕ
-  pub front : IsFront text at count
+  pub passed : IsPassed text at
   pub steps : encode_utf8_all (meaning 0 (chars text)) ≡ out ++ encode_utf8_all (meaning 0 (chars (drop at text)))
 
 pub meant-start : (text out : List ℕ) → IsUtf8 text → out ≡ [] → IsMeantSoFar text 0 out
-meant-start text out u e = record {
-  utf8 = u;
-  rest_utf8 = u;
-  count = 0;
-  front = front-none text u;
-  steps = ap (λ l. l ++ encode_utf8_all (meaning 0 (chars text))) (sym e);
-}
+meant-start text out u e = record { passed = passed-none text u; steps = ap (λ l. l ++ encode_utf8_all (meaning 0 (chars text))) (sym e) }
 
 pub meant-next : (text rest out new : List ℕ) (at : ℕ) (p : Segment) → IsMeantSoFar text at out → rest ≡ drop at text → begins 34 (chars rest) ≡ false →
     IsSegment Characters rest p → new ≡ out ++ meant_bytes p.means → IsMeantSoFar text (at + p.size) new × (0 < p.size) × (at + p.size ≤ length text)
 meant-next text rest out new at p s e h i n =
-    let f : IsFront text (at + p.size) (s.count + i.count) = front-add text rest at s.count p.size i.count s.utf8 s.front e i.front in
+    let q : IsPassed text (at + p.size) = passed-more text rest at p.size i.count s.passed e i.front in
     let behind : drop i.count (chars rest) ≡ chars (drop (at + p.size) text) =
-    ap (λ l. drop i.count (chars l)) e ∙ ap (drop i.count) s.front.rest_is ∙ drop-drop s.count i.count (chars text) ∙ sym f.rest_is in
+    behind-front text rest at s.passed.count p.size i.count s.passed.front e q.front in
     let m : meaning 0 (chars rest) ≡ meant_with p.means (meaning 0 (chars (drop (at + p.size) text))) =
     meaning-segment (chars rest) i.count p.means h i.found i.some ∙ ap (λ l. meant_with p.means (meaning 0 l)) behind in
     let left : List ℕ = encode_utf8_all (meaning 0 (chars (drop (at + p.size) text))) in (
       record {
-        utf8 = s.utf8;
-        rest_utf8 = IsUtf8-drop text (at + p.size) s.utf8 f.boundary;
-        count = s.count + i.count;
-        front = f;
+        passed = q;
         steps =
             s.steps ∙ ap (λ l. out ++ encode_utf8_all (meaning 0 (chars l))) (sym e) ∙ ap (λ l. out ++ encode_utf8_all l) m ∙
             ap (λ l. out ++ l) (meant-encodes p.means (meaning 0 (chars (drop (at + p.size) text)))) ∙
             sym (append_assoc out (meant_bytes p.means) left) ∙ ap (λ l. l ++ left) (sym n);
       },
       i.positive,
-      f.boundary.0,
+      q.front.boundary.0,
     )
 
 -- where nothing more is meant

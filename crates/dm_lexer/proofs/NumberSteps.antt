@@ -2,6 +2,7 @@
 use Rattle.std.specs.Prelude.{◌≡◌, ℕ, suc, ◌+◌, ◌*◌, ◌<◌, ◌≤◌, ◌^◌, Bool, true, false, ◌&&◌, nat_lt, Some, None, List, [], ◌∷◌, length, take, drop, refl}
 use Rattle.std.proofs.Common.{ap, ◌∙◌, sym, subst, arith, length-drop}
 use Rattle.std.proofs.Math.Nat.{mul-le-mul_left}
+use Rattle.std.proofs.lemmas.Bool.{and_from}
 use Rattle.std.proofs.lemmas.Bool.Decides.{nat_tests}
 use Rattle.std.specs.Char.{digit_value, is_digit}
 use Rattle.std.specs.Str.{chars, encode_utf8_all, IsUtf8}
@@ -14,7 +15,7 @@ use Rattle.dm_lexer.specs.TextFronts.{IsFront, IsSized, IsBehind}
 use Rattle.dm_lexer.specs.Words.{begins_pair, begins_word, radix}
 use Rattle.dm_lexer.specs.Numbers.{IsNumber, IsBasePrefix, begins_digit, base_of, prefix_length, digits_length, digits_among, is_value, suffix_length, spoils, number_behind, behind_prefix, number, length_of, number_length, value_of_all, whole_value}
 use Rattle.dm_lexer.proofs.LexChars.{front-none}
-use Rattle.dm_lexer.proofs.TextFronts.{front-then, front-behind, front-chars, behind-none, behind-chars, cond_true, cond_false, both_true}
+use Rattle.dm_lexer.proofs.TextFronts.{front-then, front-behind, front-chars, behind-none, behind-chars, cond_true, cond_false}
 
 pub sized_number : (text : List ℕ) (size value : ℕ) → IsNumber text size value (number (chars text)) → IsSized text size (number_length (chars text))
 sized_number text size value n = (n.count, ap length_of n.found_is, n.front)
@@ -138,7 +139,7 @@ read-value base text rest value seen r k h =
     ap (nat_lt 0) (read-length base text rest value seen r k) ∙ sym r.seen_is ∙ h in
     let v : digits_value (radix base) (digits_among base (chars text)) ≡ value =
     r.value_is ∙ ap (λ cs. digits_value_after (radix base) value (digits_among base cs)) k in
-    (both_true _ _ n (ap (λ i. nat_lt i (2 ^ 128)) v ∙ below value r.fits), sym v)
+    (and_from _ _ n (ap (λ i. nat_lt i (2 ^ 128)) v ∙ below value r.fits), sym v)
 
 after-digits : (base : Base) (text after : List ℕ) (size : ℕ) → IsFront text size (digits_length base (chars text)) → after ≡ drop size text →
     chars after ≡ drop (digits_length base (chars text)) (chars text)

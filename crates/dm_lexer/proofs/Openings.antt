@@ -1,6 +1,7 @@
 -- Literals with quotes, by their openings.
-use Rattle.std.specs.Prelude.{◌≡◌, ℕ, zero, suc, ◌+◌, ◌<◌, Bool, true, false, List, [], ◌∷◌, ◌++◌, take, drop, encode_utf8, refl, cond, nat_eq, nat_lt, ◌&&◌, Option, Some, None, MatchOption}
+use Rattle.std.specs.Prelude.{◌≡◌, ℕ, zero, suc, ◌+◌, ◌<◌, Bool, true, false, List, [], ◌∷◌, ◌++◌, take, drop, encode_utf8, refl, cond, nat_eq, nat_lt, Option, Some, None, MatchOption}
 use Rattle.std.proofs.Common.{ap, ◌∙◌, sym, subst, arith}
+use Rattle.std.proofs.lemmas.Bool.{and_parts}
 use Rattle.std.proofs.lemmas.Bool.Decides.{nat_tests}
 use Rattle.std.proofs.lemmas.Str.{len_utf8_ascii, IsUtf8-drop, drop_past_char}
 use Rattle.std.specs.Char.{len_utf8}
@@ -91,10 +92,6 @@ some_opening h = cc
 small-as : (o q : Opening) (cs : List ℕ) → Some o ≡ Some q → AsciiFront o.size cs → AsciiFront q.size cs
 small-as o q cs e h = let P : ℕ → Type 0 = λ n. AsciiFront n cs in subst P (ap (λ (v : Opening). v.size) (some_opening e)) h
 
-and-right : (a b : Bool) → (a && b) ≡ true → b ≡ true
-and-right true b h = h
-and-right false b h = absurd (cc)
-
 ascii-then : (n d : ℕ) (cs : List ℕ) → AsciiFront n cs → begins d (drop n cs) ≡ true → d < 128 → AsciiFront (suc n) cs
 ascii-then zero d cs h b l = tick-front d cs b l
 ascii-then (suc n) d [] h b l = absurd h
@@ -106,7 +103,7 @@ hash-ascii c h = grind (arith, nat_tests)
 opens-front : (cs : List ℕ) → opens_raw cs ≡ true → AsciiFront (suc (run is_hash cs)) cs
 opens-front cs h =
     ascii-then (run is_hash cs) 34 cs (ascii-run is_hash cs hash-ascii)
-    (and-right (nat_lt (run is_hash cs) 256) (begins 34 (drop (run is_hash cs) cs)) h) (omega arith)
+    (and_parts (nat_lt (run is_hash cs) 256) (begins 34 (drop (run is_hash cs) cs)) h).1 (omega arith)
 
 raw1-if : (k : LitKind) (c : ℕ) (cs : List ℕ) (b : Bool) (q : Opening) → c < 128 → opens_raw cs ≡ b →
     cond {A = Option Opening} b (Some record { kind = k; hashes = run is_hash cs; size = run is_hash cs + 1 + 1 }) None ≡ Some q → AsciiFront q.size (c ∷ cs)

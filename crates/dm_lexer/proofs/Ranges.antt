@@ -1,6 +1,7 @@
 -- The tokens of a text stand in it at their ranges.
-use Rattle.std.specs.Prelude.{◌≡◌, ℕ, zero, suc, ◌+◌, ◌-◌, ◌<◌, ◌≤◌, Bool, true, false, ◌&&◌, List, [], ◌∷◌, ◌++◌, length, take, drop, codes, encode_utf8, refl, cond, Option, Some, None, ⊤}
+use Rattle.std.specs.Prelude.{◌≡◌, ℕ, zero, suc, ◌+◌, ◌-◌, ◌<◌, ◌≤◌, Bool, true, false, List, [], ◌∷◌, ◌++◌, length, take, drop, codes, encode_utf8, refl, cond, Option, Some, None, ⊤}
 use Rattle.std.proofs.Common.{ap, ◌∙◌, sym, subst, arith, length-append, append_assoc, append-nil, map}
+use Rattle.std.proofs.lemmas.Bool.{and_parts}
 use Rattle.std.proofs.lemmas.Bool.Decides.{nat_tests}
 use Rattle.std.proofs.lemmas.List.{map-append, take-append-drop}
 use Rattle.std.proofs.lemmas.Str.{length-encode, len_utf8_bounds, encodes-chars, encodes-append, encode_ascii, IsUtf8-past_char, IsCharBoundary-at_seam}
@@ -148,16 +149,12 @@ raw-made_by at (c ∷ d ∷ cs) n b =
     let at_first : P c 35 (2 + n) = subst (λ a. P a 35 (2 + n)) (sym first) at_mark in
     record { range_is = refl; spelling_is = subst (λ b. P c b (2 + n)) (sym second) at_first; positive = omega arith }
 
-both-left : (a b : Bool) → (a && b) ≡ true → a ≡ true
-both-left true b h = refl
-both-left false b h = absurd (cc)
-
 raw-made : (at : ℕ) (cs : List ℕ) (n : ℕ) → begins_raw_word cs ≡ true → raw_word_length cs ≡ Some n → IsMadeOf at cs (raw_word at cs n) n
 raw-made at cs n b e =
     let size : 2 + run goes_on (drop 2 cs) ≡ n =
     raw_count (begins_raw_word cs) (is_never_raw (word_bytes (drop 2 cs))) (2 + run goes_on (drop 2 cs)) n e in
     subst (λ m. IsMadeOf at cs (raw_word at cs m) m) size
-    (raw-made_by at cs (run goes_on (drop 2 cs)) (both-left (begins_pair 114 35 cs) (begins_word (drop 2 cs)) b))
+    (raw-made_by at cs (run goes_on (drop 2 cs)) (and_parts (begins_pair 114 35 cs) (begins_word (drop 2 cs)) b).0)
 
 makes-raw : (at : ℕ) (cs : List ℕ) → Makes at cs (raw_row at cs)
 makes-raw at cs =

@@ -1,6 +1,7 @@
 -- Raw strings, and lines.
 use Rattle.std.specs.Prelude.{◌≡◌, ℕ, suc, ◌+◌, ◌<◌, ◌≤◌, Bool, true, false, List, [], ◌∷◌, ◌++◌, length, drop, encode_utf8, refl, cond, nat_eq, nat_lt, ◌&&◌, Option, Some, None}
 use Rattle.std.proofs.Common.{ap, ◌∙◌, sym, subst, arith}
+use Rattle.std.proofs.lemmas.Bool.{and_parts}
 use Rattle.std.proofs.lemmas.Bool.Decides.{nat_tests}
 use Rattle.std.proofs.lemmas.Str.{IsUtf8-past_char, drop_past_char}
 use Rattle.std.specs.Char.{len_utf8}
@@ -56,17 +57,13 @@ hash-ascii c h = grind (arith, nat_tests)
 quote-ascii : (c : ℕ) (b : Bool) → (nat_eq c 34 && b) ≡ true → c < 128
 quote-ascii c b h = grind (arith, nat_tests)
 
-and-right : (a b : Bool) → (a && b) ≡ true → b ≡ true
-and-right true b h = h
-and-right false b h = absurd (cc)
-
 enough : (hashes n : ℕ) → nat_lt hashes (suc n) ≡ true → hashes ≤ n
 enough hashes n h = grind (arith, nat_tests)
 
 hashes-front : (hashes c : ℕ) (cs l : List ℕ) → l ≡ c ∷ cs → closes_raw hashes c cs ≡ true → AsciiFront (suc hashes) l
 hashes-front hashes c cs l e h =
     let P : List ℕ → Type 0 = λ t. AsciiFront (suc hashes) t in
-    let few : hashes ≤ run is_hash cs = enough hashes (run is_hash cs) (and-right (nat_eq c 34) (begins_hashes hashes cs) h) in
+    let few : hashes ≤ run is_hash cs = enough hashes (run is_hash cs) (and_parts (nat_eq c 34) (begins_hashes hashes cs) h).1 in
     subst P (sym e) (quote-ascii c (begins_hashes hashes cs) h, ascii-less hashes (run is_hash cs) cs few (ascii-run is_hash cs hash-ascii))
 
 pub raw-end : (hashes : ℕ) (text rest after : List ℕ) (at c : ℕ) → IsRawSoFar hashes text at rest → closes_raw hashes c (chars after) ≡ true →

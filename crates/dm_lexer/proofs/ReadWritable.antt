@@ -1,7 +1,8 @@
 -- The trees of a text are writable.
-use Rattle.std.specs.Prelude.{◌≡◌, ℕ, zero, suc, ◌+◌, ◌-◌, Bool, true, false, not, ◌&&◌, cond, if◌then◌else◌, List, [], ◌∷◌, ◌++◌, length, take, drop, encode_utf8, refl, ⊤}
+use Rattle.std.specs.Prelude.{◌≡◌, ℕ, zero, suc, ◌+◌, ◌-◌, Bool, true, false, not, cond, if◌then◌else◌, List, [], ◌∷◌, ◌++◌, length, take, drop, encode_utf8, refl, ⊤}
 use Rattle.std.proofs.Common.{ap, ◌∙◌, sym, subst, arith, append_assoc, append-nil}
 use Rattle.std.proofs.Math.Utf8.{scalar, scalars}
+use Rattle.std.proofs.lemmas.Bool.{and_from, and_parts}
 use Rattle.std.proofs.lemmas.Str.{chars-encodes, scalars-chars}
 use Rattle.std.specs.Str.{chars, IsUtf8}
 use Rattle.dm_stream.specs.declared.tokens.Spacing.{Spacing}
@@ -22,23 +23,10 @@ use Rattle.dm_lexer.specs.Written.{alone, HasTrees, IsSpellable, may_touch, is_s
 use Rattle.dm_lexer.proofs.Ranges.{makes-row, Makes, IsMadeOf}
 use Rattle.dm_lexer.proofs.LexSteps.{reading-given}
 use Rattle.dm_lexer.proofs.Kept.{cut, cut-nothing}
+use Rattle.dm_lexer.proofs.LexChars.{scalars-take}
 use Rattle.dm_lexer.proofs.KeptRows.{Source, of_quoted, of_char, of_lifetime, of_raw, of_word, of_number, of_mark, IsKept, is_no_mark, row-sourced}
 use Rattle.dm_lexer.proofs.MarkRows.{source-kept, Marked, opens_with, closes_with, is_a_punct, marked, punct-row, punct-no_blank, blank-no_comment}
 use Rattle.dm_lexer.proofs.LexedBack.{Step, row-step, row-positive, trees-read, alone-plain, touches, Follows, AreGood}
-
-and-left : (a b : Bool) → (a && b) ≡ true → a ≡ true
-and-left true b h = refl
-and-left false b h = h
-
-and-right : (a b : Bool) → (a && b) ≡ true → b ≡ true
-and-right true b h = h
-and-right false b h = absurd (cc)
-
-scalars-take : (n : ℕ) (cs : List ℕ) → scalars cs ≡ true → scalars (take n cs) ≡ true
-scalars-take zero cs h = refl
-scalars-take (suc n) [] h = refl
-scalars-take (suc n) (c ∷ cs) h =
-    ap (λ v. v && scalars (take n cs)) (and-left (scalar c) (scalars cs) h) ∙ scalars-take n cs (and-right (scalar c) (scalars cs) h)
 
 drop-take : (n : ℕ) (cs : List ℕ) → drop n (take n cs) ≡ []
 drop-take zero cs = refl
@@ -194,8 +182,8 @@ reading-good at zero [] u = tt
 reading-good at (suc n) [] u = tt
 reading-good at zero (c ∷ cs) u =
     front-good at (at + length (encode_utf8 c)) c cs (blank_length (c ∷ cs)) (row at (c ∷ cs)) refl refl u
-    (λ more. reading-good (at + length (encode_utf8 c)) more cs (and-right (scalar c) (scalars cs) u))
-reading-good at (suc n) (c ∷ cs) u = reading-good (at + length (encode_utf8 c)) n cs (and-right (scalar c) (scalars cs) u)
+    (λ more. reading-good (at + length (encode_utf8 c)) more cs (and_parts (scalar c) (scalars cs) u).1)
+reading-good at (suc n) (c ∷ cs) u = reading-good (at + length (encode_utf8 c)) n cs (and_parts (scalar c) (scalars cs) u).1
 
 -- trees of good lexemes
 
@@ -230,16 +218,13 @@ spaced-trees (t.Ident i) ts tail e h = refl
 spaced-trees (t.Lifetime l) ts tail e h = refl
 spaced-trees (t.Literal l) ts tail e h = refl
 
-both : (a b : Bool) → a ≡ true → b ≡ true → (a && b) ≡ true
-both a b h k = ap (λ v. v && b) h ∙ k
-
 writable-trees : (ts : Trees) (tail : List Lexeme) → is_end tail ≡ true → AreGood (marks ts ++ tail) → AreWritable ts × AreGood tail
 writable-trees no_trees tail e g = (record { spellable = tt; spaced = refl }, g)
 writable-trees (token k rest) tail e g =
     let r = writable-trees rest tail e g.2 in (
       record {
         spellable = (g.0, r.0.spellable);
-        spaced = both (is_spaced k rest) (are_spaced rest) (spaced-trees k rest tail e g.1) r.0.spaced;
+        spaced = and_from (is_spaced k rest) (are_spaced rest) (spaced-trees k rest tail e g.1) r.0.spaced;
       },
       r.1,
     )
@@ -248,7 +233,7 @@ writable-trees (group d from inside upto rest) tail e g =
     let i = writable-trees inside (lexeme.Close d upto ∷ (marks rest ++ tail)) refl
     (subst P (append_assoc (marks inside) (lexeme.Close d upto ∷ marks rest) tail) g) in
     let r = writable-trees rest tail e i.1 in
-    (record { spellable = (i.0.spellable, r.0.spellable); spaced = both (are_spaced inside) (are_spaced rest) i.0.spaced r.0.spaced }, r.1)
+    (record { spellable = (i.0.spellable, r.0.spellable); spaced = and_from (are_spaced inside) (are_spaced rest) i.0.spaced r.0.spaced }, r.1)
 
 pub read-is_writable : ReadIsWritable
 read-is_writable text ts u h =

@@ -1,6 +1,7 @@
 -- Rows of the table, in the words of the program.
 use Rattle.std.specs.Prelude.{◌≡◌, ℕ, zero, suc, ◌+◌, ◌<◌, Bool, true, false, ◌&&◌, nat_eq, List, [], ◌∷◌, ◌++◌, length, take, drop, encode_utf8, refl, cond, Option, Some, None}
 use Rattle.std.proofs.Common.{ap, ◌∙◌, sym, subst, arith, length-append}
+use Rattle.std.proofs.lemmas.Bool.{and_from}
 use Rattle.std.proofs.lemmas.Grind.{common_steps}
 use Rattle.std.proofs.lemmas.Bool.Decides.{nat_tests}
 use Rattle.std.proofs.lemmas.List.{drop-take}
@@ -194,11 +195,6 @@ pub raw-refused : (text rest : List ℕ) (at : ℕ) → begins_raw_word (chars t
 raw-refused text rest at h b n =
     refusing-row (raw_row at (chars text)) (begins_raw_word (chars text)) (raw_word_length (chars text)) (raw_word at (chars text)) 2 2 text refl h n b.front
 
-both-true : (a b : Bool) → a ≡ true → b ≡ true → (a && b) ≡ true
-both-true true true h k = refl
-both-true true false h k = absurd (cc)
-both-true false b h k = absurd (cc)
-
 left-false : (a b : Bool) → a ≡ false → (a && b) ≡ false
 left-false true b h = absurd (cc)
 left-false false b h = refl
@@ -210,7 +206,7 @@ right-false false false h = refl
 
 pub raw-begins : (text rest : List ℕ) → begins_pair 114 35 (chars text) ≡ true → IsBehind text 2 2 rest → begins_word (chars rest) ≡ true →
     begins_raw_word (chars text) ≡ true
-raw-begins text rest p b h = both-true _ _ p (ap begins_word (sym (behind-chars text rest 2 2 b)) ∙ h)
+raw-begins text rest p b h = and_from _ _ p (ap begins_word (sym (behind-chars text rest 2 2 b)) ∙ h)
 
 pub raw-no_pair : (at : ℕ) (cs : List ℕ) → begins_pair 114 35 cs ≡ false → raw_row at cs ≡ passes
 raw-no_pair at cs h = passing-row (begins_raw_word cs) _ (left-false (begins_pair 114 35 cs) (begins_word (drop 2 cs)) h)

@@ -113,6 +113,26 @@ front-add text rest a n b m u f e g =
       rest_is = ap chars d ∙ h.rest_is ∙ ap (drop m) f.rest_is ∙ drop-drop n m (chars text);
     }
 
+-- what is left behind the second of them
+pub behind-front : (text rest : List ℕ) (a n b m : ℕ) → IsFront text a n → rest ≡ drop a text → IsFront text (a + b) (n + m) →
+    drop m (chars rest) ≡ chars (drop (a + b) text)
+behind-front text rest a n b m f e g = ap (λ l. drop m (chars l)) e ∙ ap (drop m) f.rest_is ∙ drop-drop n m (chars text) ∙ sym g.rest_is
+
+-- the first `at` bytes of a text, in which whole segments were passed over
+pub record IsPassed (text : List ℕ) (at : ℕ) : Type 0 where
+  pub utf8 : IsUtf8 text
+  pub rest_utf8 : IsUtf8 (drop at text)
+  pub count : ℕ
+  pub front : IsFront text at count
+
+abbrev pub passed-none : (text : List ℕ) → IsUtf8 text → IsPassed text 0
+passed-none text u = record { utf8 = u; rest_utf8 = u; count = 0; front = front-none text u }
+
+abbrev pub passed-more : (text rest : List ℕ) (at size n : ℕ) → IsPassed text at → rest ≡ drop at text → IsFront rest size n → IsPassed text (at + size)
+passed-more text rest at size n s e g =
+    let f : IsFront text (at + size) (s.count + n) = front-add text rest at s.count size n s.utf8 s.front e g in
+    record { utf8 = s.utf8; rest_utf8 = IsUtf8-drop text (at + size) s.utf8 f.boundary; count = s.count + n; front = f }
+
 pub more-more : (n m : ℕ) (o : Option ℕ) → more n (more m o) ≡ more (n + m) o
 more-more n m None = refl
 more-more n m (Some k) = ap (λ v. Some v) (omega arith)

@@ -1,7 +1,9 @@
 -- The characters that may stand right behind a token of a layout.
-use Rattle.std.specs.Prelude.{◌≡◌, ℕ, suc, Bool, true, false, not, ◌||◌, ◌&&◌, nat_eq, cond, List, [], ◌∷◌, drop, refl}
+use Rattle.std.specs.Prelude.{◌≡◌, ℕ, suc, ◌<◌, Bool, true, false, not, ◌||◌, ◌&&◌, nat_eq, cond, List, [], ◌∷◌, drop, refl}
 use Rattle.std.proofs.Common.{ap, ◌∙◌, sym, subst, arith}
+use Rattle.std.proofs.lemmas.Bool.{and_right}
 use Rattle.std.proofs.lemmas.Bool.Decides.{nat_tests}
+use Rattle.std.specs.Char.{is_ascii_alphanumeric}
 use Rattle.unicode_ident.proofs.IdentLemmas.{is_xid_continue-ascii}
 use Rattle.dm_lexer.specs.declared.numbers.Base.{Base}
 use Rattle.dm_lexer.specs.declared.numbers.Base.TheVariants.{Binary, Octal, Decimal, Hexadecimal}
@@ -57,23 +59,9 @@ goes-other c d false e h k = e
 pub goes-not : (c d : ℕ) → goes_on d ≡ false → goes_on c ≡ true → nat_eq c d ≡ false
 goes-not c d h k = goes-other c d (nat_eq c d) refl h k
 
-pub quote-not : goes_on 34 ≡ false
-quote-not = is_xid_continue-ascii 34 (omega arith)
-
-pub hash-not : goes_on 35 ≡ false
-hash-not = is_xid_continue-ascii 35 (omega arith)
-
-pub tick-not : goes_on 39 ≡ false
-tick-not = is_xid_continue-ascii 39 (omega arith)
-
-pub slash-not : goes_on 47 ≡ false
-slash-not = is_xid_continue-ascii 47 (omega arith)
-
-pub point-not : goes_on 46 ≡ false
-point-not = is_xid_continue-ascii 46 (omega arith)
-
-pub behind_backslash-not : goes_on 92 ≡ false
-behind_backslash-not = is_xid_continue-ascii 92 (omega arith)
+-- nor is it ASCII that is no letter, no digit and no `_`
+pub goes-no_ascii : (c d : ℕ) → d < 128 → (is_ascii_alphanumeric d || nat_eq d 95) ≡ false → goes_on c ≡ true → nat_eq c d ≡ false
+goes-no_ascii c d l h k = goes-not c d (is_xid_continue-ascii d l ∙ h) k
 
 -- what begins with none of `"`, `#` and `'`
 abbrev pub is_tame : List ℕ → Bool
@@ -88,7 +76,7 @@ tame-stopped [] h = refl
 tame-stopped (c ∷ zs) h = stop-each (λ v. is_tame (v ∷ zs) ≡ true) c h refl refl refl refl
 
 pub tame-goes : (c : ℕ) (cs : List ℕ) → goes_on c ≡ true → is_tame (c ∷ cs) ≡ true
-tame-goes c cs h = tame-by c (goes-not c 34 quote-not h) (goes-not c 35 hash-not h) (goes-not c 39 tick-not h)
+tame-goes c cs h = tame-by c (goes-no_ascii c 34 (omega arith) refl h) (goes-no_ascii c 35 (omega arith) refl h) (goes-no_ascii c 39 (omega arith) refl h)
 
 tame-if : (c : ℕ) (cs zs : List ℕ) (b : Bool) → goes_on c ≡ b → is_stopped zs ≡ true → is_tame (cut (cond b (suc (run goes_on cs)) 0) (c ∷ cs) zs) ≡ true
 tame-if c cs zs true e h = tame-goes c (cut (run goes_on cs) cs zs) e
@@ -114,22 +102,18 @@ pub tame-hash : (cs : List ℕ) → is_tame cs ≡ true → run is_hash cs ≡ 0
 tame-hash [] h = refl
 tame-hash (c ∷ cs) h = ap (λ v. cond v (suc (run is_hash cs)) 0) (no-hash c cs h)
 
-both-false : (a b : Bool) → b ≡ false → (a && b) ≡ false
-both-false true b h = h
-both-false false b h = refl
-
 pub first-false : (a b : Bool) → a ≡ false → (a && b) ≡ false
 first-false true b h = absurd (cc)
 first-false false b h = refl
 
 pub tame-raw : (cs : List ℕ) → is_tame cs ≡ true → opens_raw cs ≡ false
 tame-raw cs h =
-    both-false _ (begins 34 (drop (run is_hash cs) cs)) (ap (λ n. begins 34 (drop n cs)) (tame-hash cs h) ∙ tame-quote cs h)
+    and_right _ (begins 34 (drop (run is_hash cs) cs)) (ap (λ n. begins 34 (drop n cs)) (tame-hash cs h) ∙ tame-quote cs h)
 
 -- `r` before them is no raw word
 pub tame-pair : (a c : ℕ) (cs : List ℕ) → is_tame cs ≡ true → begins_pair a 35 (c ∷ cs) ≡ false
 tame-pair a c [] h = refl
-tame-pair a c (d ∷ cs) h = both-false (nat_eq c a) (nat_eq d 35) (no-hash d cs h)
+tame-pair a c (d ∷ cs) h = and_right (nat_eq c a) (nat_eq d 35) (no-hash d cs h)
 
 -- two characters of which the first is another
 pub other-pair : (a b c : ℕ) (cs : List ℕ) → nat_eq c a ≡ false → begins_pair a b (c ∷ cs) ≡ false

@@ -1,5 +1,5 @@
 -- Fronts of fronts.
-use Rattle.std.specs.Prelude.{◌≡◌, ℕ, suc, ◌+◌, ◌<◌, Bool, true, false, ◌&&◌, List, ◌∷◌, ◌++◌, take, drop, encode_utf8, refl, cond}
+use Rattle.std.specs.Prelude.{◌≡◌, ℕ, suc, ◌+◌, ◌<◌, Bool, true, false, List, ◌∷◌, ◌++◌, take, drop, encode_utf8, refl, cond}
 use Rattle.std.proofs.Common.{ap, ◌∙◌, sym, subst, arith}
 use Rattle.std.proofs.lemmas.List.{drop-drop}
 use Rattle.std.proofs.lemmas.Str.{IsCharBoundary-from_rest, IsUtf8-take, IsUtf8-past_char, drop_past_char, encodes-append, chars_from_encodes, len_utf8_ascii}
@@ -66,6 +66,3 @@ cond_true b x y h = ap (λ v. cond v x y) h
 
 pub cond_false : {A : Type 0} (b : Bool) (x y : A) → b ≡ false → cond b x y ≡ y
 cond_false b x y h = ap (λ v. cond v x y) h
-
-pub both_true : (a b : Bool) → a ≡ true → b ≡ true → (a && b) ≡ true
-both_true a b h k = ap (λ v. v && b) h ∙ k

@@ -2,12 +2,14 @@
 use Rattle.std.specs.Prelude.{◌≡◌, ℕ, zero, suc, ◌+◌, ◌-◌, ◌<◌, ◌≤◌, Bool, true, false, List, [], ◌∷◌, ◌++◌, length, take, drop, encode_utf8, refl, cond, nat_eq, nat_lt, ◌&&◌, Option, Some, None, option_map, IsSome, ⊤}
 use Rattle.std.proofs.Common.{ap, ◌∙◌, sym, subst, arith, length-take, take-take}
 use Rattle.std.proofs.Math.Utf8.{scalar, scalars}
+use Rattle.std.proofs.lemmas.Bool.{and_parts}
 use Rattle.std.proofs.lemmas.Bool.Decides.{nat_tests}
 use Rattle.std.proofs.lemmas.Str.{chars-encodes, scalars-chars}
 use Rattle.std.specs.Str.{chars, encode_utf8_all}
 use Rattle.dm_stream.specs.declared.tokens.LitKind.{LitKind}
 use Rattle.dm_stream.specs.declared.tokens.LitKind.TheVariants as kind
 use Rattle.dm_stream.specs.declared.tokens.Delim.{Delim}
+use Rattle.dm_lexer.specs.declared.quotes.Inside.TheVariants.{Characters}
 use Rattle.dm_lexer.specs.declared.quotes.Opening.{Opening}
 use Rattle.dm_lexer.specs.declared.lexing.Lexeme.{Lexeme}
 use Rattle.dm_lexer.specs.declared.lexing.Lexeme.TheVariants as lexeme
@@ -18,12 +20,27 @@ use Rattle.dm_lexer.specs.Words.{begins_word, begins_raw_word, word_length, raw_
 use Rattle.dm_lexer.specs.Numbers.{begins_digit, number_length}
 use Rattle.dm_lexer.specs.Lexemes.{opened_by, closed_by, is_punct}
 use Rattle.dm_lexer.specs.Blanks.{blank_length}
-use Rattle.dm_lexer.specs.Quotes.{begins, is_hash, opens_raw, more, body, whole_lines, in_whole_lines, plain_opening, raw_opening, second_raw, byte_opening, c_opening, opening, quoted_length, char_length, lifetime_length}
+use Rattle.dm_lexer.specs.Quotes.{begins, is_hash, opens_raw, more, body, whole_lines, in_whole_lines, plain_opening, raw_opening, second_raw, byte_opening, c_opening, opening, quoted_length, char_length, lifetime_length, string_closing, raw_closing}
 use Rattle.dm_lexer.specs.Rows.{Row, gives, refuses, passes, or_row, row_of, literal, word, raw_word, quoted, quoted_row, tick, tick_row, raw_row, word_row, number_row, opens, closes, puncts, punct, mark_row, unquoted_row, row, Reading, reading, read_front}
 use Rattle.dm_stream.specs.Trees.{Trees, no_trees, token, group}
 use Rattle.dm_lexer.specs.Nesting.{marks}
 use Rattle.dm_lexer.specs.Values.{takes_all, whole_by, whole_opening, meant_behind, meant, str_value, is_string, HasValue, AllHaveValues, StringsHaveValues}
-use Rattle.dm_lexer.proofs.Prefixes.{run-take, begins-take, string_closing-take, raw-take}
+use Rattle.dm_lexer.proofs.Kept.{cut-nothing, run-cut, begins-cut, string_closing-cut, raw-cut}
+use Rattle.dm_lexer.proofs.LexChars.{scalars-take}
+
+-- what is found in a front alone
+
+run-take : (p : ℕ → Bool) (m : ℕ) (cs : List ℕ) → run p cs < m → run p (take m cs) ≡ run p cs
+run-take p m cs l = ap (run p) (sym (cut-nothing m cs)) ∙ run-cut p m cs [] l
+
+begins-take : (d n m : ℕ) (cs : List ℕ) → n < m → begins d (drop n (take m cs)) ≡ begins d (drop n cs)
+begins-take d n m cs l = ap (λ v. begins d (drop n v)) (sym (cut-nothing m cs)) ∙ begins-cut d n m cs [] l
+
+string_closing-take : (n m : ℕ) (cs : List ℕ) → string_closing Characters n cs ≡ Some m → string_closing Characters n (take m cs) ≡ Some m
+string_closing-take n m cs h = ap (string_closing Characters n) (sym (cut-nothing m cs)) ∙ string_closing-cut Characters n m cs [] h
+
+raw-take : (hashes m : ℕ) (cs : List ℕ) → raw_closing hashes cs ≡ Some m → raw_closing hashes (take m cs) ≡ Some m
+raw-take hashes m cs h = ap (raw_closing hashes) (sym (cut-nothing m cs)) ∙ raw-cut hashes m cs [] h
 
 -- the body of a string, with nothing behind it
 body-take : (k : LitKind) (hashes m : ℕ) (cs : List ℕ) → is_string k ≡ true → body k hashes cs ≡ Some m → body k hashes (take m cs) ≡ Some m
@@ -183,21 +200,7 @@ quoted-take o cs n h q s =
     ap (λ v. whole_by v front) (opening-take o n cs h s fits) ∙ ap (λ v. cond {A = Option Opening} (takes_all v front) (Some o) None) found ∙
     ap (λ v. cond {A = Option Opening} (cond v false true) (Some o) None) (all-taken n cs)
 
--- the characters of a front
-
-and-left : (a b : Bool) → (a && b) ≡ true → a ≡ true
-and-left true b h = refl
-and-left false b h = h
-
-and-right : (a b : Bool) → (a && b) ≡ true → b ≡ true
-and-right true b h = h
-and-right false b h = absurd (cc)
-
-scalars-take : (n : ℕ) (cs : List ℕ) → scalars cs ≡ true → scalars (take n cs) ≡ true
-scalars-take zero cs h = refl
-scalars-take (suc n) [] h = refl
-scalars-take (suc n) (c ∷ cs) h =
-    ap (λ v. v && scalars (take n cs)) (and-left (scalar c) (scalars cs) h) ∙ scalars-take n cs (and-right (scalar c) (scalars cs) h)
+-- what the characters of a front mean
 
 meant-some : (k : LitKind) (hashes : ℕ) (cs : List ℕ) → is_string k ≡ true → IsSome (option_map encode_utf8_all (meant_behind k k hashes cs))
 meant-some kind.Str hashes cs s = refl
@@ -312,8 +315,8 @@ reading-valued at zero [] u = tt
 reading-valued at (suc n) [] u = tt
 reading-valued at zero (c ∷ cs) u =
     given-valued at (c ∷ cs) (row at (c ∷ cs)) (blank_length (c ∷ cs)) (λ more. reading (at + length (encode_utf8 c)) more cs) (row-valued at (c ∷ cs) u)
-    (λ more. reading-valued (at + length (encode_utf8 c)) more cs (and-right (scalar c) (scalars cs) u))
-reading-valued at (suc n) (c ∷ cs) u = reading-valued (at + length (encode_utf8 c)) n cs (and-right (scalar c) (scalars cs) u)
+    (λ more. reading-valued (at + length (encode_utf8 c)) more cs (and_parts (scalar c) (scalars cs) u).1)
+reading-valued at (suc n) (c ∷ cs) u = reading-valued (at + length (encode_utf8 c)) n cs (and_parts (scalar c) (scalars cs) u).1
 
 valued-left : (xs ys : List Lexeme) → AllValued (xs ++ ys) → AllValued xs
 valued-left [] ys h = tt

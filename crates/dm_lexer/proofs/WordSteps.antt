@@ -2,9 +2,10 @@
 use Rattle.std.specs.Prelude.{◌≡◌, ℕ, ◌+◌, ◌<◌, true, false, cond, Some, None, List, ◌∷◌, ◌++◌, take, drop, encode_utf8, refl}
 use Rattle.std.proofs.Common.{ap, ◌∙◌, sym, arith, eq-eqb}
 use Rattle.std.specs.Str.{chars, IsUtf8}
+use Rattle.std.proofs.lemmas.Bool.{and_from}
 use Rattle.dm_lexer.specs.TextFronts.{IsFront, run, IsSized, IsBehind}
 use Rattle.dm_lexer.specs.Words.{begins_pair, begins_word, begins_raw_word, is_never_raw, word_bytes, word_length, raw_word_length, goes_on}
-use Rattle.dm_lexer.proofs.TextFronts.{front-behind, behind-two, behind-chars, cond_true, cond_false, both_true}
+use Rattle.dm_lexer.proofs.TextFronts.{front-behind, behind-two, behind-chars, cond_true, cond_false}
 
 pub sized_word : (text : List ℕ) (size : ℕ) → begins_word (chars text) ≡ true → IsFront text size (run goes_on (chars text)) →
     IsSized text size (word_length (chars text))
@@ -19,7 +20,7 @@ pair-behind text after beyond a b c d u a_small b_small ca db text_is chars_are 
     let e : chars text ≡ c ∷ d ∷ chars beyond = chars_are ∙ ap (λ l. c ∷ l) chars_after_are in
     let c_small : c < 128 = omega arith in
     let d_small : d < 128 = omega arith in (
-      ap (begins_pair a b) e ∙ both_true _ _ (eq-eqb c a ca) (eq-eqb d b db),
+      ap (begins_pair a b) e ∙ and_from _ _ (eq-eqb c a ca) (eq-eqb d b db),
       behind-two text after beyond c d u c_small d_small text_is chars_are after_is chars_after_are,
     )
 
@@ -28,7 +29,7 @@ pub sized-raw : (text rest : List ℕ) (size : ℕ) → begins_pair 114 35 (char
 sized-raw text rest size pair b h f n =
     let cs : List ℕ = chars text in
     let k : chars rest ≡ drop 2 cs = behind-chars text rest 2 2 b in
-    let raw : begins_raw_word cs ≡ true = both_true _ _ pair (ap begins_word (sym k) ∙ h) in
+    let raw : begins_raw_word cs ≡ true = and_from _ _ pair (ap begins_word (sym k) ∙ h) in
     let never : is_never_raw (word_bytes (drop 2 cs)) ≡ false =
     ap (λ l. is_never_raw (word_bytes l)) (sym k) ∙ ap is_never_raw (sym f.bytes_are) ∙ n in (
       2 + run goes_on (chars rest),

@@ -3,6 +3,7 @@ use Rattle.std.specs.Prelude.{◌≡◌, ℕ, suc, ◌+◌, Bool, true, false, �
 use Rattle.std.proofs.Common.{ap, ◌∙◌, sym, subst, arith}
 use Rattle.std.proofs.Math.Seq.{take-length}
 use Rattle.std.proofs.Math.Utf8.{scalar, scalars}
+use Rattle.std.proofs.lemmas.Bool.{and_from, and_parts}
 use Rattle.std.proofs.lemmas.Bool.Decides.{nat_tests}
 use Rattle.std.proofs.lemmas.Str.{chars-encodes, encodes-chars}
 use Rattle.std.specs.Char.{is_digit, is_ascii_digit}
@@ -31,17 +32,6 @@ use Rattle.dm_lexer.proofs.KeptNumbers.{number-if}
 use Rattle.dm_lexer.proofs.KeptRows.{IsKept, kept-number, kept-quoted, no-blank}
 use Rattle.dm_lexer.proofs.Writables.{all-read, drop-length, all_small, small-utf8, small-chars}
 
-and-left : (a b : Bool) → (a && b) ≡ true → a ≡ true
-and-left true b h = refl
-and-left false b h = h
-
-and-right : (a b : Bool) → (a && b) ≡ true → b ≡ true
-and-right true b h = h
-and-right false b h = absurd (cc)
-
-both : (a b : Bool) → a ≡ true → b ≡ true → (a && b) ≡ true
-both a b h k = ap (λ v. v && b) h ∙ k
-
 -- integers
 
 digit-in : (c : ℕ) → is_ascii_digit c ≡ true → is_digit c 10 ≡ true
@@ -53,20 +43,20 @@ digit-small c h = grind (arith, nat_tests)
 digits-small : (cs : List ℕ) → all_ascii_digits cs ≡ true → all_small cs ≡ true
 digits-small [] h = refl
 digits-small (c ∷ cs) h =
-    both (nat_lt c 128) (all_small cs) (digit-small c (and-left (is_ascii_digit c) (all_ascii_digits cs) h))
-    (digits-small cs (and-right (is_ascii_digit c) (all_ascii_digits cs) h))
+    and_from (nat_lt c 128) (all_small cs) (digit-small c (and_parts (is_ascii_digit c) (all_ascii_digits cs) h).0)
+    (digits-small cs (and_parts (is_ascii_digit c) (all_ascii_digits cs) h).1)
 
 digits-run : (cs : List ℕ) → all_ascii_digits cs ≡ true → run (passes (Digits Decimal)) cs ≡ length cs
 digits-run [] h = refl
 digits-run (c ∷ cs) h =
-    ap (λ v. cond (v || nat_eq c 95) (suc (run (passes (Digits Decimal)) cs)) 0) (digit-in c (and-left (is_ascii_digit c) (all_ascii_digits cs) h)) ∙
-    ap (λ n. suc n) (digits-run cs (and-right (is_ascii_digit c) (all_ascii_digits cs) h))
+    ap (λ v. cond (v || nat_eq c 95) (suc (run (passes (Digits Decimal)) cs)) 0) (digit-in c (and_parts (is_ascii_digit c) (all_ascii_digits cs) h).0) ∙
+    ap (λ n. suc n) (digits-run cs (and_parts (is_ascii_digit c) (all_ascii_digits cs) h).1)
 
 digits-among : (cs : List ℕ) → all_ascii_digits cs ≡ true → digits_among Decimal cs ≡ cs
 digits-among [] h = refl
 digits-among (c ∷ cs) h =
-    ap (λ v. cond {A = List ℕ} v (c ∷ digits_among Decimal cs) (digits_among Decimal cs)) (digit-in c (and-left (is_ascii_digit c) (all_ascii_digits cs) h)) ∙
-    ap (λ l. c ∷ l) (digits-among cs (and-right (is_ascii_digit c) (all_ascii_digits cs) h))
+    ap (λ v. cond {A = List ℕ} v (c ∷ digits_among Decimal cs) (digits_among Decimal cs)) (digit-in c (and_parts (is_ascii_digit c) (all_ascii_digits cs) h).0) ∙
+    ap (λ l. c ∷ l) (digits-among cs (and_parts (is_ascii_digit c) (all_ascii_digits cs) h).1)
 
 digit-letter : (c d n : ℕ) → is_ascii_digit d ≡ true → nat_lt 57 n ≡ true → (nat_eq c 48 && nat_eq d n) ≡ false
 digit-letter c d n h l = grind (arith, nat_tests)
@@ -78,7 +68,7 @@ digits-base : (cs : List ℕ) → all_ascii_digits cs ≡ true → base_of cs �
 digits-base [] h = refl
 digits-base (c ∷ []) h = refl
 digits-base (c ∷ d ∷ cs) h =
-    let e : is_ascii_digit d ≡ true = and-left (is_ascii_digit d) (all_ascii_digits cs) (and-right (is_ascii_digit c) (all_ascii_digits (d ∷ cs)) h) in
+    let e : is_ascii_digit d ≡ true = (and_parts (is_ascii_digit d) (all_ascii_digits cs) (and_parts (is_ascii_digit c) (all_ascii_digits (d ∷ cs)) h).1).0 in
     ap (λ v. base-by v (nat_eq c 48 && nat_eq d 111) (nat_eq c 48 && nat_eq d 120)) (digit-letter c d 98 e refl) ∙
     ap (λ v. base-by false v (nat_eq c 48 && nat_eq d 120)) (digit-letter c d 111 e refl) ∙ ap (λ v. base-by false false v) (digit-letter c d 120 e refl)
 
@@ -109,7 +99,7 @@ no-value b h = cc
 
 digits-begin : (cs : List ℕ) → all_ascii_digits cs ≡ true → is_value Decimal cs ≡ true → begins_digit cs ≡ true
 digits-begin [] h v = absurd (cc)
-digits-begin (c ∷ cs) h v = and-left (is_ascii_digit c) (all_ascii_digits cs) h
+digits-begin (c ∷ cs) h v = (and_parts (is_ascii_digit c) (all_ascii_digits cs) h).0
 
 digit-blank : (cs : List ℕ) → begins_digit cs ≡ true → blank_length cs ≡ Absent
 digit-blank [] h = absurd (cc)
@@ -201,28 +191,28 @@ other-line c d l h k =
 
 lines-if : (c : ℕ) (cs : List ℕ) (x y : Bool) → nat_eq c 34 ≡ x → nat_eq c 92 ≡ y → keeps_line c cs ≡ true → whole_lines (escaped cs ++ 34 ∷ []) ≡ true →
     whole_lines (cond {A = List ℕ} (x || y) (92 ∷ c ∷ escaped cs) (c ∷ escaped cs) ++ 34 ∷ []) ≡ true
-lines-if c cs true y h k l w = both (keeps_line c (escaped cs ++ 34 ∷ [])) (whole_lines (escaped cs ++ 34 ∷ [])) (other-line c 34 (escaped cs ++ 34 ∷ []) h refl) w
-lines-if c cs false true h k l w = both (keeps_line c (escaped cs ++ 34 ∷ [])) (whole_lines (escaped cs ++ 34 ∷ [])) (other-line c 92 (escaped cs ++ 34 ∷ []) k refl) w
+lines-if c cs true y h k l w = and_from (keeps_line c (escaped cs ++ 34 ∷ [])) (whole_lines (escaped cs ++ 34 ∷ [])) (other-line c 34 (escaped cs ++ 34 ∷ []) h refl) w
+lines-if c cs false true h k l w = and_from (keeps_line c (escaped cs ++ 34 ∷ [])) (whole_lines (escaped cs ++ 34 ∷ [])) (other-line c 92 (escaped cs ++ 34 ∷ []) k refl) w
 lines-if c cs false false h k l w =
-    both (keeps_line c (escaped cs ++ 34 ∷ [])) (whole_lines (escaped cs ++ 34 ∷ [])) (line-if (nat_eq c 13) cs l) w
+    and_from (keeps_line c (escaped cs ++ 34 ∷ [])) (whole_lines (escaped cs ++ 34 ∷ [])) (line-if (nat_eq c 13) cs l) w
 
 escaped-lines : (cs : List ℕ) → whole_lines cs ≡ true → whole_lines (escaped cs ++ 34 ∷ []) ≡ true
 escaped-lines [] h = refl
 escaped-lines (c ∷ cs) h =
-    lines-if c cs (nat_eq c 34) (nat_eq c 92) refl refl (and-left (keeps_line c cs) (whole_lines cs) h)
-    (escaped-lines cs (and-right (keeps_line c cs) (whole_lines cs) h))
+    lines-if c cs (nat_eq c 34) (nat_eq c 92) refl refl (and_parts (keeps_line c cs) (whole_lines cs) h).0
+    (escaped-lines cs (and_parts (keeps_line c cs) (whole_lines cs) h).1)
 
 -- scalars
 
 scalars-if : (c : ℕ) (cs : List ℕ) (b : Bool) → scalar c ≡ true → scalars (escaped cs ++ 34 ∷ []) ≡ true →
     scalars (cond {A = List ℕ} b (92 ∷ c ∷ escaped cs) (c ∷ escaped cs) ++ 34 ∷ []) ≡ true
-scalars-if c cs true h k = both (scalar c) (scalars (escaped cs ++ 34 ∷ [])) h k
-scalars-if c cs false h k = both (scalar c) (scalars (escaped cs ++ 34 ∷ [])) h k
+scalars-if c cs true h k = and_from (scalar c) (scalars (escaped cs ++ 34 ∷ [])) h k
+scalars-if c cs false h k = and_from (scalar c) (scalars (escaped cs ++ 34 ∷ [])) h k
 
 escaped-scalars : (cs : List ℕ) → scalars cs ≡ true → scalars (escaped cs ++ 34 ∷ []) ≡ true
 escaped-scalars [] h = refl
 escaped-scalars (c ∷ cs) h =
-    scalars-if c cs (nat_eq c 34 || nat_eq c 92) (and-left (scalar c) (scalars cs) h) (escaped-scalars cs (and-right (scalar c) (scalars cs) h))
+    scalars-if c cs (nat_eq c 34 || nat_eq c 92) (and_parts (scalar c) (scalars cs) h).0 (escaped-scalars cs (and_parts (scalar c) (scalars cs) h).1)
 
 one-more : (n : ℕ) → 1 + n ≡ suc n
 one-more n = omega arith

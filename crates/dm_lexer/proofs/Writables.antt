@@ -3,11 +3,11 @@ use Rattle.std.specs.Prelude.{◌≡◌, ℕ, suc, ◌<◌, Bool, true, false, �
 use Rattle.std.proofs.Common.{ap, ◌∙◌, sym, subst, arith, append-nil}
 use Rattle.std.proofs.Math.Seq.{take-length}
 use Rattle.std.proofs.Math.Utf8.{scalar, scalars}
+use Rattle.std.proofs.lemmas.Bool.{and_from, and_parts}
 use Rattle.std.proofs.lemmas.Bool.Decides.{nat_tests}
 use Rattle.std.proofs.lemmas.Str.{encodes-chars, encode_ascii, chars_from_encodes}
 use Rattle.std.specs.Char.{is_ascii_alphabetic, is_ascii_alphanumeric}
 use Rattle.std.specs.Str.{chars, encode_utf8_all, IsUtf8}
-use Rattle.unicode_ident.specs.Ident.{is_xid_continue}
 use Rattle.unicode_ident.proofs.Computing.{unicode_ident}
 use Rattle.unicode_ident.proofs.IdentLemmas.{is_xid_start-ascii, is_xid_continue-ascii}
 use Rattle.dm_stream.specs.declared.tokens.Span.{Span}
@@ -28,24 +28,13 @@ use Rattle.dm_stream.specs.Layout.{is_joint, nowhere, word_token}
 use Rattle.dm_lexer.specs.Written.{HasTrees, alone, IsSpellable, AreSpellable, may_touch, is_spaced, are_spaced, AreWritable}
 use Rattle.dm_lexer.proofs.Kept.{cut, cut-nothing}
 use Rattle.dm_lexer.proofs.RowSteps.{starts-goes_on, punct-ascii}
-use Rattle.dm_lexer.proofs.Stops.{slash-not, goes-not}
+use Rattle.dm_lexer.proofs.Stops.{goes-not, goes-no_ascii}
 use Rattle.dm_lexer.proofs.KeptRows.{IsKept, kept-word, no-blank}
 use Rattle.dm_lexer.proofs.MarkRows.{punct-row, punct-no_blank}
 use Rattle.dm_lexer.proofs.LexedBack.{Step, row-step, row-positive}
 use Rattle.dm_lexer.proofs.ReadWritable.{step-has}
 
 -- one list behind another
-
-and-left : (a b : Bool) → (a && b) ≡ true → a ≡ true
-and-left true b h = refl
-and-left false b h = h
-
-and-right : (a b : Bool) → (a && b) ≡ true → b ≡ true
-and-right true b h = h
-and-right false b h = absurd (cc)
-
-both : (a b : Bool) → a ≡ true → b ≡ true → (a && b) ≡ true
-both a b h k = ap (λ v. v && b) h ∙ k
 
 pub spellable-join : (ts us : Trees) → AreSpellable ts → AreSpellable us → AreSpellable (join ts us)
 spellable-join no_trees us h k = k
@@ -63,12 +52,8 @@ spellable-right (token j rest) us h = spellable-right rest us h.1
 spellable-right (group d from inside upto rest) us h = spellable-right rest us h.1
 
 touch-join : (c : ℕ) (ts us : Trees) → may_touch c ts ≡ true → may_touch c (join ts us) ≡ true
-touch-join c no_trees us h = absurd (cc)
 touch-join c (token (t.Punct q) rest) us h = h
-touch-join c (token (t.Ident i) rest) us h = absurd (cc)
-touch-join c (token (t.Lifetime l) rest) us h = absurd (cc)
-touch-join c (token (t.Literal l) rest) us h = absurd (cc)
-touch-join c (group d from inside upto rest) us h = absurd (cc)
+touch-join c _ us h = absurd (cc)
 
 joint-if : (s : Spacing) (a b : Bool) → (a ≡ true → b ≡ true) → (if is_joint s then a else true) ≡ true → (if is_joint s then b else true) ≡ true
 joint-if Joint a b f h = f h
@@ -83,16 +68,16 @@ is_spaced-join (t.Literal l) ts us h = refl
 pub spaced-join : (ts us : Trees) → are_spaced ts ≡ true → are_spaced us ≡ true → are_spaced (join ts us) ≡ true
 spaced-join no_trees us h k = k
 spaced-join (token j rest) us h k =
-    both (is_spaced j (join rest us)) (are_spaced (join rest us)) (is_spaced-join j rest us (and-left (is_spaced j rest) (are_spaced rest) h))
-    (spaced-join rest us (and-right (is_spaced j rest) (are_spaced rest) h) k)
+    and_from (is_spaced j (join rest us)) (are_spaced (join rest us)) (is_spaced-join j rest us (and_parts (is_spaced j rest) (are_spaced rest) h).0)
+    (spaced-join rest us (and_parts (is_spaced j rest) (are_spaced rest) h).1 k)
 spaced-join (group d from inside upto rest) us h k =
-    both (are_spaced inside) (are_spaced (join rest us)) (and-left (are_spaced inside) (are_spaced rest) h)
-    (spaced-join rest us (and-right (are_spaced inside) (are_spaced rest) h) k)
+    and_from (are_spaced inside) (are_spaced (join rest us)) (and_parts (are_spaced inside) (are_spaced rest) h).0
+    (spaced-join rest us (and_parts (are_spaced inside) (are_spaced rest) h).1 k)
 
 pub spaced-right : (ts us : Trees) → are_spaced (join ts us) ≡ true → are_spaced us ≡ true
 spaced-right no_trees us h = h
-spaced-right (token j rest) us h = spaced-right rest us (and-right (is_spaced j (join rest us)) (are_spaced (join rest us)) h)
-spaced-right (group d from inside upto rest) us h = spaced-right rest us (and-right (are_spaced inside) (are_spaced (join rest us)) h)
+spaced-right (token j rest) us h = spaced-right rest us (and_parts (is_spaced j (join rest us)) (are_spaced (join rest us)) h).1
+spaced-right (group d from inside upto rest) us h = spaced-right rest us (and_parts (are_spaced inside) (are_spaced (join rest us)) h).1
 
 pub writable-join : (ts us : Trees) → AreWritable ts → AreWritable us → AreWritable (join ts us)
 writable-join ts us h k = record { spellable = spellable-join ts us h.spellable k.spellable; spaced = spaced-join ts us h.spaced k.spaced }
@@ -106,7 +91,7 @@ writable-none = record { spellable = tt; spaced = refl }
 pub writable-group : (d : Delim) (from upto : Span) (inside rest : Trees) → AreWritable inside → AreWritable rest → AreWritable (group d from inside upto rest)
 writable-group d from upto inside rest h k = record {
   spellable = (h.spellable, k.spellable);
-  spaced = both (are_spaced inside) (are_spaced rest) h.spaced k.spaced;
+  spaced = and_from (are_spaced inside) (are_spaced rest) h.spaced k.spaced;
 }
 
 -- one punct
@@ -123,46 +108,31 @@ pub punct-spellable : (c : ℕ) (spacing : Spacing) (s : Span) → is_punct c �
 punct-spellable c spacing s h =
     let k : Token = t.Punct record { ch = c; spacing = spacing; span = s } in
     let one : encode_utf8_all (c ∷ []) ≡ encode_utf8 c = append-nil (encode_utf8 c) in
-    let ok : scalars (c ∷ []) ≡ true = both (scalar c) true (scalar-small c (punct-ascii c h)) refl in
+    let ok : scalars (c ∷ []) ≡ true = and_from (scalar c) true (scalar-small c (punct-ascii c h)) refl in
     let u : IsUtf8 (encode_utf8 c) = (c ∷ [], (ok, one)) in
     let P : List ℕ → Type 0 = λ l. Step 0 l [] (lexeme.Token (alone k)) in
     record { utf8 = u; has = step-has (encode_utf8 c) (alone k) (subst P (chars_from_encodes (c ∷ []) (encode_utf8 c) u one) (punct-step c spacing s h)) }
 
 -- a word
 
-blank-133 : is_xid_continue 133 ≡ false
+-- the blanks beyond ASCII
+wide-blanks : (goes_on 133 ≡ false) × (goes_on 8206 ≡ false) × (goes_on 8207 ≡ false) × (goes_on 8232 ≡ false) × (goes_on 8233 ≡ false)
 unfolding unicode_ident
-blank-133 = refl
-
-blank-8206 : is_xid_continue 8206 ≡ false
-unfolding unicode_ident
-blank-8206 = refl
-
-blank-8207 : is_xid_continue 8207 ≡ false
-unfolding unicode_ident
-blank-8207 = refl
-
-blank-8232 : is_xid_continue 8232 ≡ false
-unfolding unicode_ident
-blank-8232 = refl
-
-blank-8233 : is_xid_continue 8233 ≡ false
-unfolding unicode_ident
-blank-8233 = refl
+wide-blanks = (refl, refl, refl, refl, refl)
 
 goes-no_blank : (c : ℕ) → goes_on c ≡ true → is_blank_char c ≡ false
 goes-no_blank c h =
-    let a : nat_eq c 9 ≡ false = goes-not c 9 (is_xid_continue-ascii 9 (omega arith)) h in
-    let b : nat_eq c 10 ≡ false = goes-not c 10 (is_xid_continue-ascii 10 (omega arith)) h in
-    let d : nat_eq c 11 ≡ false = goes-not c 11 (is_xid_continue-ascii 11 (omega arith)) h in
-    let e : nat_eq c 12 ≡ false = goes-not c 12 (is_xid_continue-ascii 12 (omega arith)) h in
-    let f : nat_eq c 13 ≡ false = goes-not c 13 (is_xid_continue-ascii 13 (omega arith)) h in
-    let g : nat_eq c 32 ≡ false = goes-not c 32 (is_xid_continue-ascii 32 (omega arith)) h in
-    let i : nat_eq c 133 ≡ false = goes-not c 133 blank-133 h in
-    let j : nat_eq c 8206 ≡ false = goes-not c 8206 blank-8206 h in
-    let k : nat_eq c 8207 ≡ false = goes-not c 8207 blank-8207 h in
-    let l : nat_eq c 8232 ≡ false = goes-not c 8232 blank-8232 h in
-    let m : nat_eq c 8233 ≡ false = goes-not c 8233 blank-8233 h in
+    let a : nat_eq c 9 ≡ false = goes-no_ascii c 9 (omega arith) refl h in
+    let b : nat_eq c 10 ≡ false = goes-no_ascii c 10 (omega arith) refl h in
+    let d : nat_eq c 11 ≡ false = goes-no_ascii c 11 (omega arith) refl h in
+    let e : nat_eq c 12 ≡ false = goes-no_ascii c 12 (omega arith) refl h in
+    let f : nat_eq c 13 ≡ false = goes-no_ascii c 13 (omega arith) refl h in
+    let g : nat_eq c 32 ≡ false = goes-no_ascii c 32 (omega arith) refl h in
+    let i : nat_eq c 133 ≡ false = goes-not c 133 wide-blanks.0 h in
+    let j : nat_eq c 8206 ≡ false = goes-not c 8206 wide-blanks.1 h in
+    let k : nat_eq c 8207 ≡ false = goes-not c 8207 wide-blanks.2 h in
+    let l : nat_eq c 8232 ≡ false = goes-not c 8232 wide-blanks.3 h in
+    let m : nat_eq c 8233 ≡ false = goes-not c 8233 wide-blanks.4 h in
     grind (arith, nat_tests)
 
 pub drop-length : (cs : List ℕ) → drop (length cs) cs ≡ []
@@ -184,7 +154,7 @@ word-blank : (cs : List ℕ) → begins_word cs ≡ true → blank_length cs ≡
 word-blank [] h = absurd (cc)
 word-blank (c ∷ cs) h =
     let g : goes_on c ≡ true = starts-goes_on c h in
-    no-blank c cs (goes-no_blank c g) (goes-not c 47 slash-not g)
+    no-blank c cs (goes-no_blank c g) (goes-no_ascii c 47 (omega arith) refl g)
 
 pub word-spellable : (name : List ℕ) (s : Span) → IsUtf8 name → begins_word (chars name) ≡ true → run goes_on (chars name) ≡ length (chars name) →
     IsSpellable (t.Ident record { name = name; raw = false; span = s })
@@ -215,13 +185,13 @@ is_ascii_word (c ∷ cs) = (is_ascii_alphabetic c || nat_eq c 95) && all_go_on c
 pub all_go_on-append : (a b : List ℕ) → all_go_on a ≡ true → all_go_on b ≡ true → all_go_on (a ++ b) ≡ true
 all_go_on-append [] b h k = k
 all_go_on-append (c ∷ a) b h k =
-    both (goes_on_ascii c) (all_go_on (a ++ b)) (and-left (goes_on_ascii c) (all_go_on a) h) (all_go_on-append a b (and-right (goes_on_ascii c) (all_go_on a) h) k)
+    and_from (goes_on_ascii c) (all_go_on (a ++ b)) (and_parts (goes_on_ascii c) (all_go_on a) h).0 (all_go_on-append a b (and_parts (goes_on_ascii c) (all_go_on a) h).1 k)
 
 pub ascii_word-append : (a b : List ℕ) → is_ascii_word a ≡ true → all_go_on b ≡ true → is_ascii_word (a ++ b) ≡ true
 ascii_word-append [] b h k = absurd (cc)
 ascii_word-append (c ∷ a) b h k =
-    both (is_ascii_alphabetic c || nat_eq c 95) (all_go_on (a ++ b)) (and-left (is_ascii_alphabetic c || nat_eq c 95) (all_go_on a) h)
-    (all_go_on-append a b (and-right (is_ascii_alphabetic c || nat_eq c 95) (all_go_on a) h) k)
+    and_from (is_ascii_alphabetic c || nat_eq c 95) (all_go_on (a ++ b)) (and_parts (is_ascii_alphabetic c || nat_eq c 95) (all_go_on a) h).0
+    (all_go_on-append a b (and_parts (is_ascii_alphabetic c || nat_eq c 95) (all_go_on a) h).1 k)
 
 ascii-small : (c : ℕ) → goes_on_ascii c ≡ true → c < 128
 ascii-small c h = grind (arith, nat_tests)
@@ -236,16 +206,16 @@ all_small (c ∷ cs) = nat_lt c 128 && all_small cs
 small-encodes : (cs : List ℕ) → all_small cs ≡ true → encode_utf8_all cs ≡ cs
 small-encodes [] h = refl
 small-encodes (c ∷ cs) h =
-    let l : nat_lt c 128 ≡ true = and-left (nat_lt c 128) (all_small cs) h in
+    let l : nat_lt c 128 ≡ true = (and_parts (nat_lt c 128) (all_small cs) h).0 in
     let s : c < 128 = grind (arith, nat_tests) in
-    ap (λ e. e ++ encode_utf8_all cs) (encode_ascii c s) ∙ ap (λ e. c ∷ e) (small-encodes cs (and-right (nat_lt c 128) (all_small cs) h))
+    ap (λ e. e ++ encode_utf8_all cs) (encode_ascii c s) ∙ ap (λ e. c ∷ e) (small-encodes cs (and_parts (nat_lt c 128) (all_small cs) h).1)
 
 small-scalars : (cs : List ℕ) → all_small cs ≡ true → scalars cs ≡ true
 small-scalars [] h = refl
 small-scalars (c ∷ cs) h =
-    let l : nat_lt c 128 ≡ true = and-left (nat_lt c 128) (all_small cs) h in
+    let l : nat_lt c 128 ≡ true = (and_parts (nat_lt c 128) (all_small cs) h).0 in
     let s : c < 128 = grind (arith, nat_tests) in
-    both (scalar c) (scalars cs) (scalar-small c s) (small-scalars cs (and-right (nat_lt c 128) (all_small cs) h))
+    and_from (scalar c) (scalars cs) (scalar-small c s) (small-scalars cs (and_parts (nat_lt c 128) (all_small cs) h).1)
 
 pub small-utf8 : (cs : List ℕ) → all_small cs ≡ true → IsUtf8 cs
 small-utf8 cs h = (cs, (small-scalars cs h, small-encodes cs h))
@@ -256,26 +226,26 @@ small-chars cs h = sym (chars_from_encodes cs cs (small-utf8 cs h) (small-encode
 go_on-small : (cs : List ℕ) → all_go_on cs ≡ true → all_small cs ≡ true
 go_on-small [] h = refl
 go_on-small (c ∷ cs) h =
-    let l : c < 128 = ascii-small c (and-left (goes_on_ascii c) (all_go_on cs) h) in
-    both (nat_lt c 128) (all_small cs) (grind (arith, nat_tests)) (go_on-small cs (and-right (goes_on_ascii c) (all_go_on cs) h))
+    let l : c < 128 = ascii-small c (and_parts (goes_on_ascii c) (all_go_on cs) h).0 in
+    and_from (nat_lt c 128) (all_small cs) (grind (arith, nat_tests)) (go_on-small cs (and_parts (goes_on_ascii c) (all_go_on cs) h).1)
 
 go_on-run : (cs : List ℕ) → all_go_on cs ≡ true → run goes_on cs ≡ length cs
 go_on-run [] h = refl
 go_on-run (c ∷ cs) h =
-    let g : goes_on_ascii c ≡ true = and-left (goes_on_ascii c) (all_go_on cs) h in
+    let g : goes_on_ascii c ≡ true = (and_parts (goes_on_ascii c) (all_go_on cs) h).0 in
     ap (λ v. cond v (suc (run goes_on cs)) 0) (is_xid_continue-ascii c (ascii-small c g) ∙ g) ∙
-    ap (λ n. suc n) (go_on-run cs (and-right (goes_on_ascii c) (all_go_on cs) h))
+    ap (λ n. suc n) (go_on-run cs (and_parts (goes_on_ascii c) (all_go_on cs) h).1)
 
 word-goes : (cs : List ℕ) → is_ascii_word cs ≡ true → all_go_on cs ≡ true
 word-goes [] h = refl
 word-goes (c ∷ cs) h =
-    both (goes_on_ascii c) (all_go_on cs) (ascii-start c (and-left (is_ascii_alphabetic c || nat_eq c 95) (all_go_on cs) h))
-    (and-right (is_ascii_alphabetic c || nat_eq c 95) (all_go_on cs) h)
+    and_from (goes_on_ascii c) (all_go_on cs) (ascii-start c (and_parts (is_ascii_alphabetic c || nat_eq c 95) (all_go_on cs) h).0)
+    (and_parts (is_ascii_alphabetic c || nat_eq c 95) (all_go_on cs) h).1
 
 word-begins : (cs : List ℕ) → is_ascii_word cs ≡ true → begins_word cs ≡ true
 word-begins [] h = absurd (cc)
 word-begins (c ∷ cs) h =
-    let s : (is_ascii_alphabetic c || nat_eq c 95) ≡ true = and-left (is_ascii_alphabetic c || nat_eq c 95) (all_go_on cs) h in
+    let s : (is_ascii_alphabetic c || nat_eq c 95) ≡ true = (and_parts (is_ascii_alphabetic c || nat_eq c 95) (all_go_on cs) h).0 in
     ap (λ v. v || nat_eq c 95) (is_xid_start-ascii c (ascii-small c (ascii-start c s))) ∙ s
 
 pub ascii_word-spellable : (name : List ℕ) (s : Span) → is_ascii_word name ≡ true → IsSpellable (t.Ident record { name = name; raw = false; span = s })

@@ -20,7 +20,7 @@ use Rattle.dm_meta.specs.Fronts.{IsFront, IsUnreadFront, NoFront, ToEnd}
 use Rattle.dm_ast.specs.Places.{IsPlaceIn, IsRefusedAt}
 use Rattle.dm_read_decl.proofs.LicensedSteps.{Licensed}
 use Rattle.dm_read_types.specs.WholeReaders.{whole_type, whole_bound, parts}
-use Rattle.dm_read_types.proofs.PlainParts.{nothing_left}
+use Rattle.dm_read_paths.proofs.PlainParts.{nothing_left}
 use Rattle.dm_read.proofs.Deciding.{Same, IsRead, IsRefused, Decides, Reader}
 use Rattle.dm_read_decl.proofs.Licensing.{syntax_by, syntax_in_front, refused_behind}
 use Rattle.dm_read_types.proofs.TypeTheorem.{type_decided, bound_decided}

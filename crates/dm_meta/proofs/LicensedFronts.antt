@@ -1,32 +1,21 @@
 -- Where bare paths and metas are refused.
-use Rattle.std.proofs.Common.{Ok, Err, arith}
+use Rattle.std.proofs.Common.{true, Ok, Err, arith}
 use Rattle.dm_stream.specs.declared.tokens.Delim.TheVariants.{Paren}
 use Rattle.dm_stream.specs.Trees.{Trees}
-use Rattle.dm_ast.specs.Tree.{PathTree, absent, segments_of}
-use Rattle.dm_ast.specs.Spelling.{Where, sees_group, sees_literal, sees_colons}
-use Rattle.dm_read_types.specs.BarePaths.{sees_angled, read_bare_arguments, read_bare_segments, read_bare_path}
+use Rattle.dm_ast.specs.Tree.{PathTree}
+use Rattle.dm_ast.specs.Spelling.{Where, sees_group, sees_literal}
+use Rattle.dm_read_paths.specs.BarePaths.{read_bare_path}
 use Rattle.dm_ast.specs.Readers.{Outcome, mapped, read_any, read_rest, inside_at}
-use Rattle.dm_read_types.specs.TypeReaders.{segment_of, path_of, read_type}
+use Rattle.dm_read_paths.specs.TypeReaders.{read_type}
 use Rattle.dm_meta.specs.Metas.{PathOrKeywordTree, path_meta}
 use Rattle.dm_meta.specs.MetaReaders.{is_syntax, keyword_of, if_no_path, read_keyword, read_path_or_keyword, read_enclosed, list_of, read_meta_list, list_behind, behind_path, read_meta, lit_of, nested_of, read_nested_meta}
 use Rattle.dm_read_decl.proofs.LicensedSteps.{Licensed}
-use Rattle.dm_ast.specs.TypeGrammar.{is_path_word}
-use Rattle.dm_read_decl.proofs.Licensing.{Licenses, licensed_any, licensed_gives, licensed_and, licensed_bind, licensed_test, licensed_either, licensed_nothing, licensed_any_ident, licensed_ident, licensed_literal, licensed_group, licensed_rest, licensed_chain}
-use Rattle.dm_read_decl.proofs.LicensedParts.{licensed_leading, licensed_colons}
-use Rattle.dm_read_decl.proofs.LicensedTypes.{licensed_angled, licensed_type}
+use Rattle.dm_read_decl.proofs.Licensing.{Licenses, licensed_any, licensed_gives, licensed_and, licensed_bind, licensed_test, licensed_either, licensed_nothing, licensed_any_ident, licensed_literal, licensed_group, licensed_rest}
+use Rattle.dm_read_decl.proofs.LicensedTypes.{licensed_path, licensed_type}
 
 module _ (w : Where) where
-  licensed_bare_arguments : Licenses 0 w (read_bare_arguments (read_type 129) w)
-  licensed_bare_arguments =
-      licensed_either sees_angled (licensed_angled (read_type 129) w.level (λ mode v below. licensed_type 129 mode v (omega arith)) w (omega arith))
-      (licensed_nothing absent)
-
-  licensed_bare_segments : Licenses 0 w (read_bare_segments (read_type 129) w)
-  licensed_bare_segments =
-      licensed_chain sees_colons (licensed_colons w) (licensed_gives (licensed_and (licensed_ident is_path_word w) licensed_bare_arguments) segment_of)
-
   pub licensed_bare_path : Licenses 0 w (read_bare_path (read_type 129) w)
-  licensed_bare_path = licensed_gives (licensed_and (licensed_leading w) (licensed_gives licensed_bare_segments segments_of)) path_of
+  licensed_bare_path = licensed_path (read_type 129) w.level (λ mode v below. licensed_type 129 mode v (omega arith)) true w (omega arith)
 
   -- ---- a path or a keyword
 

@@ -1,5 +1,5 @@
 -- Metas: what their readers decide.
-use Rattle.std.proofs.Common.{◌≡◌, Bool, true, false, ◌||◌, if◌then◌else◌, [], ◌∷◌, ◌++◌, Option, Some, None, Ok, Err, IsTrue, refl, sym, ap, ap₂, ◌∙◌, subst, append-nil}
+use Rattle.std.proofs.Common.{◌≡◌, Bool, true, false, ◌||◌, if◌then◌else◌, [], ◌∷◌, ◌++◌, Some, None, Ok, Err, IsTrue, refl, sym, ap, ap₂, ◌∙◌, subst, append-nil}
 use Rattle.std.proofs.lemmas.Bool.{or_parts}
 use Rattle.dm_stream.specs.declared.tokens.Ident.{Ident}
 use Rattle.dm_stream.specs.declared.tokens.Token.TheVariants as t
@@ -12,9 +12,9 @@ use Rattle.dm_stream.specs.Trees.{Trees, token, Stream}
 use Rattle.dm_ast.specs.Tree.{PathTree, path_tree, SegmentTree, SegmentTrees, no_segments, segment_then, segment, absent, segments_of}
 use Rattle.dm_ast.specs.Spelling.{Where, Marks, Spelling, first_too_deep, Nothing, Provided, Before, sees, sees_group, sees_literal, sees_colons, ident, literal, colons, GroupAt}
 use Rattle.dm_ast.specs.TypeGrammar.{is_path_word, kept}
-use Rattle.dm_read_types.specs.BarePaths.{bare_path, bare_segments, read_bare_arguments, read_bare_segment, read_bare_path}
+use Rattle.dm_read_paths.specs.BarePaths.{bare_path, bare_segments, read_bare_path}
 use Rattle.dm_ast.specs.Readers.{Outcome, Parser, and_then, mapped, ◌next◌, read_ident, read_colons, read_repeated, if_found, read_any, read_literal, read_rest, inside_at}
-use Rattle.dm_read_types.specs.TypeReaders.{segment_of, path_of, read_type}
+use Rattle.dm_read_paths.specs.TypeReaders.{segment_of, path_of, read_bare_arguments, read_segment, read_type}
 use Rattle.dm_meta.specs.Metas.{PathOrKeywordTree, a_path, keyword, MetaListTree, MetaTree, path_meta, list_meta, NestedMetaTree, nested, lit, NoPath, path_or_keyword, meta_list, meta_spelled, nested_meta, begins_path, list_begins_path, meta_begins_path, nested_begins_path}
 use Rattle.dm_meta.specs.MetaReaders.{is_syntax, keyword_of, if_no_path, read_path_or_keyword, read_enclosed, list_of, read_meta_list, list_behind, behind_path, read_meta, lit_of, nested_of, read_nested_meta}
 use Rattle.dm_read.proofs.Deciding.{Same, IsRead, IsRefused, Decides, Reader, Bound, Image, pair, deep_front, covers_none, decides_bind, decides_by, decides_image, decides_test}
@@ -23,6 +23,7 @@ use Rattle.dm_read.proofs.Groups.{reads_group, reads_rest, group_seen}
 use Rattle.dm_read.proofs.PathSeeing.{no_turbofish}
 use Rattle.dm_meta.proofs.BarePaths.{bare_decided}
 use Rattle.dm_read_decl.proofs.TypeFronts.{Begins, behind_flag}
+use Rattle.dm_read_paths.proofs.Sequences.{then_nothing, then_with}
 
 -- ---- what is decided where a keyword isn't looked for, since a path that began there is too deep
 
@@ -120,21 +121,7 @@ module _ (w : Where) (ts : Trees) where
         first_marks = [];
         rest_marks = m;
         first = record { part = record { spelled = refl; marks = refl }; fact = ap sees_colons s.spelled };
-        rest = record {
-          middle = o;
-          first_marks = m;
-          rest_marks = [];
-          first = record {
-            middle = o;
-            first_marks = m;
-            rest_marks = [];
-            first = record { fact = p; part = s };
-            rest = record { part = record { spelled = refl; marks = refl }; fact = ap₂ (λ a b. a || b) e (no_turbofish o f) };
-            marks = sym (append-nil m);
-          };
-          rest = record { part = record { spelled = refl; marks = refl }; fact = f };
-          marks = sym (append-nil m);
-        };
+        rest = then_nothing (then_nothing (record { fact = p; part = s }) (record { part = record { spelled = refl; marks = refl }; fact = ap₂ (λ a b. a || b) e (no_turbofish o f) })) (record { part = record { spelled = refl; marks = refl }; fact = f });
         marks = refl;
       }
 
@@ -145,10 +132,10 @@ module _ (w : Where) (ts : Trees) where
       let inner = read_type 129 in
       let f : read_ident is_path_word w (token (t.Ident i) o) ≡ Err (record { kind = Syntax; span = i.span }) =
       ap (λ b. if_found w (token (t.Ident i) o) (if b then Some (pair i o) else None)) e in
-      let g : read_bare_segment inner w (token (t.Ident i) o) ≡ Err (record { kind = Syntax; span = i.span }) =
+      let g : read_segment inner true w (token (t.Ident i) o) ≡ Err (record { kind = Syntax; span = i.span }) =
       ap (λ (r : Outcome Ident). mapped segment_of (and_then r (λ a mid. mapped (pair a) (read_bare_arguments inner w mid)))) f in
       ap (λ (r : Outcome SegmentTree). mapped path_of (mapped (pair false) (mapped segments_of (and_then r (λ x mid.
-      read_repeated w sees_colons (read_colons w next read_bare_segment inner w) (x ∷ []) mid))))) g
+      read_repeated w sees_colons (read_colons w next read_segment inner true w) (x ∷ []) mid))))) g
 
   -- no path that is too deep begins at a keyword behind which none goes on
   keyword_shallow : (r : Refusal) → read_bare_path (read_type 129) w ts ≡ Err r → r.kind ≡ TooDeep → (i : Ident) (o : Trees) (m : Marks) → Word (keyword i) ts o m →
@@ -208,7 +195,7 @@ module _ (w : Where) (ts : Trees) where
   list_to v o m b =
       let i : Image (pair b.value) Enclosed v b.parts.middle o b.parts.rest_marks = b.parts.rest in
       subst (λ u. meta_list (list_of u) w ts o m) (sym i.is_it)
-      (record { middle = b.parts.middle; first_marks = b.parts.first_marks; rest_marks = b.parts.rest_marks; first = b.parts.first; rest = i.spelled; marks = b.parts.marks })
+      (then_with b.parts i.spelled)
 
   list_back : (l : MetaListTree) (o : Trees) (m : Marks) → meta_list l w ts o m → Image list_of ListParts l ts o m
   list_back l o m s =
@@ -217,14 +204,7 @@ module _ (w : Where) (ts : Trees) where
         is_it = refl;
         spelled = record {
           value = l.path;
-          parts = record {
-            middle = s.middle;
-            first_marks = s.first_marks;
-            rest_marks = s.rest_marks;
-            first = s.first;
-            rest = record { value = l.tokens; is_it = refl; spelled = s.rest };
-            marks = s.marks;
-          };
+          parts = then_with s (record { value = l.tokens; is_it = refl; spelled = s.rest });
         };
       }
 
@@ -296,14 +276,7 @@ module _ (w : Where) (ts : Trees) where
         is_it = refl;
         spelled = record {
           value = q;
-          parts = record {
-            middle = o;
-            first_marks = m;
-            rest_marks = [];
-            first = s.part;
-            rest = record { fact = refl; part = record { part = record { spelled = refl; marks = refl }; fact = s.fact } };
-            marks = sym (append-nil m);
-          };
+          parts = then_nothing s.part (record { fact = refl; part = record { part = record { spelled = refl; marks = refl }; fact = s.fact } });
         };
       }
   meta_back (list_meta l) o m s =
@@ -312,14 +285,7 @@ module _ (w : Where) (ts : Trees) where
         is_it = refl;
         spelled = record {
           value = l.path;
-          parts = record {
-            middle = s.middle;
-            first_marks = s.first_marks;
-            rest_marks = s.rest_marks;
-            first = s.first;
-            rest = record { fact = refl; part = s.rest };
-            marks = s.marks;
-          };
+          parts = then_with s (record { fact = refl; part = s.rest });
         };
       }
 

@@ -13,8 +13,8 @@ use Rattle.dm_stream.specs.Trees.{Trees, Stream}
 use Rattle.dm_ast.specs.Tree.{PathTree}
 use Rattle.dm_ast.specs.Spelling.{Where, sees_group, sees_literal}
 use Rattle.dm_ast.specs.Readers.{Outcome, Parser, and_then, mapped, ◌and◌, ◌gives◌, read_any, read_literal, read_group, read_rest}
-use Rattle.dm_read_types.specs.TypeReaders.{read_type}
-use Rattle.dm_read_types.specs.BarePaths.{read_bare_path}
+use Rattle.dm_read_paths.specs.TypeReaders.{read_type}
+use Rattle.dm_read_paths.specs.BarePaths.{read_bare_path}
 use Rattle.dm_meta.specs.Metas.{PathOrKeywordTree, a_path, keyword, MetaListTree, MetaTree, path_meta, list_meta, NestedMetaTree, nested, lit}
 
 abbrev pub is_syntax : Kind → Bool

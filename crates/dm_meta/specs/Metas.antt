@@ -24,7 +24,7 @@ use Rattle.dm_ast.specs.Tree.{PathTree, path_tree, SegmentTree, segment, Segment
 use Rattle.dm_ast.specs.Spelling.{Where, Marks, Spelling, deepest, first_too_deep, ◌then◌, Facing, Before, sees, sees_colons, sees_group, ident, literal, GroupAt}
 use Rattle.dm_ast.specs.TypeGrammar.{kept}
 use Rattle.dm_ast.specs.TypeTokens.{name, path_trees, grouped, literal as literal_trees}
-use Rattle.dm_read_types.specs.BarePaths.{bare_path}
+use Rattle.dm_read_paths.specs.BarePaths.{bare_path}
 use Rattle.dm_ast.specs.Places.{openers, IsPlaceIn}
 
 pub data PathOrKeywordTree : Type 0 where

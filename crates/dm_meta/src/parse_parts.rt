@@ -6,7 +6,7 @@ ghost use Rattle.dm_stream.specs.Trees.{no_trees};
 ghost use Rattle.dm_stream.specs.Cursors.{left, end_of, sound, SharesEnd};
 ghost use Rattle.dm_ast.specs.Spelling.{at_end as ends};
 ghost use Rattle.dm_ast.specs.TypeGrammar as grammar;
-ghost use Rattle.dm_read_types.specs.BarePaths.{bare_path as bare_spelled};
+ghost use Rattle.dm_read_paths.specs.BarePaths.{bare_path as bare_spelled};
 ghost use Rattle.dm_ast.specs.DeclarationGrammar as declarations;
 ghost use Rattle.dm_read.specs.DeclarationReaders as spec;
 ghost use Rattle.dm_read_types.specs.WholeReaders.{whole_type, parts};

@@ -15,8 +15,8 @@ use dm_ast::{Path, PathArguments, PathSegment};
 use dm_copy::CloneIn;
 use dm_quote::ToTokens;
 use dm_read::token::ident;
+use dm_read_paths::path::{no_arguments, path_of, segment_of};
 use dm_read_types::bare::bare_path;
-use dm_read_types::path::{no_arguments, path_of, segment_of};
 use dm_stream::{Cursor, Error, Ident, Kind, Refusal, Seq, TokenStream};
 use std::alloc::{AllocError, Global};
 

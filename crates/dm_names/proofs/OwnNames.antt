@@ -147,13 +147,13 @@ mutual
   none_in_input : (a : InputTree) → own (in_input a) ≡ []
   none_in_input (input attrs i t) = none_in_type t
 
-  none_in_bounds : (bs : BoundTrees) → own (in_bounds bs) ≡ []
-  none_in_bounds no_bounds = refl
-  none_in_bounds (bound_then b bs) = none_in (in_bound b) (in_bounds bs) (none_in_bound b) (none_in_bounds bs)
-
   none_in_bound : (b : BoundTree) → own (in_bound b) ≡ []
   none_in_bound (outlives l) = refl
   none_in_bound (implements t) = none_in_trait t
+
+  none_in_bounds : (bs : BoundTrees) → own (in_bounds bs) ≡ []
+  none_in_bounds no_bounds = refl
+  none_in_bounds (bound_then b bs) = none_in (in_bound b) (in_bounds bs) (none_in_bound b) (none_in_bounds bs)
 
   none_in_trait : (t : TraitBoundTree) → own (in_trait t) ≡ []
   none_in_trait (trait_bound round maybe ls p) = none_in (in_for ls) (in_path p) (none_in_for ls) (none_in_path p)

@@ -2,23 +2,7 @@
 #![tactic(auto, using(crate::proofs::NamePlaces::place_steps))]
 
 ghost use Rattle.std.specs.Prelude.{◌≡◌, map, ◌∷◌, []};
-ghost use Rattle.dm_ast.specs.Tree.{
-  types_of,
-  bounds_of,
-  inputs_of,
-  segments_of,
-  arguments_of,
-  ty_view,
-  node_view,
-  bound_view,
-  trait_view,
-  fn_view,
-  input_view,
-  path_view,
-  segment_view,
-  arguments_view,
-  argument_view,
-};
+ghost use Rattle.dm_ast.specs.Tree as tree;
 ghost use Rattle.dm_ast.specs.Names as names;
 ghost use Rattle.dm_names.specs.NamePlaces.{first_place};
 
@@ -88,14 +72,14 @@ pub fn in_for(wanted: Wanted, lifetimes: &Option<Punctuated<Lifetime<'_>>>) -> O
 /// In a type.
 #[cycle(places)]
 pub fn in_type(wanted: Wanted, ty: &Ty<'_>) -> Option<Span>
-    ensures { result ≡ first_place wanted (names.in_type (ty_view ty.now)) }
+    ensures { result ≡ first_place wanted (names.in_type (tree.ty_view ty.now)) }
 {
     in_node(wanted, &ty.node, ty.span)
 }
 
 #[cycle(places)]
 fn in_node(wanted: Wanted, node: &TyNode<'_>, span: Span) -> Option<Span>
-    ensures { result ≡ first_place wanted (names.in_node (node_view node.now) span) }
+    ensures { result ≡ first_place wanted (names.in_node (tree.node_view node.now) span) }
 {
     match node {
         TyNode::Paren(inner) => in_type(wanted, inner),
@@ -119,14 +103,14 @@ fn in_node(wanted: Wanted, node: &TyNode<'_>, span: Span) -> Option<Span>
 
 #[cycle(places)]
 fn in_self(wanted: Wanted, qself: &QSelf<'_>) -> Option<Span>
-    ensures { result ≡ first_place wanted (names.in_type (ty_view qself.now.ty)) }
+    ensures { result ≡ first_place wanted (names.in_type (tree.ty_view qself.now.ty)) }
 {
     in_type(wanted, &qself.ty)
 }
 
 #[cycle(places)]
 fn in_types(wanted: Wanted, all: &[Ty<'_>]) -> Option<Span>
-    ensures { result ≡ first_place wanted (names.in_types (types_of (map ty_view all.now))) }
+    ensures { result ≡ first_place wanted (names.in_types (tree.types_of (map tree.ty_view all.now))) }
 {
     for item in all {
         if let Some(span) = in_type(wanted, item) {
@@ -138,7 +122,7 @@ fn in_types(wanted: Wanted, all: &[Ty<'_>]) -> Option<Span>
 
 #[cycle(places)]
 fn in_function(wanted: Wanted, function: &BareFn<'_>) -> Option<Span>
-    ensures { result ≡ first_place wanted (names.in_function (fn_view function.now)) }
+    ensures { result ≡ first_place wanted (names.in_function (tree.fn_view function.now)) }
 {
     let lifetimes = in_for(wanted, &function.lifetimes);
     let inputs = in_inputs(wanted, function.inputs.items.as_slice());
@@ -150,7 +134,7 @@ fn in_function(wanted: Wanted, function: &BareFn<'_>) -> Option<Span>
 
 #[cycle(places)]
 fn in_inputs(wanted: Wanted, all: &[FnArg<'_>]) -> Option<Span>
-    ensures { result ≡ first_place wanted (names.in_inputs (inputs_of (map input_view all.now))) }
+    ensures { result ≡ first_place wanted (names.in_inputs (tree.inputs_of (map tree.input_view all.now))) }
 {
     for item in all {
         if let Some(span) = in_input(wanted, item) {
@@ -162,7 +146,7 @@ fn in_inputs(wanted: Wanted, all: &[FnArg<'_>]) -> Option<Span>
 
 #[cycle(places)]
 fn in_input(wanted: Wanted, input: &FnArg<'_>) -> Option<Span>
-    ensures { result ≡ first_place wanted (names.in_input (input_view input.now)) }
+    ensures { result ≡ first_place wanted (names.in_input (tree.input_view input.now)) }
 {
     in_type(wanted, &input.ty)
 }
@@ -170,7 +154,7 @@ fn in_input(wanted: Wanted, input: &FnArg<'_>) -> Option<Span>
 /// In bounds.
 #[cycle(places)]
 pub fn in_bounds(wanted: Wanted, all: &[Bound<'_>]) -> Option<Span>
-    ensures { result ≡ first_place wanted (names.in_bounds (bounds_of (map bound_view all.now))) }
+    ensures { result ≡ first_place wanted (names.in_bounds (tree.bounds_of (map tree.bound_view all.now))) }
 {
     for item in all {
         if let Some(span) = in_bound(wanted, item) {
@@ -182,7 +166,7 @@ pub fn in_bounds(wanted: Wanted, all: &[Bound<'_>]) -> Option<Span>
 
 #[cycle(places)]
 fn in_bound(wanted: Wanted, bound: &Bound<'_>) -> Option<Span>
-    ensures { result ≡ first_place wanted (names.in_bound (bound_view bound.now)) }
+    ensures { result ≡ first_place wanted (names.in_bound (tree.bound_view bound.now)) }
 {
     match bound {
         Bound::Lifetime(_) => None,
@@ -192,21 +176,21 @@ fn in_bound(wanted: Wanted, bound: &Bound<'_>) -> Option<Span>
 
 #[cycle(places)]
 fn in_trait(wanted: Wanted, bound: &TraitBound<'_>) -> Option<Span>
-    ensures { result ≡ first_place wanted (names.in_trait (trait_view bound.now)) }
+    ensures { result ≡ first_place wanted (names.in_trait (tree.trait_view bound.now)) }
 {
     in_for(wanted, &bound.lifetimes).or(in_path(wanted, &bound.path))
 }
 
 #[cycle(places)]
 fn in_path(wanted: Wanted, path: &Path<'_>) -> Option<Span>
-    ensures { result ≡ first_place wanted (names.in_path (path_view path.now)) }
+    ensures { result ≡ first_place wanted (names.in_path (tree.path_view path.now)) }
 {
     in_segments(wanted, path.segments.as_slice())
 }
 
 #[cycle(places)]
 fn in_segments(wanted: Wanted, all: &[PathSegment<'_>]) -> Option<Span>
-    ensures { result ≡ first_place wanted (names.in_segments (segments_of (map segment_view all.now))) }
+    ensures { result ≡ first_place wanted (names.in_segments (tree.segments_of (map tree.segment_view all.now))) }
 {
     for item in all {
         if let Some(span) = in_segment(wanted, item) {
@@ -218,14 +202,14 @@ fn in_segments(wanted: Wanted, all: &[PathSegment<'_>]) -> Option<Span>
 
 #[cycle(places)]
 fn in_segment(wanted: Wanted, segment: &PathSegment<'_>) -> Option<Span>
-    ensures { result ≡ first_place wanted (names.in_segment (segment_view segment.now)) }
+    ensures { result ≡ first_place wanted (names.in_segment (tree.segment_view segment.now)) }
 {
     in_segment_arguments(wanted, &segment.arguments)
 }
 
 #[cycle(places)]
 fn in_segment_arguments(wanted: Wanted, arguments: &PathArguments<'_>) -> Option<Span>
-    ensures { result ≡ first_place wanted (names.in_segment_arguments (arguments_view arguments.now)) }
+    ensures { result ≡ first_place wanted (names.in_segment_arguments (tree.arguments_view arguments.now)) }
 {
     match arguments {
         PathArguments::Absent => None,
@@ -242,7 +226,7 @@ fn in_segment_arguments(wanted: Wanted, arguments: &PathArguments<'_>) -> Option
 
 #[cycle(places)]
 fn in_arguments(wanted: Wanted, all: &[GenericArgument<'_>]) -> Option<Span>
-    ensures { result ≡ first_place wanted (names.in_arguments (arguments_of (map argument_view all.now))) }
+    ensures { result ≡ first_place wanted (names.in_arguments (tree.arguments_of (map tree.argument_view all.now))) }
 {
     for item in all {
         if let Some(span) = in_argument(wanted, item) {
@@ -254,7 +238,7 @@ fn in_arguments(wanted: Wanted, all: &[GenericArgument<'_>]) -> Option<Span>
 
 #[cycle(places)]
 fn in_argument(wanted: Wanted, argument: &GenericArgument<'_>) -> Option<Span>
-    ensures { result ≡ first_place wanted (names.in_argument (argument_view argument.now)) }
+    ensures { result ≡ first_place wanted (names.in_argument (tree.argument_view argument.now)) }
 {
     match argument {
         GenericArgument::Lifetime(_) => None,

@@ -4,14 +4,7 @@
 ghost use Rattle.std.specs.Prelude.{◌≡◌, [], map};
 ghost use Rattle.std.specs.List.{list_any};
 ghost use Rattle.std.specs.Str.{bytes_eq};
-ghost use Rattle.dm_ast.specs.Declarations.{
-  field_view,
-  fields_view,
-  variant_view,
-  param_view,
-  shape_view,
-  declaration_view,
-};
+ghost use Rattle.dm_ast.specs.Declarations as tree;
 ghost use Rattle.dm_names.specs.Repeats as spec;
 
 use dm_ast::{Data, DeriveInput, Field, Fields, GenericParam, Variant};
@@ -40,7 +33,7 @@ fn is_called(name: &str, ident: &Option<Ident<'_>>) -> bool
 }
 
 fn has_field(all: &[Field<'_>], name: &str) -> bool
-    ensures { result ≡ list_any (spec.is_field_called name.now) (map field_view all.now) }
+    ensures { result ≡ list_any (spec.is_field_called name.now) (map tree.field_view all.now) }
 {
     for field in all {
         if is_called(name, &field.ident) {
@@ -51,7 +44,7 @@ fn has_field(all: &[Field<'_>], name: &str) -> bool
 }
 
 fn field_again<'a>(earlier: &[Field<'a>], field: &Field<'a>) -> Option<Span>
-    ensures { result ≡ spec.field_again (map field_view earlier.now) (field_view field.now) }
+    ensures { result ≡ spec.field_again (map tree.field_view earlier.now) (tree.field_view field.now) }
 {
     match &field.ident {
         None => None,
@@ -63,7 +56,7 @@ fn field_again<'a>(earlier: &[Field<'a>], field: &Field<'a>) -> Option<Span>
 }
 
 fn repeated_field(all: &[Field<'_>]) -> Option<Span>
-    ensures { result ≡ spec.repeats spec.field_again [] (map field_view all.now) }
+    ensures { result ≡ spec.repeats spec.field_again [] (map tree.field_view all.now) }
 {
     for (i, field) in all.iter().enumerate() {
         if let Some(span) = field_again(&all[..i], field) {
@@ -74,7 +67,7 @@ fn repeated_field(all: &[Field<'_>]) -> Option<Span>
 }
 
 fn repeated_in_fields(fields: &Fields<'_>) -> Option<Span>
-    ensures { result ≡ spec.repeated_in_fields (fields_view fields.now) }
+    ensures { result ≡ spec.repeated_in_fields (tree.fields_view fields.now) }
 {
     match fields {
         Fields::Named(all) => repeated_field(all.items.as_slice()),
@@ -84,7 +77,7 @@ fn repeated_in_fields(fields: &Fields<'_>) -> Option<Span>
 }
 
 fn has_variant(all: &[Variant<'_>], name: &str) -> bool
-    ensures { result ≡ list_any (spec.is_variant_called name.now) (map variant_view all.now) }
+    ensures { result ≡ list_any (spec.is_variant_called name.now) (map tree.variant_view all.now) }
 {
     for variant in all {
         if is_name(&variant.ident, name) {
@@ -95,7 +88,7 @@ fn has_variant(all: &[Variant<'_>], name: &str) -> bool
 }
 
 fn variant_again<'a>(earlier: &[Variant<'a>], variant: &Variant<'a>) -> Option<Span>
-    ensures { result ≡ spec.variant_again (map variant_view earlier.now) (variant_view variant.now) }
+    ensures { result ≡ spec.variant_again (map tree.variant_view earlier.now) (tree.variant_view variant.now) }
 {
     let is_there = has_variant(earlier, variant.ident.name.as_str());
     let inside = repeated_in_fields(&variant.fields);
@@ -103,7 +96,7 @@ fn variant_again<'a>(earlier: &[Variant<'a>], variant: &Variant<'a>) -> Option<S
 }
 
 fn repeated_variant(all: &[Variant<'_>]) -> Option<Span>
-    ensures { result ≡ spec.repeats spec.variant_again [] (map variant_view all.now) }
+    ensures { result ≡ spec.repeats spec.variant_again [] (map tree.variant_view all.now) }
 {
     for (i, variant) in all.iter().enumerate() {
         if let Some(span) = variant_again(&all[..i], variant) {
@@ -114,7 +107,7 @@ fn repeated_variant(all: &[Variant<'_>]) -> Option<Span>
 }
 
 fn is_lifetime_called(param: &GenericParam<'_>, name: &str) -> bool
-    ensures { result ≡ spec.is_lifetime_called name.now (param_view param.now) }
+    ensures { result ≡ spec.is_lifetime_called name.now (tree.param_view param.now) }
 {
     match param {
         GenericParam::Lifetime(p) => p.lifetime.name.as_str() == name,
@@ -124,7 +117,7 @@ fn is_lifetime_called(param: &GenericParam<'_>, name: &str) -> bool
 }
 
 fn is_type_called(param: &GenericParam<'_>, name: &str) -> bool
-    ensures { result ≡ spec.is_type_called name.now (param_view param.now) }
+    ensures { result ≡ spec.is_type_called name.now (tree.param_view param.now) }
 {
     match param {
         GenericParam::Lifetime(_) => false,
@@ -134,7 +127,7 @@ fn is_type_called(param: &GenericParam<'_>, name: &str) -> bool
 }
 
 fn has_lifetime(all: &[GenericParam<'_>], name: &str) -> bool
-    ensures { result ≡ list_any (spec.is_lifetime_called name.now) (map param_view all.now) }
+    ensures { result ≡ list_any (spec.is_lifetime_called name.now) (map tree.param_view all.now) }
 {
     for param in all {
         if is_lifetime_called(param, name) {
@@ -145,7 +138,7 @@ fn has_lifetime(all: &[GenericParam<'_>], name: &str) -> bool
 }
 
 fn has_type(all: &[GenericParam<'_>], name: &str) -> bool
-    ensures { result ≡ list_any (spec.is_type_called name.now) (map param_view all.now) }
+    ensures { result ≡ list_any (spec.is_type_called name.now) (map tree.param_view all.now) }
 {
     for param in all {
         if is_type_called(param, name) {
@@ -156,7 +149,7 @@ fn has_type(all: &[GenericParam<'_>], name: &str) -> bool
 }
 
 fn lifetime_again(earlier: &[GenericParam<'_>], lifetime: &Lifetime<'_>) -> Option<Span>
-    ensures { result ≡ spec.lifetime_again (map param_view earlier.now) lifetime.now }
+    ensures { result ≡ spec.lifetime_again (map tree.param_view earlier.now) lifetime.now }
 {
     let is_there = has_lifetime(earlier, lifetime.name.as_str());
     place_if(is_there, lifetime.span)
@@ -167,7 +160,7 @@ fn type_again(
     type_name: &Ident<'_>,
     ident: &Ident<'_>,
 ) -> Option<Span>
-    ensures { result ≡ spec.type_again type_name.now (map param_view earlier.now) ident.now }
+    ensures { result ≡ spec.type_again type_name.now (map tree.param_view earlier.now) ident.now }
 {
     let name = ident.name.as_str();
     place_if(
@@ -181,7 +174,7 @@ fn param_again<'a>(
     param: &GenericParam<'a>,
     type_name: &Ident<'_>,
 ) -> Option<Span>
-    ensures { result ≡ spec.param_again type_name.now (map param_view earlier.now) (param_view param.now) }
+    ensures { result ≡ spec.param_again type_name.now (map tree.param_view earlier.now) (tree.param_view param.now) }
 {
     match param {
         GenericParam::Lifetime(p) => lifetime_again(earlier, &p.lifetime),
@@ -191,7 +184,7 @@ fn param_again<'a>(
 }
 
 fn repeated_param(all: &[GenericParam<'_>], type_name: &Ident<'_>) -> Option<Span>
-    ensures { result ≡ spec.repeats (spec.param_again type_name.now) [] (map param_view all.now) }
+    ensures { result ≡ spec.repeats (spec.param_again type_name.now) [] (map tree.param_view all.now) }
 {
     for (i, param) in all.iter().enumerate() {
         if let Some(span) = param_again(&all[..i], param, type_name) {
@@ -202,7 +195,7 @@ fn repeated_param(all: &[GenericParam<'_>], type_name: &Ident<'_>) -> Option<Spa
 }
 
 fn repeated_in_shape(shape: &Data<'_>) -> Option<Span>
-    ensures { result ≡ spec.repeated_in_shape (shape_view shape.now) }
+    ensures { result ≡ spec.repeated_in_shape (tree.shape_view shape.now) }
 {
     match shape {
         Data::Struct(s) => repeated_in_fields(&s.fields),
@@ -213,7 +206,7 @@ fn repeated_in_shape(shape: &Data<'_>) -> Option<Span>
 
 /// The place of the first name in the text that is declared again.
 pub fn repeated_name(input: &DeriveInput<'_>) -> Option<Span>
-    ensures { result ≡ spec.repeated (declaration_view input.now) }
+    ensures { result ≡ spec.repeated (tree.declaration_view input.now) }
 {
     let params = repeated_param(input.generics.params.items.as_slice(), &input.ident);
     params.or(repeated_in_shape(&input.shape))

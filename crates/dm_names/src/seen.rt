@@ -4,14 +4,7 @@
 ghost use Rattle.std.specs.Prelude.{◌≡◌, ◌||◌, ℕ, List, [], map, IfOk, OnOk, MatchResult};
 ghost use Rattle.std.specs.Option.{option_or};
 ghost use Rattle.std.specs.Str.{bytes_eq};
-ghost use Rattle.dm_ast.specs.Declarations.{
-  field_view,
-  fields_view,
-  variant_view,
-  param_view,
-  shape_view,
-  declaration_view,
-};
+ghost use Rattle.dm_ast.specs.Declarations as tree;
 ghost use Rattle.dm_ast.specs.Names.{Named, IsNamesError};
 ghost use Rattle.dm_names.specs.Repeats as spec;
 ghost use Rattle.dm_names.specs.SeenNames.{was_seen, label_seen, param_seen};
@@ -53,7 +46,7 @@ fn see_label<'t>(
 }
 
 fn field_seen_again(alloc: Global, all: &[Field<'_>]) -> Result<Option<Span>, AllocError>
-    ensures { IfOk result (λ r. r ≡ spec.repeats spec.field_again [] (map field_view all.now)) }
+    ensures { IfOk result (λ r. r ≡ spec.repeats spec.field_again [] (map tree.field_view all.now)) }
 {
     let mut seen = HashSet::new(alloc);
     for field in all {
@@ -65,7 +58,7 @@ fn field_seen_again(alloc: Global, all: &[Field<'_>]) -> Result<Option<Span>, Al
 }
 
 fn seen_again_in_fields(alloc: Global, fields: &Fields<'_>) -> Result<Option<Span>, AllocError>
-    ensures { IfOk result (λ r. r ≡ spec.repeated_in_fields (fields_view fields.now)) }
+    ensures { IfOk result (λ r. r ≡ spec.repeated_in_fields (tree.fields_view fields.now)) }
 {
     match fields {
         Fields::Named(all) => field_seen_again(alloc, all.items.as_slice()),
@@ -81,7 +74,7 @@ fn see_variant<'t>(
     variant: &'t Variant<'_>,
     seen: &mut HashSet<&'t str>,
 ) -> Result<Option<Span>, AllocError>
-    ensures before { IfOk result (λ r. r ≡ option_or (spec.place_if (was_seen seen.old variant.now.ident.name) variant.now.ident.span) (spec.repeated_in_fields (fields_view variant.now.fields))) }
+    ensures before { IfOk result (λ r. r ≡ option_or (spec.place_if (was_seen seen.old variant.now.ident.name) variant.now.ident.span) (spec.repeated_in_fields (tree.fields_view variant.now.fields))) }
     ensures after { OnOk result ((q : List ℕ) → was_seen seen.new q ≡ (bytes_eq variant.now.ident.name q || was_seen seen.old q)) }
 {
     let is_there = see(seen, variant.ident.name.as_str())?;
@@ -90,7 +83,7 @@ fn see_variant<'t>(
 }
 
 fn variant_seen_again(alloc: Global, all: &[Variant<'_>]) -> Result<Option<Span>, AllocError>
-    ensures { IfOk result (λ r. r ≡ spec.repeats spec.variant_again [] (map variant_view all.now)) }
+    ensures { IfOk result (λ r. r ≡ spec.repeats spec.variant_again [] (map tree.variant_view all.now)) }
 {
     let mut seen = HashSet::new(alloc);
     for variant in all {
@@ -107,9 +100,9 @@ fn see_param<'t>(
     lifetimes: &mut HashSet<&'t str>,
     types: &mut HashSet<&'t str>,
 ) -> Result<Option<Span>, AllocError>
-    ensures before { IfOk result (λ r. r ≡ param_seen (was_seen lifetimes.old) (was_seen types.old) (param_view param.now)) }
-    ensures lifetimes { OnOk result ((q : List ℕ) → was_seen lifetimes.new q ≡ (spec.is_lifetime_called q (param_view param.now) || was_seen lifetimes.old q)) }
-    ensures types { OnOk result ((q : List ℕ) → was_seen types.new q ≡ (spec.is_type_called q (param_view param.now) || was_seen types.old q)) }
+    ensures before { IfOk result (λ r. r ≡ param_seen (was_seen lifetimes.old) (was_seen types.old) (tree.param_view param.now)) }
+    ensures lifetimes { OnOk result ((q : List ℕ) → was_seen lifetimes.new q ≡ (spec.is_lifetime_called q (tree.param_view param.now) || was_seen lifetimes.old q)) }
+    ensures types { OnOk result ((q : List ℕ) → was_seen types.new q ≡ (spec.is_type_called q (tree.param_view param.now) || was_seen types.old q)) }
 {
     match param {
         GenericParam::Lifetime(p) => {
@@ -132,7 +125,7 @@ fn param_seen_again(
     all: &[GenericParam<'_>],
     type_name: &Ident<'_>,
 ) -> Result<Option<Span>, AllocError>
-    ensures { IfOk result (λ r. r ≡ spec.repeats (spec.param_again type_name.now) [] (map param_view all.now)) }
+    ensures { IfOk result (λ r. r ≡ spec.repeats (spec.param_again type_name.now) [] (map tree.param_view all.now)) }
 {
     let mut lifetimes = HashSet::new(alloc);
     let mut types = HashSet::new(alloc);
@@ -146,7 +139,7 @@ fn param_seen_again(
 }
 
 fn seen_again_in_shape(alloc: Global, shape: &Data<'_>) -> Result<Option<Span>, AllocError>
-    ensures { IfOk result (λ r. r ≡ spec.repeated_in_shape (shape_view shape.now)) }
+    ensures { IfOk result (λ r. r ≡ spec.repeated_in_shape (tree.shape_view shape.now)) }
 {
     match shape {
         Data::Struct(s) => seen_again_in_fields(alloc, &s.fields),
@@ -156,7 +149,7 @@ fn seen_again_in_shape(alloc: Global, shape: &Data<'_>) -> Result<Option<Span>, 
 }
 
 fn name_seen_again(alloc: Global, input: &DeriveInput<'_>) -> Result<Option<Span>, AllocError>
-    ensures { IfOk result (λ r. r ≡ spec.repeated (declaration_view input.now)) }
+    ensures { IfOk result (λ r. r ≡ spec.repeated (tree.declaration_view input.now)) }
 {
     let all = input.generics.params.items.as_slice();
     let params = param_seen_again(alloc, all, &input.ident)?;
@@ -170,7 +163,7 @@ fn name_seen_again(alloc: Global, input: &DeriveInput<'_>) -> Result<Option<Span
 ///
 /// The refusal is the one of `check_names`. `AllocError` is want of memory; it can come in place of any answer.
 pub fn check_names_in(alloc: Global, input: &DeriveInput<'_>) -> Result<(), Error>
-    ensures { MatchResult result (λ _. Named (declaration_view input.now)) (IsNamesError (declaration_view input.now)) }
+    ensures { MatchResult result (λ _. Named (tree.declaration_view input.now)) (IsNamesError (tree.declaration_view input.now)) }
 {
     let any = in_declaration(Wanted::Either, input);
     if let Some(span) = place_of(Wanted::MacroType, any, input) {

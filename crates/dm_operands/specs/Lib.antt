@@ -1,7 +1,9 @@
 pub mod Heads
+pub mod Bodies
 pub mod Kept
 pub mod Sides
 pub mod Numerals
 pub mod Numbered
 pub mod CaseViews
 pub mod Named
+pub mod Parameters

@@ -16,6 +16,7 @@ ghost use Rattle.dm_ast.specs.Tree.{
 };
 ghost use Rattle.dm_ast.specs.Declarations.{declaration_view, param_view, predicate_view};
 ghost use Rattle.dm_ast.specs.Implementors as spec;
+ghost use Rattle.dm_operands.specs.Parameters.{chosen};
 
 use crate::heads::{name_type, plain_type};
 use crate::names::one;
@@ -90,28 +91,26 @@ fn add_if<'a>(
     Ok(())
 }
 
-fn add_lifetimes<'a>(
-    alloc: Global,
-    out: &mut Seq<GenericParam<'a>>,
-    all: &[GenericParam<'a>],
-) -> Result<(), AllocError>
-    ensures { OnOk result (map param_view out.new ≡ map param_view out.old ++ map spec.bare (filter spec.is_lifetime (map param_view all.now))) }
+fn is_chosen(param: &GenericParam<'_>, lifetimes: bool) -> bool
+    ensures { result ≡ chosen lifetimes (param_view param.now) }
 {
-    for param in all {
-        add_if(alloc, out, is_lifetime(param), param)?;
+    if lifetimes {
+        return is_lifetime(param);
     }
-    Ok(())
+    !is_lifetime(param)
 }
 
-fn add_others<'a>(
+/// Adds the lifetimes among the parameters, or the others.
+fn add_chosen<'a>(
     alloc: Global,
     out: &mut Seq<GenericParam<'a>>,
     all: &[GenericParam<'a>],
+    lifetimes: bool,
 ) -> Result<(), AllocError>
-    ensures { OnOk result (map param_view out.new ≡ map param_view out.old ++ map spec.bare (filter spec.is_other (map param_view all.now))) }
+    ensures { OnOk result (map param_view out.new ≡ map param_view out.old ++ map spec.bare (filter (chosen lifetimes) (map param_view all.now))) }
 {
     for param in all {
-        add_if(alloc, out, !is_lifetime(param), param)?;
+        add_if(alloc, out, is_chosen(param, lifetimes), param)?;
     }
     Ok(())
 }
@@ -125,21 +124,8 @@ pub fn params<'a>(
 {
     let all = input.generics.params.items.as_slice();
     let mut out = Seq::new(alloc);
-    add_lifetimes(alloc, &mut out, all)?;
-    add_others(alloc, &mut out, all)?;
-    Ok(out)
-}
-
-fn copies<'a>(
-    alloc: Global,
-    all: &[WherePredicate<'a>],
-) -> Result<Seq<WherePredicate<'a>>, AllocError>
-    ensures { IfOk result (λ ps. map predicate_view ps ≡ map predicate_view all.now) }
-{
-    let mut out = Seq::new(alloc);
-    for predicate in all {
-        out.add(predicate.clone_in(alloc)?)?;
-    }
+    add_chosen(alloc, &mut out, all, true)?;
+    add_chosen(alloc, &mut out, all, false)?;
     Ok(out)
 }
 
@@ -152,7 +138,7 @@ pub fn predicates<'a>(
 {
     match &input.generics.where_clause {
         None => Ok(Seq::new(alloc)),
-        Some(all) => copies(alloc, all.items.as_slice()),
+        Some(all) => all.items.clone_in(alloc),
     }
 }
 

@@ -1,15 +1,14 @@
 -- What holds of layouts step by step.
-use Rattle.std.specs.Prelude.{◌≡◌, ℕ, List, [], ◌∷◌, ◌++◌, Bool, true, false, codes, refl}
+use Rattle.std.specs.Prelude.{◌≡◌, ℕ, List, [], ◌∷◌, ◌++◌, Bool, true, refl}
 use Rattle.std.proofs.Common.{ap, ◌∙◌, sym, append_assoc, append-nil}
 use Rattle.dm_stream.specs.declared.tokens.Delim.{Delim}
-use Rattle.dm_stream.specs.declared.tokens.Delim.TheVariants.{Paren, Bracket, Brace}
 use Rattle.dm_stream.specs.declared.tokens.Token.{Token}
-use Rattle.dm_stream.specs.declared.tokens.Entry.{Entry}
 use Rattle.dm_stream.specs.declared.tokens.Entry.TheVariants as entry
 use Rattle.dm_stream.specs.Trees.{Trees, no_trees, token, group, join, flatten}
-use Rattle.dm_stream.specs.Layout.{Laid, laid, laid_one, laid_start, line_ended, opened, closed, layout, spaced, spelled, is_joint_punct}
+use Rattle.dm_stream.specs.Layout.{Laid, laid, laid_one, laid_start, line_ended, opened, closed, layout}
 use Rattle.std.proofs.lemmas.Grind.{common_steps}
 use Rattle.dm_layout.proofs.Layouts.{laid-group}
+use Rattle.dm_layout.proofs.Fixing.{laid-prefixed}
 use Rattle.dm_print.specs.Laying.{put, begun, done, lay}
 use Rattle.dm_output.specs.Output.{ItemTree}
 use Rattle.dm_output.specs.Tokens.{item_trees, printed}
@@ -48,38 +47,16 @@ pub ruleset token_steps = (common_steps, put-laid, begun-opened, done-closed, la
 
 -- ---- a layout behind a text
 
-abbrev prefixed : List ℕ → Laid → Laid
-prefixed x s = record { text = x ++ s.text; glued = s.glued }
-
-spaced-behind : (x t : List ℕ) (g : Bool) → spaced (record { text = x ++ t; glued = g }) ≡ x ++ spaced (record { text = t; glued = g })
-spaced-behind x t true = refl
-spaced-behind x t false = append_assoc x t (codes " ")
-
-behind : (x : List ℕ) (s : Laid) (w : List ℕ) (g : Bool) →
-    record { text = spaced (prefixed x s) ++ w; glued = g } ≡ prefixed x (record { text = spaced s ++ w; glued = g })
-behind x s w g =
-    ap (λ (l : List ℕ). record { text = l ++ w; glued = g }) (spaced-behind x s.text s.glued) ∙
-    ap (λ (l : List ℕ). record { text = l; glued = g }) (append_assoc x (spaced s) w)
-
-laid_one-prefixed : (x : List ℕ) (s : Laid) (e : Entry) → laid_one (prefixed x s) e ≡ prefixed x (laid_one s e)
-laid_one-prefixed x s (entry.Token k) = behind x s (spelled k) (is_joint_punct k)
-laid_one-prefixed x s (entry.Open Paren from n) = behind x s (codes "(") true
-laid_one-prefixed x s (entry.Open Bracket from n) = behind x s (codes "[") true
-laid_one-prefixed x s (entry.Open Brace from n) = behind x s (codes "{") false
-laid_one-prefixed x s (entry.Close Paren upto) = ap (λ (l : List ℕ). record { text = l; glued = false }) (append_assoc x s.text (codes ")"))
-laid_one-prefixed x s (entry.Close Bracket upto) = ap (λ (l : List ℕ). record { text = l; glued = false }) (append_assoc x s.text (codes "]"))
-laid_one-prefixed x s (entry.Close Brace upto) = ap (λ (l : List ℕ). record { text = l; glued = false }) (append_assoc x s.text (codes " }"))
-
-laid-prefixed : (x : List ℕ) (s : Laid) (es : List Entry) → laid (prefixed x s) es ≡ prefixed x (laid s es)
-laid-prefixed x s [] = refl
-laid-prefixed x s (e ∷ es) = ap (λ (l : Laid). laid l es) (laid_one-prefixed x s e) ∙ laid-prefixed x (laid_one s e) es
-
 -- behind a text that the next token follows with no space
 pub lay-text : (x : List ℕ) (ts : Trees) → (lay (record { text = x; glued = true }) ts).text ≡ x ++ layout ts
 lay-text x ts =
     ap (λ (l : Laid). l.text) (lay-laid (record { text = x; glued = true }) ts) ∙
     ap (λ (l : List ℕ). (laid (record { text = l; glued = true }) (flatten ts)).text) (sym (append-nil x)) ∙
     ap (λ (l : Laid). l.text) (laid-prefixed x laid_start (flatten ts))
+
+-- a text from its start
+pub laid-start : (ts : Trees) → (lay laid_start ts).text ≡ layout ts
+laid-start ts = lay-text [] ts
 
 -- an item more, and the end of its line
 pub print-step : (s : Laid) (i : ItemTree) (rest : List ItemTree) → s.glued ≡ true →

@@ -3,29 +3,7 @@
 
 ghost use Rattle.std.specs.Prelude.{◌≡◌, map, take, drop, OnOk, true, false, Some, cond, codes, ℕ, List};
 ghost use Rattle.dm_stream.specs.Trees.{join};
-ghost use Rattle.dm_ast.specs.Tree.{
-  array,
-  tuple,
-  reference,
-  pointer,
-  macro_type,
-  some_type,
-  types_of,
-  bounds_of,
-  inputs_of,
-  segments_of,
-  arguments_of,
-  ty_view,
-  node_view,
-  bound_view,
-  trait_view,
-  fn_view,
-  input_view,
-  path_view,
-  segment_view,
-  arguments_view,
-  argument_view,
-};
+ghost use Rattle.dm_ast.specs.Tree as tree;
 ghost use Rattle.dm_ast.specs.TypeTokens as spec;
 
 use crate::emit_parts::{
@@ -44,7 +22,7 @@ use std::alloc::AllocError;
 /// text. Memory is the stream's; after want of it a front of the tokens may be there.
 #[cycle(emit)]
 pub fn write_type<'a>(out: &mut TokenStream<'a>, ty: &Ty<'a>) -> Result<(), AllocError>
-    ensures added { OnOk result (out.new.trees ≡ join out.old.trees (spec.type_trees (ty_view ty.now))) }
+    ensures added { OnOk result (out.new.trees ≡ join out.old.trees (spec.type_trees (tree.ty_view ty.now))) }
     ensures limit { out.new.limit ≡ out.old.limit }
 {
     write_node(out, &ty.node, ty.span)
@@ -56,7 +34,7 @@ fn write_node<'a>(
     node: &TyNode<'a>,
     span: Span,
 ) -> Result<(), AllocError>
-    ensures added { OnOk result (out.new.trees ≡ join out.old.trees (spec.node_trees span (node_view node.now))) }
+    ensures added { OnOk result (out.new.trees ≡ join out.old.trees (spec.node_trees span (tree.node_view node.now))) }
     ensures limit { out.new.limit ≡ out.old.limit }
 {
     match node {
@@ -100,7 +78,7 @@ fn write_reference<'a>(
     inner: &Ty<'a>,
     span: Span,
 ) -> Result<(), AllocError>
-    ensures added { OnOk result (out.new.trees ≡ join out.old.trees (spec.node_trees span (reference name.now is_mut (ty_view inner.now)))) }
+    ensures added { OnOk result (out.new.trees ≡ join out.old.trees (spec.node_trees span (tree.reference name.now is_mut (tree.ty_view inner.now)))) }
     ensures limit { out.new.limit ≡ out.old.limit }
 {
     punct(out, '&', span)?;
@@ -117,7 +95,7 @@ fn write_pointer<'a>(
     inner: &Ty<'a>,
     span: Span,
 ) -> Result<(), AllocError>
-    ensures added { OnOk result (out.new.trees ≡ join out.old.trees (spec.node_trees span (pointer is_mut (ty_view inner.now)))) }
+    ensures added { OnOk result (out.new.trees ≡ join out.old.trees (spec.node_trees span (tree.pointer is_mut (tree.ty_view inner.now)))) }
     ensures limit { out.new.limit ≡ out.old.limit }
 {
     punct(out, '*', span)?;
@@ -143,7 +121,7 @@ fn write_macro<'a>(
     tokens: &TokenStream<'a>,
     span: Span,
 ) -> Result<(), AllocError>
-    ensures added { OnOk result (out.new.trees ≡ join out.old.trees (spec.node_trees span (macro_type path.now delim tokens.now))) }
+    ensures added { OnOk result (out.new.trees ≡ join out.old.trees (spec.node_trees span (tree.macro_type path.now delim tokens.now))) }
     ensures limit { out.new.limit ≡ out.old.limit }
 {
     write_plain(out, path, span)?;
@@ -157,7 +135,7 @@ fn write_enclosed<'a>(
     delim: Delim,
     inner: &Ty<'a>,
 ) -> Result<(), AllocError>
-    ensures added { OnOk result (out.new.trees ≡ join out.old.trees (spec.grouped delim (spec.type_trees (ty_view inner.now)))) }
+    ensures added { OnOk result (out.new.trees ≡ join out.old.trees (spec.grouped delim (spec.type_trees (tree.ty_view inner.now)))) }
     ensures limit { out.new.limit ≡ out.old.limit }
 {
     let mut inside = TokenStream::new(out.allocator());
@@ -172,7 +150,7 @@ fn write_array<'a>(
     size: &Opaque<'a>,
     span: Span,
 ) -> Result<(), AllocError>
-    ensures added { OnOk result (out.new.trees ≡ join out.old.trees (spec.node_trees span (array (ty_view inner.now) size.now))) }
+    ensures added { OnOk result (out.new.trees ≡ join out.old.trees (spec.node_trees span (tree.array (tree.ty_view inner.now) size.now))) }
     ensures limit { out.new.limit ≡ out.old.limit }
 {
     let mut inside = TokenStream::new(out.allocator());
@@ -189,7 +167,7 @@ fn write_tuple<'a>(
     trailing: bool,
     span: Span,
 ) -> Result<(), AllocError>
-    ensures added { OnOk result (out.new.trees ≡ join out.old.trees (spec.node_trees span (tuple (types_of (map ty_view all.now)) trailing))) }
+    ensures added { OnOk result (out.new.trees ≡ join out.old.trees (spec.node_trees span (tree.tuple (tree.types_of (map tree.ty_view all.now)) trailing))) }
     ensures limit { out.new.limit ≡ out.old.limit }
 {
     let mut inside = TokenStream::new(out.allocator());
@@ -204,7 +182,7 @@ fn write_types<'a>(
     trailing: bool,
     span: Span,
 ) -> Result<(), AllocError>
-    ensures added { OnOk result (out.new.trees ≡ join out.old.trees (spec.listed 44 span (spec.each_type (types_of (map ty_view all.now))) trailing)) }
+    ensures added { OnOk result (out.new.trees ≡ join out.old.trees (spec.listed 44 span (spec.each_type (tree.types_of (map tree.ty_view all.now))) trailing)) }
     ensures limit { out.new.limit ≡ out.old.limit }
 {
     for (i, item) in all.iter().enumerate() {
@@ -225,7 +203,7 @@ pub fn write_bounds<'a>(
     trailing: bool,
     span: Span,
 ) -> Result<(), AllocError>
-    ensures added { OnOk result (out.new.trees ≡ join out.old.trees (spec.listed 43 span (spec.each_bound span (bounds_of (map bound_view all.now))) trailing)) }
+    ensures added { OnOk result (out.new.trees ≡ join out.old.trees (spec.listed 43 span (spec.each_bound span (tree.bounds_of (map tree.bound_view all.now))) trailing)) }
     ensures limit { out.new.limit ≡ out.old.limit }
 {
     for (i, item) in all.iter().enumerate() {
@@ -243,7 +221,7 @@ pub fn write_bound<'a>(
     bound: &Bound<'a>,
     span: Span,
 ) -> Result<(), AllocError>
-    ensures added { OnOk result (out.new.trees ≡ join out.old.trees (spec.bound_trees span (bound_view bound.now))) }
+    ensures added { OnOk result (out.new.trees ≡ join out.old.trees (spec.bound_trees span (tree.bound_view bound.now))) }
     ensures limit { out.new.limit ≡ out.old.limit }
 {
     match bound {
@@ -258,7 +236,7 @@ fn write_trait_bound<'a>(
     bound: &TraitBound<'a>,
     span: Span,
 ) -> Result<(), AllocError>
-    ensures added { OnOk result (out.new.trees ≡ join out.old.trees (spec.trait_bound_trees span (trait_view bound.now))) }
+    ensures added { OnOk result (out.new.trees ≡ join out.old.trees (spec.trait_bound_trees span (tree.trait_view bound.now))) }
     ensures limit { out.new.limit ≡ out.old.limit }
 {
     let mut inside = TokenStream::new(out.allocator());
@@ -277,7 +255,7 @@ fn write_fn<'a>(
     function: &BareFn<'a>,
     span: Span,
 ) -> Result<(), AllocError>
-    ensures added { OnOk result (out.new.trees ≡ join out.old.trees (spec.fn_trees span (fn_view function.now))) }
+    ensures added { OnOk result (out.new.trees ≡ join out.old.trees (spec.fn_trees span (tree.fn_view function.now))) }
     ensures limit { out.new.limit ≡ out.old.limit }
 {
     write_for(out, &function.lifetimes, span)?;
@@ -296,7 +274,7 @@ fn write_fn<'a>(
 
 #[cycle(emit)]
 fn write_output<'a>(out: &mut TokenStream<'a>, ty: &Ty<'a>, span: Span) -> Result<(), AllocError>
-    ensures added { OnOk result (out.new.trees ≡ join out.old.trees (spec.output_trees span (some_type (ty_view ty.now)))) }
+    ensures added { OnOk result (out.new.trees ≡ join out.old.trees (spec.output_trees span (tree.some_type (tree.ty_view ty.now)))) }
     ensures limit { out.new.limit ≡ out.old.limit }
 {
     joint(out, '-', '>', span)?;
@@ -310,7 +288,7 @@ fn write_inputs<'a>(
     trailing: bool,
     span: Span,
 ) -> Result<(), AllocError>
-    ensures added { OnOk result (out.new.trees ≡ join out.old.trees (spec.listed 44 span (spec.each_input span (inputs_of (map input_view all.now))) trailing)) }
+    ensures added { OnOk result (out.new.trees ≡ join out.old.trees (spec.listed 44 span (spec.each_input span (tree.inputs_of (map tree.input_view all.now))) trailing)) }
     ensures limit { out.new.limit ≡ out.old.limit }
 {
     for (i, item) in all.iter().enumerate() {
@@ -328,7 +306,7 @@ fn write_input<'a>(
     input: &FnArg<'a>,
     span: Span,
 ) -> Result<(), AllocError>
-    ensures added { OnOk result (out.new.trees ≡ join out.old.trees (spec.input_trees span (input_view input.now))) }
+    ensures added { OnOk result (out.new.trees ≡ join out.old.trees (spec.input_trees span (tree.input_view input.now))) }
     ensures limit { out.new.limit ≡ out.old.limit }
 {
     write_attributes(out, input.attrs.as_slice())?;
@@ -343,7 +321,7 @@ pub fn write_path<'a>(
     path: &Path<'a>,
     span: Span,
 ) -> Result<(), AllocError>
-    ensures added { OnOk result (out.new.trees ≡ join out.old.trees (spec.path_trees span (path_view path.now))) }
+    ensures added { OnOk result (out.new.trees ≡ join out.old.trees (spec.path_trees span (tree.path_view path.now))) }
     ensures limit { out.new.limit ≡ out.old.limit }
 {
     colons_if(out, path.leading_colon, span)?;
@@ -357,7 +335,7 @@ fn write_self<'a>(
     qself: &QSelf<'a>,
     span: Span,
 ) -> Result<(), AllocError>
-    ensures added { OnOk result (out.new.trees ≡ join out.old.trees (join (spec.punct 60 span) (spec.type_trees (ty_view qself.now.ty)))) }
+    ensures added { OnOk result (out.new.trees ≡ join out.old.trees (join (spec.punct 60 span) (spec.type_trees (tree.ty_view qself.now.ty)))) }
     ensures limit { out.new.limit ≡ out.old.limit }
 {
     punct(out, '<', span)?;
@@ -373,7 +351,7 @@ fn write_behind_self<'a>(
     leading_colon: bool,
     span: Span,
 ) -> Result<(), AllocError>
-    ensures added { OnOk result (out.new.trees ≡ join out.old.trees (spec.behind_self_trees span position leading_colon (spec.each_segment span (segments_of (map segment_view all.now))))) }
+    ensures added { OnOk result (out.new.trees ≡ join out.old.trees (spec.behind_self_trees span position leading_colon (spec.each_segment span (tree.segments_of (map tree.segment_view all.now))))) }
     ensures limit { out.new.limit ≡ out.old.limit }
 {
     if position > 0 {
@@ -395,7 +373,7 @@ pub fn write_qualified<'a>(
     segments: &[PathSegment<'a>],
     span: Span,
 ) -> Result<(), AllocError>
-    ensures added { OnOk result (out.new.trees ≡ join out.old.trees (spec.qualified_trees span (spec.type_trees (ty_view qself.now.ty)) qself.now.position leading_colon (spec.each_segment span (segments_of (map segment_view segments.now))))) }
+    ensures added { OnOk result (out.new.trees ≡ join out.old.trees (spec.qualified_trees span (spec.type_trees (tree.ty_view qself.now.ty)) qself.now.position leading_colon (spec.each_segment span (tree.segments_of (map tree.segment_view segments.now))))) }
     ensures limit { out.new.limit ≡ out.old.limit }
 {
     write_self(out, qself, span)?;
@@ -408,7 +386,7 @@ fn write_segments<'a>(
     all: &[PathSegment<'a>],
     span: Span,
 ) -> Result<(), AllocError>
-    ensures added { OnOk result (out.new.trees ≡ join out.old.trees (spec.spaced (spec.colons span) true (spec.each_segment span (segments_of (map segment_view all.now))))) }
+    ensures added { OnOk result (out.new.trees ≡ join out.old.trees (spec.spaced (spec.colons span) true (spec.each_segment span (tree.segments_of (map tree.segment_view all.now))))) }
     ensures limit { out.new.limit ≡ out.old.limit }
 {
     for (i, segment) in all.iter().enumerate() {
@@ -428,7 +406,7 @@ fn write_first<'a>(
     position: usize,
     span: Span,
 ) -> Result<(), AllocError>
-    ensures added { OnOk result (out.new.trees ≡ join out.old.trees (spec.spaced (spec.colons span) true (take position (spec.each_segment span (segments_of (map segment_view all.now)))))) }
+    ensures added { OnOk result (out.new.trees ≡ join out.old.trees (spec.spaced (spec.colons span) true (take position (spec.each_segment span (tree.segments_of (map tree.segment_view all.now)))))) }
     ensures limit { out.new.limit ≡ out.old.limit }
 {
     for (i, segment) in all.iter().enumerate() {
@@ -451,7 +429,7 @@ fn write_later<'a>(
     position: usize,
     span: Span,
 ) -> Result<(), AllocError>
-    ensures added { OnOk result (out.new.trees ≡ join out.old.trees (spec.spaced (spec.colons span) false (drop position (spec.each_segment span (segments_of (map segment_view all.now)))))) }
+    ensures added { OnOk result (out.new.trees ≡ join out.old.trees (spec.spaced (spec.colons span) false (drop position (spec.each_segment span (tree.segments_of (map tree.segment_view all.now)))))) }
     ensures limit { out.new.limit ≡ out.old.limit }
 {
     for (i, segment) in all.iter().enumerate() {
@@ -470,7 +448,7 @@ fn write_segment<'a>(
     segment: &PathSegment<'a>,
     span: Span,
 ) -> Result<(), AllocError>
-    ensures added { OnOk result (out.new.trees ≡ join out.old.trees (spec.segment_trees span (segment_view segment.now))) }
+    ensures added { OnOk result (out.new.trees ≡ join out.old.trees (spec.segment_trees span (tree.segment_view segment.now))) }
     ensures limit { out.new.limit ≡ out.old.limit }
 {
     name(out, &segment.ident)?;
@@ -485,7 +463,7 @@ pub fn write_arguments<'a>(
     arguments: &PathArguments<'a>,
     span: Span,
 ) -> Result<(), AllocError>
-    ensures added { OnOk result (out.new.trees ≡ join out.old.trees (spec.arguments_trees span (arguments_view arguments.now))) }
+    ensures added { OnOk result (out.new.trees ≡ join out.old.trees (spec.arguments_trees span (tree.arguments_view arguments.now))) }
     ensures limit { out.new.limit ≡ out.old.limit }
 {
     match arguments {
@@ -511,7 +489,7 @@ fn write_angle<'a>(
     trailing: bool,
     span: Span,
 ) -> Result<(), AllocError>
-    ensures added { OnOk result (out.new.trees ≡ join out.old.trees (spec.angle_trees span (spec.each_argument span (arguments_of (map argument_view all.now))) trailing)) }
+    ensures added { OnOk result (out.new.trees ≡ join out.old.trees (spec.angle_trees span (spec.each_argument span (tree.arguments_of (map tree.argument_view all.now))) trailing)) }
     ensures limit { out.new.limit ≡ out.old.limit }
 {
     punct(out, '<', span)?;
@@ -526,7 +504,7 @@ fn write_angle_items<'a>(
     trailing: bool,
     span: Span,
 ) -> Result<(), AllocError>
-    ensures added { OnOk result (out.new.trees ≡ join out.old.trees (spec.listed 44 span (spec.each_argument span (arguments_of (map argument_view all.now))) trailing)) }
+    ensures added { OnOk result (out.new.trees ≡ join out.old.trees (spec.listed 44 span (spec.each_argument span (tree.arguments_of (map tree.argument_view all.now))) trailing)) }
     ensures limit { out.new.limit ≡ out.old.limit }
 {
     for (i, item) in all.iter().enumerate() {
@@ -545,7 +523,7 @@ fn write_equal_type<'a>(
     ty: &Ty<'a>,
     span: Span,
 ) -> Result<(), AllocError>
-    ensures added { OnOk result (out.new.trees ≡ join out.old.trees (join (spec.punct 61 span) (spec.type_trees (ty_view ty.now)))) }
+    ensures added { OnOk result (out.new.trees ≡ join out.old.trees (join (spec.punct 61 span) (spec.type_trees (tree.ty_view ty.now)))) }
     ensures limit { out.new.limit ≡ out.old.limit }
 {
     punct(out, '=', span)?;
@@ -572,7 +550,7 @@ fn write_argument<'a>(
     argument: &GenericArgument<'a>,
     span: Span,
 ) -> Result<(), AllocError>
-    ensures added { OnOk result (out.new.trees ≡ join out.old.trees (spec.argument_trees span (argument_view argument.now))) }
+    ensures added { OnOk result (out.new.trees ≡ join out.old.trees (spec.argument_trees span (tree.argument_view argument.now))) }
     ensures limit { out.new.limit ≡ out.old.limit }
 {
     match argument {
@@ -614,7 +592,7 @@ fn write_constraint<'a>(
     trailing: bool,
     span: Span,
 ) -> Result<(), AllocError>
-    ensures added { OnOk result (out.new.trees ≡ join out.old.trees (join (spec.punct 58 span) (spec.listed 43 span (spec.each_bound span (bounds_of (map bound_view all.now))) trailing))) }
+    ensures added { OnOk result (out.new.trees ≡ join out.old.trees (join (spec.punct 58 span) (spec.listed 43 span (spec.each_bound span (tree.bounds_of (map tree.bound_view all.now))) trailing))) }
     ensures limit { out.new.limit ≡ out.old.limit }
 {
     punct(out, ':', span)?;

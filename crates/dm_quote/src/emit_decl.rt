@@ -8,17 +8,7 @@ ghost use Rattle.dm_stream.specs.Trees.{join};
 ghost use Rattle.dm_ast.specs.declared.decl.GenericParam.TheVariants as params;
 ghost use Rattle.dm_ast.specs.Tree.{bound_view, ty_view};
 ghost use Rattle.dm_ast.specs.TypeTokens as types;
-ghost use Rattle.dm_ast.specs.Declarations.{
-  listed,
-  field_view,
-  fields_view,
-  variant_view,
-  shape_view,
-  param_view,
-  predicate_view,
-  generics_view,
-  declaration_view,
-};
+ghost use Rattle.dm_ast.specs.Declarations as tree;
 ghost use Rattle.dm_ast.specs.DeclarationTokens as spec;
 
 use crate::emit::{write_bounds, write_type};
@@ -89,7 +79,7 @@ fn write_colon_bounds<'a>(
     out: &mut TokenStream<'a>,
     bounds: &Option<Punctuated<Bound<'a>>>,
 ) -> Result<(), AllocError>
-    ensures added { OnOk result (out.new.trees ≡ join out.old.trees (spec.colon_bounds_trees (option_map (listed bound_view) bounds.now))) }
+    ensures added { OnOk result (out.new.trees ≡ join out.old.trees (spec.colon_bounds_trees (option_map (tree.listed bound_view) bounds.now))) }
     ensures limit { out.new.limit ≡ out.old.limit }
 {
     match bounds {
@@ -137,7 +127,7 @@ fn write_lifetime_param<'a>(
     out: &mut TokenStream<'a>,
     param: &LifetimeParam<'a>,
 ) -> Result<(), AllocError>
-    ensures added { OnOk result (out.new.trees ≡ join out.old.trees (spec.param_trees (param_view (params.Lifetime param.now)))) }
+    ensures added { OnOk result (out.new.trees ≡ join out.old.trees (spec.param_trees (tree.param_view (params.Lifetime param.now)))) }
     ensures limit { out.new.limit ≡ out.old.limit }
 {
     write_attributes(out, param.attrs.as_slice())?;
@@ -146,7 +136,7 @@ fn write_lifetime_param<'a>(
 }
 
 fn write_type_param<'a>(out: &mut TokenStream<'a>, param: &TyParam<'a>) -> Result<(), AllocError>
-    ensures added { OnOk result (out.new.trees ≡ join out.old.trees (spec.param_trees (param_view (params.Ty param.now)))) }
+    ensures added { OnOk result (out.new.trees ≡ join out.old.trees (spec.param_trees (tree.param_view (params.Ty param.now)))) }
     ensures limit { out.new.limit ≡ out.old.limit }
 {
     write_attributes(out, param.attrs.as_slice())?;
@@ -159,7 +149,7 @@ fn write_const_param<'a>(
     out: &mut TokenStream<'a>,
     param: &ConstParam<'a>,
 ) -> Result<(), AllocError>
-    ensures added { OnOk result (out.new.trees ≡ join out.old.trees (spec.param_trees (param_view (params.Const param.now)))) }
+    ensures added { OnOk result (out.new.trees ≡ join out.old.trees (spec.param_trees (tree.param_view (params.Const param.now)))) }
     ensures limit { out.new.limit ≡ out.old.limit }
 {
     write_attributes(out, param.attrs.as_slice())?;
@@ -171,7 +161,7 @@ fn write_const_param<'a>(
 }
 
 impl<'a> Item<'a> for GenericParam<'a> {
-    ghost trees_of = { λ x. spec.param_trees (param_view x) };
+    ghost trees_of = { λ x. spec.param_trees (tree.param_view x) };
 
     fn write(&self, out: &mut TokenStream<'a>) -> Result<(), AllocError> {
         match self {
@@ -183,7 +173,7 @@ impl<'a> Item<'a> for GenericParam<'a> {
 }
 
 fn write_params<'a>(out: &mut TokenStream<'a>, generics: &Generics<'a>) -> Result<(), AllocError>
-    ensures added { OnOk result (out.new.trees ≡ join out.old.trees (spec.params_trees (generics_view generics.now))) }
+    ensures added { OnOk result (out.new.trees ≡ join out.old.trees (spec.params_trees (tree.generics_view generics.now))) }
     ensures limit { out.new.limit ≡ out.old.limit }
 {
     if !generics.angled {
@@ -195,7 +185,7 @@ fn write_params<'a>(out: &mut TokenStream<'a>, generics: &Generics<'a>) -> Resul
 }
 
 impl<'a> Item<'a> for WherePredicate<'a> {
-    ghost trees_of = { λ x. spec.predicate_trees (predicate_view x) };
+    ghost trees_of = { λ x. spec.predicate_trees (tree.predicate_view x) };
 
     fn write(&self, out: &mut TokenStream<'a>) -> Result<(), AllocError> {
         match self {
@@ -218,7 +208,7 @@ fn write_where<'a>(
     out: &mut TokenStream<'a>,
     clause: &Option<Punctuated<WherePredicate<'a>>>,
 ) -> Result<(), AllocError>
-    ensures added { OnOk result (out.new.trees ≡ join out.old.trees (spec.where_trees (option_map (listed predicate_view) clause.now))) }
+    ensures added { OnOk result (out.new.trees ≡ join out.old.trees (spec.where_trees (option_map (tree.listed tree.predicate_view) clause.now))) }
     ensures limit { out.new.limit ≡ out.old.limit }
 {
     match clause {
@@ -231,7 +221,7 @@ fn write_where<'a>(
 }
 
 impl<'a> Item<'a> for Field<'a> {
-    ghost trees_of = { λ x. spec.field_trees (field_view x) };
+    ghost trees_of = { λ x. spec.field_trees (tree.field_view x) };
 
     fn write(&self, out: &mut TokenStream<'a>) -> Result<(), AllocError> {
         write_attributes(out, self.attrs.as_slice())?;
@@ -247,7 +237,7 @@ fn write_enclosed_fields<'a>(
     delim: Delim,
     fields: &Punctuated<Field<'a>>,
 ) -> Result<(), AllocError>
-    ensures added { OnOk result (out.new.trees ≡ join out.old.trees (types.grouped delim (spec.field_list_trees (listed field_view fields.now)))) }
+    ensures added { OnOk result (out.new.trees ≡ join out.old.trees (types.grouped delim (spec.field_list_trees (tree.listed tree.field_view fields.now)))) }
     ensures limit { out.new.limit ≡ out.old.limit }
 {
     let mut inside = TokenStream::new(out.allocator());
@@ -256,7 +246,7 @@ fn write_enclosed_fields<'a>(
 }
 
 fn write_fields<'a>(out: &mut TokenStream<'a>, fields: &Fields<'a>) -> Result<(), AllocError>
-    ensures added { OnOk result (out.new.trees ≡ join out.old.trees (spec.fields_trees (fields_view fields.now))) }
+    ensures added { OnOk result (out.new.trees ≡ join out.old.trees (spec.fields_trees (tree.fields_view fields.now))) }
     ensures limit { out.new.limit ≡ out.old.limit }
 {
     match fields {
@@ -284,7 +274,7 @@ fn write_discriminant<'a>(
 }
 
 impl<'a> Item<'a> for Variant<'a> {
-    ghost trees_of = { λ x. spec.variant_trees (variant_view x) };
+    ghost trees_of = { λ x. spec.variant_trees (tree.variant_view x) };
 
     fn write(&self, out: &mut TokenStream<'a>) -> Result<(), AllocError> {
         write_attributes(out, self.attrs.as_slice())?;
@@ -299,7 +289,7 @@ fn write_enclosed_variants<'a>(
     out: &mut TokenStream<'a>,
     variants: &Punctuated<Variant<'a>>,
 ) -> Result<(), AllocError>
-    ensures added { OnOk result (out.new.trees ≡ join out.old.trees (types.grouped Brace (spec.variant_list_trees (listed variant_view variants.now)))) }
+    ensures added { OnOk result (out.new.trees ≡ join out.old.trees (types.grouped Brace (spec.variant_list_trees (tree.listed tree.variant_view variants.now)))) }
     ensures limit { out.new.limit ≡ out.old.limit }
 {
     let mut inside = TokenStream::new(out.allocator());
@@ -313,7 +303,7 @@ fn write_struct_body<'a>(
     clause: &Option<Punctuated<WherePredicate<'a>>>,
     fields: &Fields<'a>,
 ) -> Result<(), AllocError>
-    ensures added { OnOk result (out.new.trees ≡ join out.old.trees (spec.struct_body_trees (option_map (listed predicate_view) clause.now) (fields_view fields.now))) }
+    ensures added { OnOk result (out.new.trees ≡ join out.old.trees (spec.struct_body_trees (option_map (tree.listed tree.predicate_view) clause.now) (tree.fields_view fields.now))) }
     ensures limit { out.new.limit ≡ out.old.limit }
 {
     match fields {
@@ -341,7 +331,7 @@ fn write_head<'a>(
     ident: &Ident<'a>,
     generics: &Generics<'a>,
 ) -> Result<(), AllocError>
-    ensures added { OnOk result (out.new.trees ≡ join out.old.trees (spec.head_trees text.now range ident.now (generics_view generics.now))) }
+    ensures added { OnOk result (out.new.trees ≡ join out.old.trees (spec.head_trees text.now range ident.now (tree.generics_view generics.now))) }
     ensures limit { out.new.limit ≡ out.old.limit }
 {
     word(out, text, range)?;
@@ -355,7 +345,7 @@ fn write_shape<'a>(
     generics: &Generics<'a>,
     shape: &Data<'a>,
 ) -> Result<(), AllocError>
-    ensures added { OnOk result (out.new.trees ≡ join out.old.trees (spec.shape_trees ident.now (generics_view generics.now) (shape_view shape.now))) }
+    ensures added { OnOk result (out.new.trees ≡ join out.old.trees (spec.shape_trees ident.now (tree.generics_view generics.now) (tree.shape_view shape.now))) }
     ensures limit { out.new.limit ≡ out.old.limit }
 {
     match shape {
@@ -381,7 +371,7 @@ pub fn write_declaration<'a>(
     out: &mut TokenStream<'a>,
     input: &DeriveInput<'a>,
 ) -> Result<(), AllocError>
-    ensures added { OnOk result (out.new.trees ≡ join out.old.trees (spec.declaration_trees (declaration_view input.now))) }
+    ensures added { OnOk result (out.new.trees ≡ join out.old.trees (spec.declaration_trees (tree.declaration_view input.now))) }
     ensures limit { out.new.limit ≡ out.old.limit }
 {
     write_attributes(out, input.attrs.as_slice())?;

@@ -55,6 +55,11 @@ covers_then {ts} {mid} {others} {m} {k} a b =
 pub covers_none : (ts : Trees) → Covers ts ts []
 covers_none ts = record { front = []; splits = refl; ranges = refl }
 
+-- where nothing stands
+nothing_read : {A : Type 0} (S : A → Spelling) (ts : Trees) (x : A) → S x ts ts [] → ((y : A) (o : Trees) (m : Marks) → S y ts o m → Same x ts [] y o m) →
+    IsRead S ts x ts
+nothing_read S ts x s only = record { marks = []; spelled = s; within = refl; covers = covers_none ts; only = only }
+
 behind : (b : Bool) (s : Span) (r q : Option Span) → cond b (Some s) r ≡ None → (r ≡ None → q ≡ q) → cond b (Some s) q ≡ q
 behind true s r q h k = absurd (cc)
 behind false s r q h k = refl
@@ -296,13 +301,7 @@ module _ (begins : Trees → Bool) (part : Spelling) (p : Parser (Unit {0})) whe
   reads_flag there h ts =
       decides_test (λ b. flag begins b part) ts (begins ts) (mapped (const_at true) (p ts)) (Ok (false, ts))
       (λ e. decides_by (const_at true) (λ _. part) (λ b. flag begins b part) ts (λ _ o m s. s) (flag_back ts e) (p ts) (h ts))
-      (λ e. record {
-        marks = [];
-        spelled = record { part = record { spelled = refl; marks = refl }; fact = e };
-        within = refl;
-        covers = covers_none ts;
-        only = flag_only there ts e;
-      })
+      (λ e. nothing_read (λ b. flag begins b part) ts false (record { part = record { spelled = refl; marks = refl }; fact = e }) (flag_only there ts e))
 
 abbrev pub some : {A : Type 0} → A → Option A
 some a = Some a
@@ -322,10 +321,4 @@ module _ {A : Type 0} (begins : Trees → Bool) (part : A → Spelling) (p : Par
   reads_perhaps there h ts =
       decides_test (λ b. perhaps begins b part) ts (begins ts) (mapped some (p ts)) (Ok (None, ts))
       (λ e. decides_by some part (λ b. perhaps begins b part) ts (λ _ o m s. s) (perhaps_back ts e) (p ts) (h ts))
-      (λ e. record {
-        marks = [];
-        spelled = record { part = record { spelled = refl; marks = refl }; fact = e };
-        within = refl;
-        covers = covers_none ts;
-        only = perhaps_only there ts e;
-      })
+      (λ e. nothing_read (λ b. perhaps begins b part) ts None (record { part = record { spelled = refl; marks = refl }; fact = e }) (perhaps_only there ts e))

@@ -72,13 +72,13 @@ pub sees_no_lifetime : (ts : Trees) → first_lifetime ts ≡ None → sees_life
 sees_no_lifetime (token (t.Lifetime q) rest) e = absurd (cc)
 sees_no_lifetime _ e = refl
 
-pub sees_some_literal : (ts us : Trees) (l : Literal) → first_literal ts ≡ Some (l, us) → sees_literal ts ≡ true
-sees_some_literal (token (t.Literal q) rest) us l e = refl
-sees_some_literal _ us l e = absurd (cc)
-
 pub sees_no_literal : (ts : Trees) → first_literal ts ≡ None → sees_literal ts ≡ false
 sees_no_literal (token (t.Literal q) rest) e = absurd (cc)
 sees_no_literal _ e = refl
+
+pub sees_some_literal : (ts us : Trees) (l : Literal) → first_literal ts ≡ Some (l, us) → sees_literal ts ≡ true
+sees_some_literal (token (t.Literal q) rest) us l e = refl
+sees_some_literal _ us l e = absurd (cc)
 
 group_found : (b : Bool) (d : Delim) (inside rest us vs : Trees) (upto : Span) (n : ℕ) → group_if b inside upto rest ≡ Some (us, n, vs) → b ≡ true
 group_found true d inside rest us vs upto n e = refl
@@ -127,12 +127,12 @@ truth_no_ident _ e = refl
 
 pub ruleset truth_steps = (common_steps, truth_ident, truth_no_ident)
 
-pub path_word_ident : (ts us : Trees) (i : Ident) → first_ident ts ≡ Some (i, us) → sees_path_word ts ≡ is_path_word i
-path_word_ident ts us i e = ap sees_path_word (ident_front ts us i e)
-
 pub path_word_no_ident : (ts : Trees) → first_ident ts ≡ None → sees_path_word ts ≡ false
 path_word_no_ident (token (t.Ident q) rest) e = absurd (cc)
 path_word_no_ident _ e = refl
+
+pub path_word_ident : (ts us : Trees) (i : Ident) → first_ident ts ≡ Some (i, us) → sees_path_word ts ≡ is_path_word i
+path_word_ident ts us i e = ap sees_path_word (ident_front ts us i e)
 
 pub ruleset path_word_steps = (common_steps, path_word_ident, path_word_no_ident)
 

@@ -14,6 +14,7 @@ use Rattle.dm_stream.specs.Cursors.{front_span, first_ident, first_lifetime, fir
 use Rattle.dm_ast.specs.Spelling.{Where, Marks, Spelling, deepest, first_too_deep, Provided, TokenAt, ident, lifetime, literal, punct, keyword, sees, sees_word, sees_lifetime, sees_literal, is_word}
 use Rattle.dm_ast.specs.Readers.{too_deep_at, refuse, if_level, if_found, read_found, if_ident, read_ident, read_any, read_lifetime, read_literal, read_seen, tail, read_punct, read_word}
 use Rattle.dm_read.proofs.Deciding.{Covers, Same, Decides, Reader, decides_test, pair}
+use Rattle.dm_read.proofs.Seeing.{ident_front}
 
 -- ---- levels
 
@@ -91,6 +92,22 @@ module _ (w : Where) (S : Spelling) (test : Trees → Bool) (after : Trees → T
       }))
       (λ e _ o m s. let f = is.seen ts o m s in absurd (cc))
 
+-- where the spelling is that of one token
+one_seen : (w : Where) (S : Spelling) (test : Trees → Bool) → ((ts : Trees) → test ts ≡ true → (m : Marks) × (S ts (tail ts) m)) →
+    ((ts o : Trees) (m : Marks) → S ts o m → test ts ≡ true) → ((ts o : Trees) (m : Marks) → S ts o m → (k : t.the_data) × (TokenAt w k ts o m)) →
+    IsSeen w S test tail
+one_seen w S test there seen one = record {
+  there = there;
+  seen = seen;
+  left = λ ts o m s. sym (ap tail (one ts o m s).1.spelled);
+  same = λ ts o p m k s r.
+      let a = one ts o m s in
+      let b = one ts p k r in
+      token_marks w a.0 ts o m a.1 ∙ sym (token_marks w b.0 ts p k b.1);
+  covers = λ ts o m s. token_covers w (one ts o m s).0 ts o m (one ts o m s).1;
+  level = λ ts o m s. ap first_too_deep (token_marks w (one ts o m s).0 ts o m (one ts o m s).1);
+}
+
 -- ---- each kind of token
 
 if_some : {A : Type 0} (b : Bool) (x y : A) → (if b then Some x else None) ≡ Some y → (b ≡ true) × (x ≡ y)
@@ -119,56 +136,38 @@ module _ (test : Ident → Bool) (w : Where) where
         covers = λ i ts o m s. token_covers w (t.Ident i) ts o m s.part;
       })
 
-any_there : (w : Where) (ts : Trees) (i : Ident) (us : Trees) → first_ident ts ≡ Some (i, us) → ident w i ts us ((w.level, front_span ts w.limit) ∷ [])
-any_there w (token (t.Ident k) rest) i us e =
-    let a : pair k rest ≡ pair i us = cc in
-    record { spelled = ap₂ (λ x y. token (t.Ident x) y) (ap (λ v. v.0) a) (ap (λ v. v.1) a); marks = ap (λ v. (w.level, v.0.span) ∷ []) a }
-any_there w _ i us e = absurd (cc)
+-- a kind of token that a function finds wherever one stands first
+module _ {A : Type 0} (w : Where) (make : A → t.the_data) (first : Trees → Option (A × Trees)) (here : (x : A) (o : Trees) → first (token (make x) o) ≡ Some (pair x o))
+    (front : (ts us : Trees) (x : A) → first ts ≡ Some (x, us) → ts ≡ token (make x) us) where
+  reads_kind : Reader (λ x. TokenAt w (make x)) (read_found first w)
+  reads_kind =
+      reads_found w (λ x. TokenAt w (make x)) first
+      (record {
+        there = λ ts x us e. record { spelled = front ts us x e; marks = ap (λ v. (w.level, front_span v w.limit) ∷ []) (front ts us x e) };
+        found = λ x ts o m s. ap first s.spelled ∙ here x o;
+        marks = λ x ts o m s. token_marks w (make x) ts o m s;
+        covers = λ x ts o m s. token_covers w (make x) ts o m s;
+      })
+
+lifetime_front : (ts us : Trees) (l : Lifetime) → first_lifetime ts ≡ Some (l, us) → ts ≡ token (t.Lifetime l) us
+lifetime_front (token (t.Lifetime k) rest) us l e = let a : pair k rest ≡ pair l us = cc in ap (λ v. token (t.Lifetime v.0) v.1) a
+lifetime_front _ us l e = absurd (cc)
+
+literal_front : (ts us : Trees) (l : Literal) → first_literal ts ≡ Some (l, us) → ts ≡ token (t.Literal l) us
+literal_front (token (t.Literal k) rest) us l e = let a : pair k rest ≡ pair l us = cc in ap (λ v. token (t.Literal v.0) v.1) a
+literal_front _ us l e = absurd (cc)
 
 pub reads_any : (w : Where) → Reader (ident w) (read_any w)
-reads_any w =
-    reads_found w (ident w) first_ident
-    (record {
-      there = any_there w;
-      found = λ i ts o m s. ap first_ident s.spelled;
-      marks = λ i ts o m s. token_marks w (t.Ident i) ts o m s;
-      covers = λ i ts o m s. token_covers w (t.Ident i) ts o m s;
-    })
-
-lifetime_there : (w : Where) (ts : Trees) (l : Lifetime) (us : Trees) → first_lifetime ts ≡ Some (l, us) → lifetime w l ts us ((w.level, front_span ts w.limit) ∷ [])
-lifetime_there w (token (t.Lifetime k) rest) l us e =
-    let a : pair k rest ≡ pair l us = cc in
-    record { spelled = ap₂ (λ x y. token (t.Lifetime x) y) (ap (λ v. v.0) a) (ap (λ v. v.1) a); marks = ap (λ v. (w.level, v.0.span) ∷ []) a }
-lifetime_there w _ l us e = absurd (cc)
+reads_any w = reads_kind w (λ i. t.Ident i) first_ident (λ i o. refl) ident_front
 
 pub reads_lifetime : (w : Where) → Reader (lifetime w) (read_lifetime w)
-reads_lifetime w =
-    reads_found w (lifetime w) first_lifetime
-    (record {
-      there = lifetime_there w;
-      found = λ l ts o m s. ap first_lifetime s.spelled;
-      marks = λ l ts o m s. token_marks w (t.Lifetime l) ts o m s;
-      covers = λ l ts o m s. token_covers w (t.Lifetime l) ts o m s;
-    })
+reads_lifetime w = reads_kind w (λ l. t.Lifetime l) first_lifetime (λ l o. refl) lifetime_front
+
+pub reads_literal : (w : Where) → Reader (literal w) (read_literal w)
+reads_literal w = reads_kind w (λ l. t.Literal l) first_literal (λ l o. refl) literal_front
 
 pub lifetime_seen : (w : Where) (l : Lifetime) (ts o : Trees) (m : Marks) → lifetime w l ts o m → sees_lifetime ts ≡ true
 lifetime_seen w l ts o m s = ap sees_lifetime s.spelled
-
-literal_there : (w : Where) (ts : Trees) (l : Literal) (us : Trees) → first_literal ts ≡ Some (l, us) → literal w l ts us ((w.level, front_span ts w.limit) ∷ [])
-literal_there w (token (t.Literal k) rest) l us e =
-    let a : pair k rest ≡ pair l us = cc in
-    record { spelled = ap₂ (λ x y. token (t.Literal x) y) (ap (λ v. v.0) a) (ap (λ v. v.1) a); marks = ap (λ v. (w.level, v.0.span) ∷ []) a }
-literal_there w _ l us e = absurd (cc)
-
-pub reads_literal : (w : Where) → Reader (literal w) (read_literal w)
-reads_literal w =
-    reads_found w (literal w) first_literal
-    (record {
-      there = literal_there w;
-      found = λ l ts o m s. ap first_literal s.spelled;
-      marks = λ l ts o m s. token_marks w (t.Literal l) ts o m s;
-      covers = λ l ts o m s. token_covers w (t.Literal l) ts o m s;
-    })
 
 pub literal_seen : (w : Where) (l : Literal) (ts o : Trees) (m : Marks) → literal w l ts o m → sees_literal ts ≡ true
 literal_seen w l ts o m s = ap sees_literal s.spelled
@@ -196,14 +195,7 @@ module _ (c : ℕ) (w : Where) where
   pub reads_punct : Reader (λ (_ : Unit {0}). punct w c) (read_punct c w)
   reads_punct =
       reads_seen w (punct w c) (sees c) tail
-      (record {
-        there = punct_there;
-        seen = punct_seen;
-        left = λ ts o m s. sym (ap tail s.there.spelled);
-        same = λ ts o p m k s r. token_marks w (t.Punct s.punct) ts o m s.there ∙ sym (token_marks w (t.Punct r.punct) ts p k r.there);
-        covers = λ ts o m s. token_covers w (t.Punct s.punct) ts o m s.there;
-        level = λ ts o m s. ap first_too_deep (token_marks w (t.Punct s.punct) ts o m s.there);
-      })
+      (one_seen w (punct w c) (sees c) punct_there punct_seen (λ ts o m s. (t.Punct s.punct, s.there)))
 
 abbrev pub the_word : List ℕ → Span → Ident
 the_word word range = record { name = word; raw = false; span = range }
@@ -228,12 +220,4 @@ module _ (word : List ℕ) (w : Where) where
   pub reads_word : Reader (λ (_ : Unit {0}). keyword w word) (read_word word w)
   reads_word =
       reads_seen w (keyword w word) (sees_word word) tail
-      (record {
-        there = word_there;
-        seen = word_seen;
-        left = λ ts o m s. sym (ap tail s.there.spelled);
-        same = λ ts o p m k s r.
-            token_marks w (t.Ident (the_word word s.range)) ts o m s.there ∙ sym (token_marks w (t.Ident (the_word word r.range)) ts p k r.there);
-        covers = λ ts o m s. token_covers w (t.Ident (the_word word s.range)) ts o m s.there;
-        level = λ ts o m s. ap first_too_deep (token_marks w (t.Ident (the_word word s.range)) ts o m s.there);
-      })
+      (one_seen w (keyword w word) (sees_word word) word_there word_seen (λ ts o m s. (t.Ident (the_word word s.range), s.there)))

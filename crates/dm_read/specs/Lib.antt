@@ -2,3 +2,4 @@ pub mod DeclarationReaders
 pub mod Deep
 pub mod Links
 pub mod Stops
+pub mod Words

@@ -7,14 +7,14 @@ ghost use Rattle.dm_ast.specs.PlainReaders as plain;
 ghost use Rattle.dm_ast.specs.Readers.{place, Reads};
 
 use crate::parts::kept_in;
-use crate::token::{literal, punct, sees, sees_group, sees_literal};
+use crate::token::{Found, literal, punct, sees, sees_group, sees_literal};
 use crate::words::{is_truth, name, truth};
 use dm_ast::ConstArg;
-use dm_stream::{Cursor, Delim, Error, Literal};
+use dm_stream::{Cursor, Delim, Literal};
 use std::alloc::Global;
 
 /// `-` where it comes next.
-fn minus<'t, 'a>(level: usize, c: Cursor<'t, 'a>) -> Result<(bool, Cursor<'t, 'a>), Error>
+fn minus<'t, 'a>(level: usize, c: Cursor<'t, 'a>) -> Found<'t, 'a, bool>
     requires { sound c }
     ensures reads { Reads (λ b. b) (plain.read_minus (place level c.entry) (left c.entry)) result }
     ensures place { IfOk result (λ r. SharesEnd c.entry r.1) }
@@ -31,7 +31,7 @@ fn signed<'t, 'a>(
     alloc: Global,
     level: usize,
     c: Cursor<'t, 'a>,
-) -> Result<((bool, Literal<'a>), Cursor<'t, 'a>), Error>
+) -> Found<'t, 'a, (bool, Literal<'a>)>
     requires { sound c }
     ensures reads { Reads (λ v. v) (plain.read_signed (place level c.entry) (left c.entry)) result }
     ensures place { IfOk result (λ r. SharesEnd c.entry r.1) }
@@ -59,7 +59,7 @@ pub fn constant<'t, 'a>(
     alloc: Global,
     level: usize,
     c: Cursor<'t, 'a>,
-) -> Result<(ConstArg<'a>, Cursor<'t, 'a>), Error>
+) -> Found<'t, 'a, ConstArg<'a>>
     requires here { sound c }
     requires fits { level < 1000 }
     ensures reads { Reads (λ v. v) (plain.read_constant (place level c.entry) (left c.entry)) result }

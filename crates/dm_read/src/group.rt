@@ -10,16 +10,12 @@ ghost use Rattle.dm_ast.specs.Readers as spec;
 ghost use Rattle.dm_ast.specs.PlainReaders as plain;
 ghost use Rattle.dm_ast.specs.Readers.{place, Opens};
 
-use crate::token::{at_end, refused, sees_group, too_deep};
+use crate::token::{Found, at_end, refused, sees_group, too_deep};
 use dm_stream::{Cursor, DEEPEST, Delim, Error};
 
 /// The inside of a group with this delimiter, and what follows the group.
 #[tactic(auto, using(crate::proofs::Opening::opening_steps))]
-pub fn open<'t, 'a>(
-    delim: Delim,
-    level: usize,
-    c: Cursor<'t, 'a>,
-) -> Result<(Cursor<'t, 'a>, Cursor<'t, 'a>), Error>
+pub fn open<'t, 'a>(delim: Delim, level: usize, c: Cursor<'t, 'a>) -> Found<'t, 'a, Cursor<'t, 'a>>
     requires { sound c }
     ensures opens { Opens (spec.open_group delim (place level c.entry) (left c.entry)) result }
     ensures inside { IfOk result (λ r. sound r.0) }

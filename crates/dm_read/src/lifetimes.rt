@@ -9,8 +9,8 @@ ghost use Rattle.dm_read.specs.DeclarationReaders.{read_lifetime_bounds};
 ghost use Rattle.dm_ast.specs.Readers.{place, Reads};
 
 use crate::list::{Rule, Stop, listed};
-use crate::token::{lifetime, punct, sees_word, word};
-use dm_stream::{Cursor, Error, Lifetime, Punctuated};
+use crate::token::{Found, lifetime, punct, sees_word, word};
+use dm_stream::{Cursor, Lifetime, Punctuated};
 use std::alloc::Global;
 
 /// A lifetime.
@@ -32,11 +32,7 @@ impl<'a> Rule<'a> for LifetimeRule {
 
     ghost reader = { λ _ w. spec.read_lifetime w };
 
-    fn read<'t>(
-        &self,
-        level: usize,
-        c: Cursor<'t, 'a>,
-    ) -> Result<(Lifetime<'a>, Cursor<'t, 'a>), Error> {
+    fn read<'t>(&self, level: usize, c: Cursor<'t, 'a>) -> Found<'t, 'a, Lifetime<'a>> {
         let (found, rest) = lifetime(level, c)?;
         let own = found.clone_in(self.alloc)?;
         Ok((own, rest))
@@ -49,7 +45,7 @@ fn lifetimes<'t, 'a>(
     alloc: Global,
     level: usize,
     c: Cursor<'t, 'a>,
-) -> Result<(Punctuated<Lifetime<'a>>, Cursor<'t, 'a>), Error>
+) -> Found<'t, 'a, Punctuated<Lifetime<'a>>>
     requires { sound c }
     ensures reads { Reads (λ l. l) (plain.read_lifetimes (place level c.entry) (left c.entry)) result }
     ensures place { IfOk result (λ r. SharesEnd c.entry r.1) }
@@ -62,7 +58,7 @@ fn some_for<'t, 'a>(
     alloc: Global,
     level: usize,
     c: Cursor<'t, 'a>,
-) -> Result<(Punctuated<Lifetime<'a>>, Cursor<'t, 'a>), Error>
+) -> Found<'t, 'a, Punctuated<Lifetime<'a>>>
     requires here { sound c }
     requires fits { level < 1000 }
     ensures reads { Reads (λ l. l) (plain.read_some_for (place level c.entry) (left c.entry)) result }
@@ -80,7 +76,7 @@ pub fn for_lifetimes<'t, 'a>(
     alloc: Global,
     level: usize,
     c: Cursor<'t, 'a>,
-) -> Result<(Option<Punctuated<Lifetime<'a>>>, Cursor<'t, 'a>), Error>
+) -> Found<'t, 'a, Option<Punctuated<Lifetime<'a>>>>
     requires here { sound c }
     requires fits { level < 1000 }
     ensures reads { Reads (λ l. l) (plain.read_for (place level c.entry) (left c.entry)) result }
@@ -99,7 +95,7 @@ pub fn lifetime_bounds<'t, 'a>(
     alloc: Global,
     level: usize,
     c: Cursor<'t, 'a>,
-) -> Result<(Punctuated<Lifetime<'a>>, Cursor<'t, 'a>), Error>
+) -> Found<'t, 'a, Punctuated<Lifetime<'a>>>
     requires { sound c }
     ensures reads { Reads (λ ls. ls) (read_lifetime_bounds (place level c.entry) (left c.entry)) result }
     ensures place { IfOk result (λ r. SharesEnd c.entry r.1) }

@@ -10,7 +10,9 @@ ghost use Rattle.dm_ast.specs.Readers.{place, Reads};
 ghost use Rattle.dm_ast.specs.Readers.{Passes, ◌next◌};
 ghost use Rattle.dm_read.specs.Stops.{stops, list_view, begins_link, reads_link};
 
-use crate::token::{at_end, colons, punct, refused, sees, sees_colons, sees_group, sees_lifetime};
+use crate::token::{
+    Found, at_end, colons, punct, refused, sees, sees_colons, sees_group, sees_lifetime,
+};
 use crate::words::sees_bound;
 use dm_stream::{Cursor, Delim, Error, Punctuated, Seq};
 use std::alloc::Global;
@@ -30,11 +32,7 @@ pub trait Rule<'a> {
 
     ghost reader: { Self → Where → Trees → Result (Tree × Trees) Refusal };
 
-    fn read<'t>(
-        &self,
-        level: usize,
-        c: Cursor<'t, 'a>,
-    ) -> Result<(Self::Part, Cursor<'t, 'a>), Error>
+    fn read<'t>(&self, level: usize, c: Cursor<'t, 'a>) -> Found<'t, 'a, Self::Part>
         requires here { sound c }
         requires can { usable self.now level }
         ensures reads { Reads view (reader self.now (place level c.entry) (left c.entry)) result }
@@ -77,7 +75,7 @@ pub fn listed<'t, 'a, R: Rule<'a>>(
     stop: Stop,
     level: usize,
     c: Cursor<'t, 'a>,
-) -> Result<(Punctuated<R::Part>, Cursor<'t, 'a>), Error>
+) -> Found<'t, 'a, Punctuated<R::Part>>
     requires here { sound c }
     requires can { R.usable rule.now level }
     ensures reads { Reads (list_view R.view) (spec.read_list (place level c.entry) separator (stops stop) (R.reader rule.now (place level c.entry)) (left c.entry)) result }
@@ -143,7 +141,7 @@ fn linked<'t, 'a, R: Rule<'a>>(
     link: Link,
     level: usize,
     c: Cursor<'t, 'a>,
-) -> Result<(R::Part, Cursor<'t, 'a>), Error>
+) -> Found<'t, 'a, R::Part>
     requires here { sound c }
     requires can { R.usable rule.now level }
     ensures reads { Reads R.view ((reads_link link (place level c.entry) next R.reader rule.now (place level c.entry)) (left c.entry)) result }
@@ -160,7 +158,7 @@ fn continued<'t, 'a, R: Rule<'a>>(
     level: usize,
     begun: Seq<R::Part>,
     c: Cursor<'t, 'a>,
-) -> Result<(Seq<R::Part>, Cursor<'t, 'a>), Error>
+) -> Found<'t, 'a, Seq<R::Part>>
     requires here { sound c }
     requires can { R.usable rule.now level }
     ensures reads { Reads (map R.view) (spec.read_repeated (place level c.entry) (begins_link link) (reads_link link (place level c.entry) next R.reader rule.now (place level c.entry)) (map R.view begun) (left c.entry)) result }
@@ -186,7 +184,7 @@ pub fn chained<'t, 'a, R: Rule<'a>>(
     link: Link,
     level: usize,
     c: Cursor<'t, 'a>,
-) -> Result<(Seq<R::Part>, Cursor<'t, 'a>), Error>
+) -> Found<'t, 'a, Seq<R::Part>>
     requires here { sound c }
     requires can { R.usable rule.now level }
     ensures reads { Reads (map R.view) (spec.read_chain (place level c.entry) (reads_link link (place level c.entry)) (begins_link link) (R.reader rule.now (place level c.entry)) (left c.entry)) result }

@@ -11,9 +11,11 @@ use crate::group::{close, delim, open};
 use crate::list::{Link, Rule, chained};
 use crate::range::range_between;
 use crate::rest::rest_of;
-use crate::token::{at_end, colons, equals, ident, punct, refused, sees, sees_colons, sees_equals};
+use crate::token::{
+    Found, at_end, colons, equals, ident, punct, refused, sees, sees_colons, sees_equals,
+};
 use dm_ast::{AttrArgs, Attribute, Opaque, PlainPath};
-use dm_stream::{Cursor, Delim, Error, Ident, Seq, TokenStream};
+use dm_stream::{Cursor, Delim, Ident, Seq, TokenStream};
 use std::alloc::Global;
 
 /// Identifiers of any kind.
@@ -35,11 +37,7 @@ impl<'a> Rule<'a> for IdentRule {
 
     ghost reader = { λ _ w. spec.read_any w };
 
-    fn read<'t>(
-        &self,
-        level: usize,
-        c: Cursor<'t, 'a>,
-    ) -> Result<(Ident<'a>, Cursor<'t, 'a>), Error> {
+    fn read<'t>(&self, level: usize, c: Cursor<'t, 'a>) -> Found<'t, 'a, Ident<'a>> {
         let (found, rest) = ident(level, c)?;
         let own = found.clone_in(self.alloc)?;
         Ok((own, rest))
@@ -47,7 +45,7 @@ impl<'a> Rule<'a> for IdentRule {
 }
 
 /// `::` where it comes next.
-pub fn leading<'t, 'a>(level: usize, c: Cursor<'t, 'a>) -> Result<(bool, Cursor<'t, 'a>), Error>
+pub fn leading<'t, 'a>(level: usize, c: Cursor<'t, 'a>) -> Found<'t, 'a, bool>
     requires { sound c }
     ensures reads { Reads (λ b. b) (plain.read_leading (place level c.entry) (left c.entry)) result }
     ensures place { IfOk result (λ r. SharesEnd c.entry r.1) }
@@ -61,11 +59,7 @@ pub fn leading<'t, 'a>(level: usize, c: Cursor<'t, 'a>) -> Result<(bool, Cursor<
 
 /// Identifiers with `::` between.
 #[tactic(auto, using(crate::proofs::Mapped::mapped_steps))]
-fn idents<'t, 'a>(
-    alloc: Global,
-    level: usize,
-    c: Cursor<'t, 'a>,
-) -> Result<(Seq<Ident<'a>>, Cursor<'t, 'a>), Error>
+fn idents<'t, 'a>(alloc: Global, level: usize, c: Cursor<'t, 'a>) -> Found<'t, 'a, Seq<Ident<'a>>>
     requires { sound c }
     ensures reads { Reads (λ l. l) (plain.read_idents (place level c.entry) (left c.entry)) result }
     ensures place { IfOk result (λ r. SharesEnd c.entry r.1) }
@@ -78,7 +72,7 @@ pub fn plain_path<'t, 'a>(
     alloc: Global,
     level: usize,
     c: Cursor<'t, 'a>,
-) -> Result<(PlainPath<'a>, Cursor<'t, 'a>), Error>
+) -> Found<'t, 'a, PlainPath<'a>>
     requires { sound c }
     ensures reads { Reads (λ p. p) (plain.read_plain (place level c.entry) (left c.entry)) result }
     ensures place { IfOk result (λ r. SharesEnd c.entry r.1) }
@@ -100,7 +94,7 @@ pub fn kept_in<'t, 'a>(
     delim: Delim,
     level: usize,
     c: Cursor<'t, 'a>,
-) -> Result<(TokenStream<'a>, Cursor<'t, 'a>), Error>
+) -> Found<'t, 'a, TokenStream<'a>>
     requires here { sound c }
     requires fits { level < 1000 }
     ensures reads { Reads (λ s. s) (spec.read_group delim spec.read_rest (place level c.entry) (left c.entry)) result }
@@ -117,7 +111,7 @@ pub fn kept<'t, 'a>(
     alloc: Global,
     level: usize,
     c: Cursor<'t, 'a>,
-) -> Result<((Delim, TokenStream<'a>), Cursor<'t, 'a>), Error>
+) -> Found<'t, 'a, (Delim, TokenStream<'a>)>
     requires here { sound c }
     requires fits { level < 1000 }
     ensures reads { Reads (λ v. v) (plain.read_kept (place level c.entry) (left c.entry)) result }
@@ -131,11 +125,7 @@ pub fn kept<'t, 'a>(
 }
 
 /// All that is left, one tree at least.
-pub fn opaque<'t, 'a>(
-    alloc: Global,
-    level: usize,
-    c: Cursor<'t, 'a>,
-) -> Result<(Opaque<'a>, Cursor<'t, 'a>), Error>
+pub fn opaque<'t, 'a>(alloc: Global, level: usize, c: Cursor<'t, 'a>) -> Found<'t, 'a, Opaque<'a>>
     requires { sound c }
     ensures reads { Reads (λ o. o) (plain.read_opaque (place level c.entry) (left c.entry)) result }
     ensures place { IfOk result (λ r. SharesEnd c.entry r.1) }
@@ -148,11 +138,7 @@ pub fn opaque<'t, 'a>(
 }
 
 /// `= TOKENS`.
-fn value<'t, 'a>(
-    alloc: Global,
-    level: usize,
-    c: Cursor<'t, 'a>,
-) -> Result<(Opaque<'a>, Cursor<'t, 'a>), Error>
+fn value<'t, 'a>(alloc: Global, level: usize, c: Cursor<'t, 'a>) -> Found<'t, 'a, Opaque<'a>>
     requires { sound c }
     ensures reads { Reads (λ o. o) (plain.read_value (place level c.entry) (left c.entry)) result }
     ensures place { IfOk result (λ r. SharesEnd c.entry r.1) }
@@ -162,11 +148,7 @@ fn value<'t, 'a>(
 }
 
 /// What follows the path of an attribute.
-fn arguments<'t, 'a>(
-    alloc: Global,
-    level: usize,
-    c: Cursor<'t, 'a>,
-) -> Result<(AttrArgs<'a>, Cursor<'t, 'a>), Error>
+fn arguments<'t, 'a>(alloc: Global, level: usize, c: Cursor<'t, 'a>) -> Found<'t, 'a, AttrArgs<'a>>
     requires here { sound c }
     requires fits { level < 1000 }
     ensures reads { Reads (λ a. a) (plain.read_args (place level c.entry) (left c.entry)) result }
@@ -188,7 +170,7 @@ fn inside<'t, 'a>(
     alloc: Global,
     level: usize,
     c: Cursor<'t, 'a>,
-) -> Result<((PlainPath<'a>, AttrArgs<'a>), Cursor<'t, 'a>), Error>
+) -> Found<'t, 'a, (PlainPath<'a>, AttrArgs<'a>)>
     requires here { sound c }
     requires fits { level < 1000 }
     ensures reads { Reads (λ v. v) (plain.read_inside (place level c.entry) (left c.entry)) result }
@@ -204,7 +186,7 @@ fn bracketed<'t, 'a>(
     alloc: Global,
     level: usize,
     c: Cursor<'t, 'a>,
-) -> Result<((PlainPath<'a>, AttrArgs<'a>), Cursor<'t, 'a>), Error>
+) -> Found<'t, 'a, (PlainPath<'a>, AttrArgs<'a>)>
     requires here { sound c }
     requires fits { level < 999 }
     ensures reads { Reads (λ v. v) (plain.read_bracketed (place level c.entry) (left c.entry)) result }
@@ -222,7 +204,7 @@ pub fn attribute<'t, 'a>(
     alloc: Global,
     level: usize,
     c: Cursor<'t, 'a>,
-) -> Result<(Attribute<'a>, Cursor<'t, 'a>), Error>
+) -> Found<'t, 'a, Attribute<'a>>
     requires here { sound c }
     requires fits { level < 999 }
     ensures reads { Reads (λ a. a) (plain.read_attribute (place level c.entry) (left c.entry)) result }
@@ -238,7 +220,7 @@ pub fn attributes<'t, 'a>(
     alloc: Global,
     level: usize,
     c: Cursor<'t, 'a>,
-) -> Result<(Seq<Attribute<'a>>, Cursor<'t, 'a>), Error>
+) -> Found<'t, 'a, Seq<Attribute<'a>>>
     requires here { sound c }
     requires fits { level < 999 }
     ensures reads { Reads (λ l. l) (plain.read_attributes (place level c.entry) (left c.entry)) result }

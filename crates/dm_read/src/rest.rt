@@ -7,8 +7,8 @@ ghost use Rattle.dm_ast.specs.Readers as spec;
 ghost use Rattle.dm_ast.specs.Readers.{place, Reads};
 ghost use Rattle.dm_read.specs.Deep as deep;
 
-use crate::token::too_deep;
-use dm_stream::{Cursor, DEEPEST, Entry, Error, Span, Token, TokenStream};
+use crate::token::{Found, too_deep};
+use dm_stream::{Cursor, DEEPEST, Entry, Span, Token, TokenStream};
 use std::alloc::Global;
 
 /// The range of an entry.
@@ -69,7 +69,7 @@ pub fn rest_of<'t, 'a>(
     alloc: Global,
     level: usize,
     c: Cursor<'t, 'a>,
-) -> Result<(TokenStream<'a>, Cursor<'t, 'a>), Error>
+) -> Found<'t, 'a, TokenStream<'a>>
     requires { sound c }
     ensures reads { Reads (λ s. s) (spec.read_rest (place level c.entry) (left c.entry)) result }
     ensures place { IfOk result (λ r. SharesEnd c.entry r.1) }

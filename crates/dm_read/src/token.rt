@@ -13,6 +13,9 @@ use dm_stream::{
     Cursor, DEEPEST, Delim, Error, Ident, Kind, Lifetime, Literal, Refusal, Spacing, Span,
 };
 
+/// What was read, and the place behind it.
+pub type Found<'t, 'a, T> = Result<(T, Cursor<'t, 'a>), Error>;
+
 /// The refusal of the next token, or of the end.
 pub fn refused(c: Cursor<'_, '_>) -> Error
     requires { sound c }
@@ -257,10 +260,7 @@ pub fn equals<'t, 'a>(level: usize, c: Cursor<'t, 'a>) -> Result<Cursor<'t, 'a>,
 }
 
 /// Any identifier.
-pub fn ident<'t, 'a>(
-    level: usize,
-    c: Cursor<'t, 'a>,
-) -> Result<(&'t Ident<'a>, Cursor<'t, 'a>), Error>
+pub fn ident<'t, 'a>(level: usize, c: Cursor<'t, 'a>) -> Found<'t, 'a, &'t Ident<'a>>
     requires { sound c }
     ensures reads { Reads (λ i. i.now) (spec.read_any (place level c.entry) (left c.entry)) result }
     ensures place { IfOk result (λ r. SharesEnd c.entry r.1) }
@@ -274,10 +274,7 @@ pub fn ident<'t, 'a>(
     Ok((ident, rest))
 }
 
-pub fn lifetime<'t, 'a>(
-    level: usize,
-    c: Cursor<'t, 'a>,
-) -> Result<(&'t Lifetime<'a>, Cursor<'t, 'a>), Error>
+pub fn lifetime<'t, 'a>(level: usize, c: Cursor<'t, 'a>) -> Found<'t, 'a, &'t Lifetime<'a>>
     requires { sound c }
     ensures reads { Reads (λ l. l.now) (spec.read_lifetime (place level c.entry) (left c.entry)) result }
     ensures place { IfOk result (λ r. SharesEnd c.entry r.1) }
@@ -291,10 +288,7 @@ pub fn lifetime<'t, 'a>(
     Ok((lifetime, rest))
 }
 
-pub fn literal<'t, 'a>(
-    level: usize,
-    c: Cursor<'t, 'a>,
-) -> Result<(&'t Literal<'a>, Cursor<'t, 'a>), Error>
+pub fn literal<'t, 'a>(level: usize, c: Cursor<'t, 'a>) -> Found<'t, 'a, &'t Literal<'a>>
     requires { sound c }
     ensures reads { Reads (λ l. l.now) (spec.read_literal (place level c.entry) (left c.entry)) result }
     ensures place { IfOk result (λ r. SharesEnd c.entry r.1) }

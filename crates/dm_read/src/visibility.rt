@@ -12,9 +12,9 @@ ghost use Rattle.dm_ast.specs.PlainReaders as plain;
 use crate::group::{close, open};
 use crate::macro_call::{behind_colons, behind_idents};
 use crate::parts::plain_path;
-use crate::token::{at_end, is_word, sees_word, word};
+use crate::token::{Found, at_end, is_word, sees_word, word};
 use dm_ast::{PlainPath, Vis};
-use dm_stream::{Cursor, Delim, Error};
+use dm_stream::{Cursor, Delim};
 use std::alloc::Global;
 
 /// Whether a path of identifiers is all that is left.
@@ -60,11 +60,7 @@ fn sees_restriction(c: Cursor<'_, '_>) -> bool
 }
 
 /// `in` and a path.
-fn in_path<'t, 'a>(
-    alloc: Global,
-    level: usize,
-    c: Cursor<'t, 'a>,
-) -> Result<(PlainPath<'a>, Cursor<'t, 'a>), Error>
+fn in_path<'t, 'a>(alloc: Global, level: usize, c: Cursor<'t, 'a>) -> Found<'t, 'a, PlainPath<'a>>
     requires { sound c }
     ensures reads { Reads (λ p. p) ((spec.read_word (codes "in") (place level c.entry) next plain.read_plain (place level c.entry)) (left c.entry)) result }
     ensures place { IfOk result (λ r. SharesEnd c.entry r.1) }
@@ -74,11 +70,7 @@ fn in_path<'t, 'a>(
 }
 
 /// The inside of a restriction.
-fn within<'t, 'a>(
-    alloc: Global,
-    level: usize,
-    c: Cursor<'t, 'a>,
-) -> Result<(Vis<'a>, Cursor<'t, 'a>), Error>
+fn within<'t, 'a>(alloc: Global, level: usize, c: Cursor<'t, 'a>) -> Found<'t, 'a, Vis<'a>>
     requires { sound c }
     ensures reads { Reads (λ v. v) (plain.read_within (place level c.entry) (left c.entry)) result }
     ensures place { IfOk result (λ r. SharesEnd c.entry r.1) }
@@ -100,11 +92,7 @@ fn within<'t, 'a>(
 }
 
 /// What follows `pub`.
-fn restriction<'t, 'a>(
-    alloc: Global,
-    level: usize,
-    c: Cursor<'t, 'a>,
-) -> Result<(Vis<'a>, Cursor<'t, 'a>), Error>
+fn restriction<'t, 'a>(alloc: Global, level: usize, c: Cursor<'t, 'a>) -> Found<'t, 'a, Vis<'a>>
     requires here { sound c }
     requires fits { level < 1000 }
     ensures reads { Reads (λ v. v) (plain.read_restriction (place level c.entry) (left c.entry)) result }
@@ -120,11 +108,7 @@ fn restriction<'t, 'a>(
 }
 
 /// `pub` and what follows.
-fn some_visibility<'t, 'a>(
-    alloc: Global,
-    level: usize,
-    c: Cursor<'t, 'a>,
-) -> Result<(Vis<'a>, Cursor<'t, 'a>), Error>
+fn some_visibility<'t, 'a>(alloc: Global, level: usize, c: Cursor<'t, 'a>) -> Found<'t, 'a, Vis<'a>>
     requires here { sound c }
     requires fits { level < 1000 }
     ensures reads { Reads (λ v. v) ((spec.read_word (codes "pub") (place level c.entry) next plain.read_restriction (place level c.entry)) (left c.entry)) result }
@@ -139,7 +123,7 @@ pub fn visibility<'t, 'a>(
     alloc: Global,
     level: usize,
     c: Cursor<'t, 'a>,
-) -> Result<(Option<Vis<'a>>, Cursor<'t, 'a>), Error>
+) -> Found<'t, 'a, Option<Vis<'a>>>
     requires here { sound c }
     requires fits { level < 1000 }
     ensures reads { Reads (λ v. v) (plain.read_visibility (place level c.entry) (left c.entry)) result }

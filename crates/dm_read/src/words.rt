@@ -7,12 +7,13 @@ ghost use Rattle.dm_ast.specs.Keywords as spells;
 ghost use Rattle.dm_ast.specs.TypeGrammar as grammar;
 ghost use Rattle.dm_ast.specs.Readers as spec;
 ghost use Rattle.dm_ast.specs.Readers.{place, Reads};
+ghost use Rattle.dm_read.specs.Words as words;
 
 use crate::token::{
-    behind_two, is_word, refused, sees, sees_colon, sees_colons, sees_group, sees_lifetime,
+    Found, behind_two, is_word, refused, sees, sees_colon, sees_colons, sees_group, sees_lifetime,
     sees_word, too_deep,
 };
-use dm_stream::{Cursor, DEEPEST, Delim, Error, Ident};
+use dm_stream::{Cursor, DEEPEST, Delim, Ident};
 
 /// The words that are no name unless `r#` stands before them (Rust Reference, Keywords).
 const KEYWORDS: [&str; 51] = [
@@ -28,6 +29,15 @@ pub fn is_name(ident: &Ident<'_>) -> bool
     ensures { result ≡ spells.is_name ident.now }
 {
     !ident.name.is_same("_") && (ident.raw || !is_keyword(ident.name.as_str()))
+}
+
+/// A name.
+pub fn name<'t, 'a>(level: usize, c: Cursor<'t, 'a>) -> Found<'t, 'a, &'t Ident<'a>>
+    requires { sound c }
+    ensures reads { Reads (λ i. i.now) (spec.read_ident spells.is_name (place level c.entry) (left c.entry)) result }
+    ensures place { IfOk result (λ r. SharesEnd c.entry r.1) }
+{
+    ident_where(Fitting::Name, level, c)
 }
 
 // The shortest keywords have two letters, and the longest eight.
@@ -68,48 +78,6 @@ pub fn is_truth(ident: &Ident<'_>) -> bool
     is_word("true", ident) || is_word("false", ident)
 }
 
-/// A name.
-pub fn name<'t, 'a>(
-    level: usize,
-    c: Cursor<'t, 'a>,
-) -> Result<(&'t Ident<'a>, Cursor<'t, 'a>), Error>
-    requires { sound c }
-    ensures reads { Reads (λ i. i.now) (spec.read_ident spells.is_name (place level c.entry) (left c.entry)) result }
-    ensures place { IfOk result (λ r. SharesEnd c.entry r.1) }
-{
-    let Some((ident, rest)) = c.ident() else {
-        return Err(refused(c));
-    };
-    if !is_name(ident) {
-        return Err(refused(c));
-    }
-    if level > DEEPEST {
-        return Err(too_deep(c.front()));
-    }
-    Ok((ident, rest))
-}
-
-/// `true` or `false`.
-pub fn truth<'t, 'a>(
-    level: usize,
-    c: Cursor<'t, 'a>,
-) -> Result<(&'t Ident<'a>, Cursor<'t, 'a>), Error>
-    requires { sound c }
-    ensures reads { Reads (λ i. i.now) (spec.read_ident grammar.is_truth (place level c.entry) (left c.entry)) result }
-    ensures place { IfOk result (λ r. SharesEnd c.entry r.1) }
-{
-    let Some((ident, rest)) = c.ident() else {
-        return Err(refused(c));
-    };
-    if !is_truth(ident) {
-        return Err(refused(c));
-    }
-    if level > DEEPEST {
-        return Err(too_deep(c.front()));
-    }
-    Ok((ident, rest))
-}
-
 /// Whether an identifier that may stand in a path of a type comes next.
 #[tactic(auto, using(crate::proofs::Seeing::path_word_steps))]
 pub fn sees_path_word(c: Cursor<'_, '_>) -> bool
@@ -120,6 +88,15 @@ pub fn sees_path_word(c: Cursor<'_, '_>) -> bool
         Some((ident, _)) => is_path_word(ident),
         None => false,
     }
+}
+
+/// An identifier of a path of a type.
+pub fn path_word<'t, 'a>(level: usize, c: Cursor<'t, 'a>) -> Found<'t, 'a, &'t Ident<'a>>
+    requires { sound c }
+    ensures reads { Reads (λ i. i.now) (spec.read_ident grammar.is_path_word (place level c.entry) (left c.entry)) result }
+    ensures place { IfOk result (λ r. SharesEnd c.entry r.1) }
+{
+    ident_where(Fitting::PathWord, level, c)
 }
 
 /// Whether a bound comes next.
@@ -144,6 +121,52 @@ pub fn sees_named(c: Cursor<'_, '_>) -> bool
     }
 }
 
+/// Which identifiers may stand at a place.
+#[derive(Clone, Copy)]
+pub enum Fitting {
+    /// Names.
+    Name,
+    /// Those of a path of a type.
+    PathWord,
+    /// `true` and `false`.
+    Truth,
+    /// Names of parameters.
+    InputName,
+}
+
+fn fits(fitting: Fitting, ident: &Ident<'_>) -> bool
+    ensures { result ≡ words.fits fitting ident.now }
+{
+    match fitting {
+        Fitting::Name => is_name(ident),
+        Fitting::PathWord => is_path_word(ident),
+        Fitting::Truth => is_truth(ident),
+        Fitting::InputName => is_input_name(ident),
+    }
+}
+
+/// An identifier that fits.
+fn ident_where<'t, 'a>(
+    fitting: Fitting,
+    level: usize,
+    c: Cursor<'t, 'a>,
+) -> Found<'t, 'a, &'t Ident<'a>>
+    requires { sound c }
+    ensures reads { Reads (λ i. i.now) (spec.read_ident (words.fits fitting) (place level c.entry) (left c.entry)) result }
+    ensures place { IfOk result (λ r. SharesEnd c.entry r.1) }
+{
+    let Some((ident, rest)) = c.ident() else {
+        return Err(refused(c));
+    };
+    if !fits(fitting, ident) {
+        return Err(refused(c));
+    }
+    if level > DEEPEST {
+        return Err(too_deep(c.front()));
+    }
+    Ok((ident, rest))
+}
+
 /// Whether an identifier may name a parameter.
 pub fn is_input_name(ident: &Ident<'_>) -> bool
     ensures { result ≡ grammar.is_input_name ident.now }
@@ -152,45 +175,21 @@ pub fn is_input_name(ident: &Ident<'_>) -> bool
 }
 
 /// A name of a parameter.
-pub fn input_name<'t, 'a>(
-    level: usize,
-    c: Cursor<'t, 'a>,
-) -> Result<(&'t Ident<'a>, Cursor<'t, 'a>), Error>
+pub fn input_name<'t, 'a>(level: usize, c: Cursor<'t, 'a>) -> Found<'t, 'a, &'t Ident<'a>>
     requires { sound c }
     ensures reads { Reads (λ i. i.now) (spec.read_ident grammar.is_input_name (place level c.entry) (left c.entry)) result }
     ensures place { IfOk result (λ r. SharesEnd c.entry r.1) }
 {
-    let Some((ident, rest)) = c.ident() else {
-        return Err(refused(c));
-    };
-    if !is_input_name(ident) {
-        return Err(refused(c));
-    }
-    if level > DEEPEST {
-        return Err(too_deep(c.front()));
-    }
-    Ok((ident, rest))
+    ident_where(Fitting::InputName, level, c)
 }
 
-/// An identifier of a path of a type.
-pub fn path_word<'t, 'a>(
-    level: usize,
-    c: Cursor<'t, 'a>,
-) -> Result<(&'t Ident<'a>, Cursor<'t, 'a>), Error>
+/// `true` or `false`.
+pub fn truth<'t, 'a>(level: usize, c: Cursor<'t, 'a>) -> Found<'t, 'a, &'t Ident<'a>>
     requires { sound c }
-    ensures reads { Reads (λ i. i.now) (spec.read_ident grammar.is_path_word (place level c.entry) (left c.entry)) result }
+    ensures reads { Reads (λ i. i.now) (spec.read_ident grammar.is_truth (place level c.entry) (left c.entry)) result }
     ensures place { IfOk result (λ r. SharesEnd c.entry r.1) }
 {
-    let Some((ident, rest)) = c.ident() else {
-        return Err(refused(c));
-    };
-    if !is_path_word(ident) {
-        return Err(refused(c));
-    }
-    if level > DEEPEST {
-        return Err(too_deep(c.front()));
-    }
-    Ok((ident, rest))
+    ident_where(Fitting::Truth, level, c)
 }
 
 /// Whether `::` and `<` come next.

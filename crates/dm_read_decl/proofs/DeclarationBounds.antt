@@ -10,9 +10,9 @@ use Rattle.dm_read.specs.DeclarationReaders.{to_listed, read_bound_list}
 use Rattle.dm_read.proofs.Deciding.{Reader, pair}
 use Rattle.dm_read.proofs.Tokens.{punct_seen}
 use Rattle.dm_read.proofs.Groups.{pair_seen}
-use Rattle.dm_read_types.proofs.Listing.{reads_list}
-use Rattle.dm_read_types.proofs.PlainParts.{reads_by}
-use Rattle.dm_read_types.proofs.TypeLists as lists
+use Rattle.dm_read_paths.proofs.Listing.{reads_list}
+use Rattle.dm_read_paths.proofs.PlainParts.{reads_by}
+use Rattle.dm_read_paths.proofs.TypeLists as lists
 use Rattle.dm_read_decl.proofs.TypeFronts.{Begins, behind_flag, behind_perhaps}
 
 -- ---- the first token of a bound

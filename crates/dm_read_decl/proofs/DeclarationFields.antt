@@ -16,8 +16,8 @@ use Rattle.dm_ast.specs.Readers.{Parser, ◌and◌, ◌till◌, ◌gives◌, rea
 use Rattle.dm_read.specs.DeclarationReaders.{Parts, to_field, to_slot, to_variant, read_name, read_listed, read_field, read_slot, read_fields, read_slots, read_variant_fields, read_discriminant, read_variant, read_variants}
 use Rattle.dm_read.proofs.Deciding.{Same, Reader, Image, Both, covers_none, decides_by, decides_test, nothing_same, pair, reads_and, reads_till}
 use Rattle.dm_read.proofs.Groups.{group_seen, reads_group}
-use Rattle.dm_read_types.proofs.Listing.{reads_ranged}
-use Rattle.dm_read_types.proofs.PlainParts.{reads_by}
+use Rattle.dm_read_paths.proofs.Listing.{reads_ranged}
+use Rattle.dm_read_paths.proofs.PlainParts.{reads_by}
 use Rattle.dm_read_decl.proofs.TypeFronts.{Begins, behind_perhaps, behind_repeated, type_front, type_no_end}
 use Rattle.dm_read_decl.proofs.DeclarationParts.{AreDecided, WithRange, both_ways, reads_name, reads_listed}
 use Rattle.dm_read_decl.proofs.DeclarationGenerics.{reads_colon, behind_equals}

@@ -18,9 +18,10 @@ use Rattle.dm_read.specs.DeclarationReaders.{Parts, read_name, read_listed, read
 use Rattle.dm_read.proofs.Deciding.{Decides, Reader, Image, Bound, Both, decides_bind, decides_by, decides_iff, decides_test, pair, reads_and, reads_next, reads_perhaps}
 use Rattle.dm_read.proofs.Tokens.{reads_lifetime, lifetime_seen, punct_seen, reads_word, word_seen}
 use Rattle.dm_read.proofs.Groups.{reads_lone, lone_seen}
-use Rattle.dm_read_types.proofs.PlainParts.{reads_by, reads_angles}
+use Rattle.dm_read_paths.proofs.PlainParts.{reads_by, reads_angles}
 use Rattle.dm_read_decl.proofs.TypeFronts.{Begins, behind_perhaps, behind_repeated, type_front, type_no_lifetime, type_no_where_end}
 use Rattle.dm_read_decl.proofs.DeclarationParts.{AreDecided, reads_either, both_ways, reads_name, name_no_word, const_keyword, reads_listed, reads_lifetime_bounds}
+use Rattle.dm_read_paths.proofs.Sequences.{then_with}
 
 -- ---- parts behind a lone `:` or `=`
 
@@ -167,11 +168,11 @@ module _ (Run : Opaque → Where → Spelling) (p : Parts) (is : AreDecided Run 
 
     param_back : (ts : Trees) (y : ParamTree) (o : Trees) (m : Marks) → param y w ts o m → Bound (attributes w) (Param w) y ts o m
     param_back ts (lifetime_param as' l bs) o m s =
-        record { value = as'; parts = record { middle = s.middle; first_marks = s.first_marks; rest_marks = s.rest_marks; first = s.first; rest = record { fact = refl; part = s.rest }; marks = s.marks } }
+        record { value = as'; parts = then_with s (record { fact = refl; part = s.rest }) }
     param_back ts (type_param as' i bs default) o m s =
-        record { value = as'; parts = record { middle = s.middle; first_marks = s.first_marks; rest_marks = s.rest_marks; first = s.first; rest = record { fact = refl; part = s.rest }; marks = s.marks } }
+        record { value = as'; parts = then_with s (record { fact = refl; part = s.rest }) }
     param_back ts (const_param as' i ty default) o m s =
-        record { value = as'; parts = record { middle = s.middle; first_marks = s.first_marks; rest_marks = s.rest_marks; first = s.first; rest = record { fact = refl; part = s.rest }; marks = s.marks } }
+        record { value = as'; parts = then_with s (record { fact = refl; part = s.rest }) }
 
     pub reads_param : Reader (λ x. param x w) (read_param p w)
     reads_param ts =

@@ -17,8 +17,8 @@ use Rattle.dm_ast.specs.PlainReaders.{punctuated}
 use Rattle.dm_read.specs.DeclarationReaders.{Parts, read_name, read_word_at, read_listed, to_listed, ends_lifetimes, read_lifetime_bounds}
 use Rattle.dm_read.proofs.Deciding.{Decides, Reader, decides_test}
 use Rattle.dm_read.proofs.Tokens.{reads_ident, reads_lifetime, lifetime_seen, left_true, right_true, the_word, word_is, word_same}
-use Rattle.dm_read_types.proofs.Listing.{reads_list}
-use Rattle.dm_read_types.proofs.PlainParts.{reads_by}
+use Rattle.dm_read_paths.proofs.Listing.{reads_list}
+use Rattle.dm_read_paths.proofs.PlainParts.{reads_by}
 use Rattle.dm_read_decl.proofs.TypeFronts.{Begins}
 
 -- each reader decides its part

@@ -18,8 +18,8 @@ use Rattle.dm_read.specs.DeclarationReaders.{Parts, parts_of, read_name, read_wo
 use Rattle.dm_read.proofs.Deciding.{IsRead, IsRefused, Decides, Reader, Image, Both, decides_by, decides_test, pair, reads_and, reads_till}
 use Rattle.dm_read.proofs.Tokens.{reads_punct}
 use Rattle.dm_read.proofs.Groups.{group_seen}
-use Rattle.dm_read_types.proofs.PlainParts.{reads_by, reads_attributes, reads_for}
-use Rattle.dm_read_types.proofs.Constants.{reads_constant, reads_visibility}
+use Rattle.dm_read_paths.proofs.PlainParts.{reads_by, reads_attributes, reads_for}
+use Rattle.dm_read_paths.proofs.Constants.{reads_constant, reads_visibility}
 use Rattle.dm_read_decl.proofs.DeclarationSteps.{DecidesDeclaration}
 use Rattle.dm_read_decl.proofs.TypeFronts.{Begins, behind_perhaps}
 use Rattle.dm_read_decl.proofs.DeclarationBounds.{reads_bound_list}

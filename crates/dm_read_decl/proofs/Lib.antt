@@ -11,7 +11,6 @@ pub mod LicensedSteps
 pub mod LicensedTypes
 pub mod Licensing
 pub mod Runs
-pub mod Sequels
 pub mod TypeFronts
 pub mod WholeDeclarations
 pub mod WholeSteps

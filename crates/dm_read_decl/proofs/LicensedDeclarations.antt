@@ -9,7 +9,7 @@ use Rattle.dm_expr.specs.Cuts.{run_at}
 use Rattle.dm_expr.proofs.Joining.{split_joins}
 use Rattle.dm_ast.specs.declared.plain.Attribute.{Attribute}
 use Rattle.dm_ast.specs.declared.plain.Opaque.{Opaque}
-use Rattle.dm_read_types.specs.declared.kind.Mode.TheVariants.{Whole, PathOnly}
+use Rattle.dm_read_paths.specs.declared.kind.Mode.TheVariants.{Whole, PathOnly}
 use Rattle.dm_ast.specs.Tree.{BoundTree}
 use Rattle.dm_ast.specs.Declarations.{named, unnamed, unit, ShapeTree, enum_shape, union_shape, lifetime_param, type_param, const_param, lifetime_predicate, type_predicate}
 use Rattle.dm_ast.specs.Keywords.{is_name}
@@ -18,7 +18,7 @@ use Rattle.dm_ast.specs.TypeGrammar.{ends_bounds}
 use Rattle.dm_ast.specs.DeclarationGrammar.{ends_where}
 use Rattle.dm_ast.specs.Readers.{Outcome, Parser, and_then, inside_at, refuse, ended, if_shallow}
 use Rattle.dm_ast.specs.PlainReaders.{punctuated}
-use Rattle.dm_read_types.specs.TypeReaders.{read_type, inner_path}
+use Rattle.dm_read_paths.specs.TypeReaders.{read_type, inner_path}
 use Rattle.dm_read.specs.DeclarationReaders.{Parts, read_name, read_word_at, to_listed, read_listed, read_bound_list, ends_lifetimes, read_lifetime_bounds, to_params, to_field, to_slot, to_variant, to_struct, to_braced, to_declaration, value_of, read_lifetime_param, read_const_param, read_type_param, read_param_behind, read_param, read_generics, read_lifetime_predicate, read_type_predicate, read_predicate, read_where, read_field, read_slot, read_fields, read_slots, read_variant_fields, read_discriminant, read_variant, read_variants, read_named_or_unit, read_struct_body, read_struct, read_braced, read_shape, read_front, read_declaration}
 use Rattle.dm_ast.specs.Runs.{cut_run, behind_run, if_cut, read_run}
 use Rattle.dm_read_types.specs.WholeReaders.{whole_type, whole_bound, parts}

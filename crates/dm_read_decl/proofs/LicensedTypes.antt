@@ -2,15 +2,15 @@
 use Rattle.std.proofs.Common.{ℕ, zero, suc, ◌+◌, ◌<◌, ◌≤◌, Bool, true, false, ◌||◌, codes, Option, Some, None, refl, arith}
 use Rattle.dm_stream.specs.declared.tokens.Delim.TheVariants.{Paren, Bracket}
 use Rattle.dm_stream.specs.declared.tokens.Ident.{Ident}
-use Rattle.dm_read_types.specs.declared.kind.NodeKind.{NodeKind}
-use Rattle.dm_read_types.specs.declared.kind.NodeKind.TheVariants as kind
-use Rattle.dm_read_types.specs.declared.kind.Mode.{Mode}
-use Rattle.dm_read_types.specs.declared.kind.Mode.TheVariants.{Whole, Single, PathOnly}
+use Rattle.dm_read_paths.specs.declared.kind.NodeKind.{NodeKind}
+use Rattle.dm_read_paths.specs.declared.kind.NodeKind.TheVariants as kind
+use Rattle.dm_read_paths.specs.declared.kind.Mode.{Mode}
+use Rattle.dm_read_paths.specs.declared.kind.Mode.TheVariants.{Whole, Single, PathOnly}
 use Rattle.dm_ast.specs.Spelling.{Where, deeper, deepest, at_end, sees, sees_word, sees_lifetime, sees_literal, sees_group, sees_colons, sees_arrow, sees_colon, sees_equals}
 use Rattle.dm_ast.specs.TypeGrammar.{is_path_word, is_input_name, sees_arguments, sees_named, ends_bounds}
 use Rattle.dm_ast.specs.Tree.{TypeTree, pointer, absent, PathTree, MaybeArguments, type_arg, segments_of, bounds_of, maybe_type}
 use Rattle.dm_ast.specs.Readers.{Parser, ◌and◌, read_arrow, inside_at, and_then}
-use Rattle.dm_read_types.specs.TypeReaders.{node_kind, types_pair, arguments_pair, inputs_pair, bounds_pair, round_of, square_of, reference_of, segment_of, angle_of, parens_of, path_of, outlives_of, implements_of, trait_of, one_bound, sees_constant, binding_of, type_value, constant_value, constraint_of, lifetime_of, constant_of, type_of, path_type, as_path, path_node, call_of, object_of, implied_of, infer_of, never_of, function_of, input_of, some_name, no_name, qualified_of, read_types, read_output, read_round, read_length, read_square, read_reference, pointed, read_pointer, inner_path, read_plain_trait, read_trait, read_bound, read_bounds, read_some_bounds, read_binding_value, behind_name, behind_type, read_argument, read_arguments, read_angled, read_parens, read_segment_arguments, read_segment, read_segments, read_path, read_as, read_qualified, read_named_type, read_input, read_inputs, read_abi, read_signature, read_function, read_call, node_by, read_node, read_level, read_type}
+use Rattle.dm_read_paths.specs.TypeReaders.{node_kind, types_pair, arguments_pair, inputs_pair, bounds_pair, round_of, square_of, reference_of, segment_of, angle_of, parens_of, path_of, outlives_of, implements_of, trait_of, one_bound, sees_angled, sees_constant, binding_of, type_value, constant_value, constraint_of, lifetime_of, constant_of, type_of, path_type, as_path, path_node, call_of, object_of, implied_of, infer_of, never_of, function_of, input_of, some_name, no_name, qualified_of, read_types, read_output, read_round, read_length, read_square, read_reference, pointed, read_pointer, inner_path, read_plain_trait, read_trait, read_bound, read_bounds, read_some_bounds, read_binding_value, behind_name, behind_type, read_argument, read_arguments, read_angled, read_parens, read_segment_arguments, read_own_arguments, read_segment_list, read_path_by, read_path, read_as, read_qualified, read_named_type, read_input, read_inputs, read_abi, read_signature, read_function, read_call, node_by, read_node, read_level, read_type}
 use Rattle.dm_read_decl.proofs.Licensing.{Licenses, deep_in_front, licensed_bind, licensed_any, licensed_raised, licensed_gives, licensed_and, licensed_and_deeper, licensed_next, licensed_next_deeper, licensed_till, licensed_either, licensed_nothing, licensed_refuse, licensed_ident, licensed_lifetime, licensed_literal, licensed_punct, licensed_word, licensed_opener, licensed_fn, licensed_dyn, licensed_impl, licensed_group, licensed_flag, licensed_perhaps, licensed_list, licensed_chain, licensed_ranged}
 use Rattle.dm_read_decl.proofs.LicensedParts.{licensed_colons, licensed_arrow, licensed_colon, licensed_equals, licensed_leading, licensed_plain, licensed_kept, licensed_opaque, licensed_attributes, licensed_angles, licensed_for, licensed_constant}
 
@@ -107,14 +107,16 @@ module _ (inner : Mode → Where → Parser TypeTree) where
     licensed_segment_arguments w e =
         licensed_either (sees_group Paren) (licensed_any (licensed_parens w e)) (licensed_either sees_arguments (licensed_angled w e) (licensed_nothing absent))
 
-    licensed_segment : (w : Where) → n ≤ w.level → Licenses 0 w (read_segment inner w)
-    licensed_segment w e = licensed_gives (licensed_and (licensed_ident is_path_word w) (licensed_segment_arguments w e)) segment_of
+    licensed_own_arguments : (bare : Bool) (w : Where) → n ≤ w.level → Licenses 0 w (read_own_arguments inner bare w)
+    licensed_own_arguments true w e = licensed_either sees_angled (licensed_angled w e) (licensed_nothing absent)
+    licensed_own_arguments false w e = licensed_segment_arguments w e
 
-    licensed_segments : (w : Where) → n ≤ w.level → Licenses 0 w (read_segments inner w)
-    licensed_segments w e = licensed_chain sees_colons (licensed_colons w) (licensed_segment w e)
+    licensed_segment_list : (bare : Bool) (w : Where) → n ≤ w.level → Licenses 0 w (read_segment_list inner bare w)
+    licensed_segment_list bare w e =
+        licensed_chain sees_colons (licensed_colons w) (licensed_gives (licensed_and (licensed_ident is_path_word w) (licensed_own_arguments bare w e)) segment_of)
 
-    licensed_path : (w : Where) → n ≤ w.level → Licenses 0 w (read_path inner w)
-    licensed_path w e = licensed_gives (licensed_and (licensed_leading w) (licensed_gives (licensed_segments w e) segments_of)) path_of
+    pub licensed_path : (bare : Bool) (w : Where) → n ≤ w.level → Licenses 0 w (read_path_by inner bare w)
+    licensed_path bare w e = licensed_gives (licensed_and (licensed_leading w) (licensed_gives (licensed_segment_list bare w e) segments_of)) path_of
 
   -- ---- nodes, over types that stand deeper
 
@@ -165,7 +167,7 @@ module _ (inner : Mode → Where → Parser TypeTree) where
     licensed_as =
         licensed_perhaps (sees_word (codes "as"))
         (licensed_next (licensed_word (codes "as") (deeper w))
-        (licensed_and (licensed_leading (deeper w)) (licensed_segments w.level h (deeper w) (omega arith))))
+        (licensed_and (licensed_leading (deeper w)) (licensed_segment_list w.level h false (deeper w) (omega arith))))
 
     licensed_qualified : Licenses 0 w (read_qualified inner w)
     licensed_qualified =
@@ -175,7 +177,7 @@ module _ (inner : Mode → Where → Parser TypeTree) where
         (licensed_and (licensed_deeper Whole)
         (licensed_and licensed_as
         (licensed_raised (licensed_next (licensed_punct 62 w)
-        (licensed_next (licensed_colons w) (licensed_segments w.level h w (omega arith))))))))) qualified_of
+        (licensed_next (licensed_colons w) (licensed_segment_list w.level h false w (omega arith))))))))) qualified_of
 
     -- ---- functions: `fn` opens, and the parenthesis behind it
 
@@ -220,7 +222,7 @@ module _ (inner : Mode → Where → Parser TypeTree) where
     licensed_call = licensed_gives (licensed_and (licensed_plain w) (licensed_next (licensed_punct 33 w) (licensed_kept w))) call_of
 
     licensed_own_path : Licenses 0 w (read_path inner w)
-    licensed_own_path = licensed_path w.level h w (omega arith)
+    licensed_own_path = licensed_path w.level h false w (omega arith)
 
     -- ---- each kind of node
 

@@ -7,9 +7,9 @@ use Rattle.dm_stream.specs.declared.tokens.Delim.{Delim}
 use Rattle.dm_stream.specs.declared.tokens.Token.TheVariants as t
 use Rattle.dm_stream.specs.Trees.{Trees, no_trees, token, group}
 use Rattle.dm_stream.specs.Cursors.{first_ident, first_punct}
-use Rattle.dm_read_types.specs.declared.kind.NodeKind.TheVariants as kind
+use Rattle.dm_read_paths.specs.declared.kind.NodeKind.TheVariants as kind
 use Rattle.dm_ast.specs.PlainReaders.{delim_of}
-use Rattle.dm_read_types.specs.TypeReaders.{front_kind, punct_kind, word_kind, delim_kind}
+use Rattle.dm_read_paths.specs.TypeReaders.{front_kind, punct_kind, word_kind, delim_kind}
 use Rattle.dm_read.proofs.Seeing.{ident_front, punct_front}
 
 pub front_punct : (ts us : Trees) (p : Punct) → first_punct ts ≡ Some (p, us) → front_kind ts ≡ punct_kind p.ch

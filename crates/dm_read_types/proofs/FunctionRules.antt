@@ -5,24 +5,25 @@ use Rattle.dm_stream.specs.declared.tokens.Ident.{Ident}
 use Rattle.dm_stream.specs.declared.tokens.Literal.{Literal}
 use Rattle.dm_stream.specs.Trees.{Trees}
 use Rattle.dm_ast.specs.declared.plain.Attribute.{Attribute}
-use Rattle.dm_read_types.specs.declared.kind.NodeKind.TheVariants as kind
-use Rattle.dm_read_types.specs.declared.kind.Mode.{Mode}
-use Rattle.dm_read_types.specs.declared.kind.Mode.TheVariants.{Whole, Single}
+use Rattle.dm_read_paths.specs.declared.kind.NodeKind.TheVariants as kind
+use Rattle.dm_read_paths.specs.declared.kind.Mode.{Mode}
+use Rattle.dm_read_paths.specs.declared.kind.Mode.TheVariants.{Whole, Single}
 use Rattle.dm_ast.specs.Spelling.{Where, deeper, Marks, Spelling, ◌then◌, Provided, Facing, GroupAt, at_end, sees_word, sees_literal, sees_colon, ident, literal, keyword, colon, flag, perhaps, items}
 use Rattle.dm_ast.specs.TypeGrammar.{type_spelled, sees_macro, sees_named, is_input_name, attributes, for_lifetimes, input_spelled, inputs, output}
 use Rattle.dm_ast.specs.Tree.{Lifetimes, TypeTree, TypeNode, bare_fn, path, no_self, some_self, fn_tree, InputTree, input, InputTrees, MaybeType}
 use Rattle.dm_ast.specs.Readers.{Parser, mapped, ◌and◌, ◌next◌, ◌till◌, read_flag, read_perhaps, read_ident, read_literal, read_word, read_colon, read_group, inside_at, read_list}
 use Rattle.dm_ast.specs.PlainReaders.{read_attributes, read_for}
-use Rattle.dm_read_types.specs.TypeReaders.{node_kind, inputs_pair, some_name, no_name, read_named_type, input_of, read_input, read_inputs, read_abi, read_output, read_signature, function_of, read_function}
+use Rattle.dm_read_paths.specs.TypeReaders.{node_kind, inputs_pair, some_name, no_name, read_named_type, input_of, read_input, read_inputs, read_abi, read_output, read_signature, function_of, read_function}
 use Rattle.dm_read.proofs.Deciding.{Decides, Reader, Image, Both, pair, decides_by, decides_test, reads_and, reads_next, reads_till, reads_flag, reads_perhaps}
 use Rattle.dm_read.proofs.Tokens.{reads_ident, reads_literal, literal_seen, reads_word, word_seen, both_true}
 use Rattle.dm_read.proofs.Groups.{reads_lone, lone_seen, reads_group}
-use Rattle.dm_read_types.proofs.Listing.{reads_list}
-use Rattle.dm_read_types.proofs.PlainParts.{reads_by, reads_attributes, reads_for}
-use Rattle.dm_read_types.proofs.NodeKinds.{kind_of}
-use Rattle.dm_read_types.proofs.TypeLists.{then_right, then_left, input_list, inputs_again, inputs_to, inputs_back}
-use Rattle.dm_read_types.proofs.TypeEnds.{type_goes_on}
-use Rattle.dm_read_types.proofs.TypeRules.{ReadsDeeper, NodeAt, rule_by, reads_output}
+use Rattle.dm_read_paths.proofs.Listing.{reads_list}
+use Rattle.dm_read_paths.proofs.PlainParts.{reads_by, reads_attributes, reads_for}
+use Rattle.dm_read_paths.proofs.NodeKinds.{kind_of}
+use Rattle.dm_read_paths.proofs.Sequences.{then_right, then_left}
+use Rattle.dm_read_paths.proofs.TypeLists.{input_list, inputs_again, inputs_to, inputs_back}
+use Rattle.dm_read_paths.proofs.TypeEnds.{type_goes_on}
+use Rattle.dm_read_paths.proofs.TypeRules.{ReadsDeeper, NodeAt, rule_by, reads_output}
 
 -- ---- parameters
 

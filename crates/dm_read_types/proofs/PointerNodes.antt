@@ -1,18 +1,18 @@
 -- `*const T` and `*mut T`: what their reader decides.
 use Rattle.std.proofs.Common.{◌≡◌, Bool, true, false, codes, refl, sym, ap, ◌∙◌, arith}
 use Rattle.dm_stream.specs.Trees.{Trees}
-use Rattle.dm_read_types.specs.declared.kind.NodeKind.TheVariants as kind
-use Rattle.dm_read_types.specs.declared.kind.Mode.{Mode}
-use Rattle.dm_read_types.specs.declared.kind.Mode.TheVariants.{Single}
+use Rattle.dm_read_paths.specs.declared.kind.NodeKind.TheVariants as kind
+use Rattle.dm_read_paths.specs.declared.kind.Mode.{Mode}
+use Rattle.dm_read_paths.specs.declared.kind.Mode.TheVariants.{Single}
 use Rattle.dm_ast.specs.Spelling.{Where, deeper, Marks, Spelling, Nothing, ◌then◌, Provided, sees_word, punct, keyword}
 use Rattle.dm_ast.specs.TypeGrammar.{type_spelled, sees_macro}
 use Rattle.dm_ast.specs.Tree.{TypeTree, TypeNode, pointer, path, no_self, some_self}
 use Rattle.dm_ast.specs.Readers.{Parser, mapped, read_punct, read_word}
-use Rattle.dm_read_types.specs.TypeReaders.{node_kind, pointed, read_pointed, read_pointer}
+use Rattle.dm_read_paths.specs.TypeReaders.{node_kind, pointed, read_pointed, read_pointer}
 use Rattle.dm_read.proofs.Deciding.{Decides, Reader, Image, decides_by, decides_iff, decides_test, reads_next}
 use Rattle.dm_read.proofs.Tokens.{reads_punct, reads_word, word_seen}
-use Rattle.dm_read_types.proofs.NodeKinds.{kind_of, kind_is}
-use Rattle.dm_read_types.proofs.TypeRules.{ReadsDeeper, NodeAt}
+use Rattle.dm_read_paths.proofs.NodeKinds.{kind_of, kind_is}
+use Rattle.dm_read_paths.proofs.TypeRules.{ReadsDeeper, NodeAt}
 
 -- what stands behind `*`
 abbrev Pointed : Where → TypeNode → Spelling

@@ -3,19 +3,19 @@ use Rattle.std.proofs.Common.{◌≡◌, Bool, true, false, codes, refl, sym, �
 use Rattle.dm_stream.specs.declared.tokens.Delim.{Delim}
 use Rattle.dm_stream.specs.Trees.{Trees, Stream}
 use Rattle.dm_ast.specs.declared.plain.PlainPath.{PlainPath}
-use Rattle.dm_read_types.specs.declared.kind.NodeKind.TheVariants as kind
-use Rattle.dm_read_types.specs.declared.kind.Mode.{Mode}
+use Rattle.dm_read_paths.specs.declared.kind.NodeKind.TheVariants as kind
+use Rattle.dm_read_paths.specs.declared.kind.Mode.{Mode}
 use Rattle.dm_ast.specs.Spelling.{Where, Marks, Spelling, ◌then◌, GroupAt, punct, keyword}
 use Rattle.dm_ast.specs.TypeGrammar.{sees_macro, path_spelled, plain_path, kept}
 use Rattle.dm_ast.specs.Tree.{TypeTree, TypeNode, infer, never, path, no_self, some_self, macro_type}
 use Rattle.dm_ast.specs.Readers.{Parser, ◌and◌, ◌next◌, ◌gives◌, read_punct, read_word}
 use Rattle.dm_ast.specs.PlainReaders.{read_plain, read_kept}
-use Rattle.dm_read_types.specs.TypeReaders.{node_kind, infer_of, never_of, path_node, call_of, read_path, read_call}
+use Rattle.dm_read_paths.specs.TypeReaders.{node_kind, infer_of, never_of, path_node, call_of, read_path, read_call}
 use Rattle.dm_read.proofs.Deciding.{Decides, Reader, Image, pair, decides_by, reads_and, reads_next}
 use Rattle.dm_read.proofs.Tokens.{reads_punct, reads_word}
-use Rattle.dm_read_types.proofs.PlainParts.{reads_plain, reads_kept}
-use Rattle.dm_read_types.proofs.NodeKinds.{kind_of, kind_is}
-use Rattle.dm_read_types.proofs.TypeRules.{NodeAt, rule_by}
+use Rattle.dm_read_paths.proofs.PlainParts.{reads_plain, reads_kept}
+use Rattle.dm_read_paths.proofs.NodeKinds.{kind_of, kind_is}
+use Rattle.dm_read_paths.proofs.TypeRules.{NodeAt, rule_by}
 
 module _ (inner : Mode → Where → Parser TypeTree) (single : Bool) (w : Where) where
   infer_back : (y : TypeNode) (ts o : Trees) (m : Marks) → NodeAt single w y ts o m → kind_of y ≡ kind.Infer → Image infer_of (λ (_ : Unit {0}). keyword w (codes "_")) y ts o m

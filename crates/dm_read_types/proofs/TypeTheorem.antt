@@ -5,24 +5,26 @@ use Rattle.dm_stream.specs.declared.tokens.Delim.TheVariants.{Paren, Bracket, Br
 use Rattle.dm_stream.specs.declared.tokens.Ident.{Ident}
 use Rattle.dm_stream.specs.declared.tokens.Token.TheVariants as t
 use Rattle.dm_stream.specs.Trees.{Trees, no_trees, token, group}
-use Rattle.dm_read_types.specs.declared.kind.NodeKind.{NodeKind}
-use Rattle.dm_read_types.specs.declared.kind.NodeKind.TheVariants as kind
-use Rattle.dm_read_types.specs.declared.kind.Mode.{Mode}
-use Rattle.dm_read_types.specs.declared.kind.Mode.TheVariants.{Whole, Single, PathOnly}
+use Rattle.dm_read_paths.specs.declared.kind.NodeKind.{NodeKind}
+use Rattle.dm_read_paths.specs.declared.kind.NodeKind.TheVariants as kind
+use Rattle.dm_read_paths.specs.declared.kind.Mode.{Mode}
+use Rattle.dm_read_paths.specs.declared.kind.Mode.TheVariants.{Whole, Single, PathOnly}
 use Rattle.dm_ast.specs.Spelling.{Where, deeper, deepest, is_word}
 use Rattle.dm_ast.specs.TypeGrammar.{sees_macro, type_spelled, path_spelled, arguments, bound}
 use Rattle.dm_ast.specs.Tree.{TypeTree}
 use Rattle.dm_ast.specs.Readers.{Parser}
-use Rattle.dm_read_types.specs.TypeReaders.{punct_kind, begins_function, word_kind, delim_kind, front_kind, node_kind, inner_path, read_bound, read_arguments, read_path, read_level, read_type}
+use Rattle.dm_read_paths.specs.TypeReaders.{punct_kind, begins_function, word_kind, delim_kind, front_kind, node_kind, inner_path, read_bound, read_arguments, read_path, read_level, read_type}
 use Rattle.dm_read.proofs.Deciding.{Reader}
-use Rattle.dm_read_types.proofs.TypeRules.{moded, ReadsDeeper, round_rule, square_rule, reference_rule}
+use Rattle.dm_read_paths.proofs.TypeRules.{moded, ReadsDeeper}
+use Rattle.dm_read_types.proofs.BracketRules.{round_rule, square_rule, reference_rule}
 use Rattle.dm_read_types.proofs.SmallRules.{infer_rule, never_rule, path_rule, call_rule}
 use Rattle.dm_read_types.proofs.PointerNodes.{pointer_rule}
 use Rattle.dm_read_types.proofs.FunctionRules.{function_rule}
-use Rattle.dm_read_types.proofs.QualifiedRules.{qualified_rule}
-use Rattle.dm_read_types.proofs.BoundRules.{reads_bound, reads_inner_path, object_rule, implied_rule}
-use Rattle.dm_read_types.proofs.ArgumentRules.{reads_arguments}
-use Rattle.dm_read_types.proofs.Paths.{reads_path}
+use Rattle.dm_read_paths.proofs.QualifiedRules.{qualified_rule}
+use Rattle.dm_read_paths.proofs.BoundRules.{reads_bound, reads_inner_path}
+use Rattle.dm_read_types.proofs.ObjectRules.{object_rule, implied_rule}
+use Rattle.dm_read_paths.proofs.ArgumentRules.{reads_arguments}
+use Rattle.dm_read_paths.proofs.Paths.{reads_path}
 use Rattle.dm_read_types.proofs.Types.{Rules, reads_level, reads_type_by}
 
 -- ---- only a macro call has its rule

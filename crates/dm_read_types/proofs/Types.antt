@@ -1,19 +1,19 @@
 -- Types: what their reader decides at each depth, where each rule decides its own nodes.
 use Rattle.std.proofs.Common.{◌≡◌, ℕ, zero, suc, ◌+◌, ◌<◌, Bool, true, false, nat_lt, refl, arith, lt-ltb}
 use Rattle.dm_stream.specs.Trees.{Trees}
-use Rattle.dm_read_types.specs.declared.kind.NodeKind.{NodeKind}
-use Rattle.dm_read_types.specs.declared.kind.Mode.{Mode}
-use Rattle.dm_read_types.specs.declared.kind.Mode.TheVariants.{Whole, Single, PathOnly}
+use Rattle.dm_read_paths.specs.declared.kind.NodeKind.{NodeKind}
+use Rattle.dm_read_paths.specs.declared.kind.Mode.{Mode}
+use Rattle.dm_read_paths.specs.declared.kind.Mode.TheVariants.{Whole, Single, PathOnly}
 use Rattle.dm_ast.specs.Spelling.{Where, Marks, RangedAt, deepest}
 use Rattle.dm_ast.specs.TypeGrammar.{type_spelled, path_spelled}
 use Rattle.dm_ast.specs.Tree.{TypeTree, type_tree, path, no_self, some_self}
 use Rattle.dm_ast.specs.Readers.{Parser, ranged, ◌gives◌}
-use Rattle.dm_read_types.specs.TypeReaders.{node_kind, node_by, read_node, read_path, type_of, path_type, read_level, read_type}
+use Rattle.dm_read_paths.specs.TypeReaders.{node_kind, node_by, read_node, read_path, type_of, path_type, read_level, read_type}
 use Rattle.dm_read.proofs.Deciding.{Decides, Reader, Image, pair}
-use Rattle.dm_read_types.proofs.Listing.{reads_ranged}
-use Rattle.dm_read_types.proofs.PlainParts.{reads_by}
-use Rattle.dm_read_types.proofs.NodeKinds.{Begins, node_begins, path_begins, begins_deep}
-use Rattle.dm_read_types.proofs.TypeRules.{path_only, moded, ReadsDeeper, NodeAt}
+use Rattle.dm_read_paths.proofs.Listing.{reads_ranged}
+use Rattle.dm_read_paths.proofs.PlainParts.{reads_by}
+use Rattle.dm_read_paths.proofs.NodeKinds.{Begins, node_begins, path_begins, begins_deep}
+use Rattle.dm_read_paths.proofs.TypeRules.{path_only, moded, ReadsDeeper, NodeAt}
 
 -- ---- types too deep
 

@@ -6,7 +6,7 @@ use Rattle.dm_ast.specs.declared.ty.FnArg.{FnArg}
 use Rattle.dm_ast.specs.declared.ty.Ty.{Ty}
 use Rattle.dm_ast.specs.Tree.{Lifetimes, InputTrees, MaybeType, ty_view, input_view, maybe_type}
 use Rattle.dm_read.specs.Stops.{list_view}
-use Rattle.dm_read_types.specs.TypeReaders.{inputs_pair}
+use Rattle.dm_read_paths.specs.TypeReaders.{inputs_pair}
 
 -- parameters and what follows `->`
 abbrev pub Signature : Type 0

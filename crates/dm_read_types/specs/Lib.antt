@@ -1,6 +1,2 @@
-pub mod BarePaths
-pub mod Bindings
 pub mod FunctionViews
-pub mod Nests
-pub mod TypeReaders
 pub mod WholeReaders

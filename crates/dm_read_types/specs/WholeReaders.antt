@@ -4,12 +4,12 @@ use Rattle.dm_stream.specs.declared.error.Error.{Error}
 use Rattle.dm_stream.specs.declared.error.Error.TheVariants as error
 use Rattle.dm_stream.specs.declared.error.Refusal.{Refusal}
 use Rattle.dm_ast.specs.declared.decl.DeriveInput.{DeriveInput}
-use Rattle.dm_read_types.specs.declared.kind.Mode.TheVariants.{Whole}
+use Rattle.dm_read_paths.specs.declared.kind.Mode.TheVariants.{Whole}
 use Rattle.dm_ast.specs.Tree.{TypeTree, BoundTree}
 use Rattle.dm_ast.specs.Declarations.{Declaration, declaration_view}
 use Rattle.dm_ast.specs.Spelling.{Where}
 use Rattle.dm_ast.specs.Readers.{Parser}
-use Rattle.dm_read_types.specs.TypeReaders.{read_type, read_bound, inner_path}
+use Rattle.dm_read_paths.specs.TypeReaders.{read_type, read_bound, inner_path}
 use Rattle.dm_read.specs.DeclarationReaders.{Parts, parts_of}
 use Rattle.dm_ast.specs.Runs.{read_run}
 

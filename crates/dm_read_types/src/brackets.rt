@@ -4,15 +4,15 @@
 ghost use Rattle.std.specs.Prelude.{◌≡◌, IfOk, map};
 ghost use Rattle.dm_ast.specs.Tree.{ty_view, node_view, types_of, paren, tuple, slice, array};
 ghost use Rattle.dm_input.specs.Inputs.{Reads};
-ghost use Rattle.dm_read_types.specs.TypeReaders as types;
-ghost use Rattle.dm_read_types.specs.TypeReaders.{read_type};
-ghost use Rattle.dm_read_types.specs.Nests.{Nests};
+ghost use Rattle.dm_read_paths.specs.TypeReaders as types;
+ghost use Rattle.dm_read_paths.specs.TypeReaders.{read_type};
+ghost use Rattle.dm_read_paths.specs.Nests.{Nests};
 
-use crate::grammar::Grammar;
-use crate::kind::Mode;
+use crate::rules::Types;
 use dm_ast::{Opaque, Ty, TyNode};
 use dm_input::Input;
 use dm_input::join::{ended, joined};
+use dm_read_paths::kind::Mode;
 use dm_stream::{Delim, Error, Punctuated};
 use std::alloc::{AllocError, Global};
 
@@ -102,23 +102,23 @@ fn round_node<'a>(alloc: Global, found: Punctuated<Ty<'a>>) -> Result<TyNode<'a>
     }
 }
 
-impl<'a, F: for<'t> Fn(&mut Input<'t, 'a>, usize, Mode) -> Result<Ty<'a>, Error>> Grammar<F> {
+impl<'a, F: for<'t> Fn(&mut Input<'t, 'a>, usize, Mode) -> Result<Ty<'a>, Error>> Types<F> {
     /// The inside of the brackets of a slice or an array.
     fn square_inside(
         &self,
         input: &mut Input<'_, 'a>,
     ) -> Result<(Ty<'a>, Option<Opaque<'a>>), Error>
-        requires { Nests self.now.depth (F.pre self.now.ty) (F.post self.now.ty) }
-        ensures { Reads (λ v. (ty_view v.0, v.1)) (types.square_inside (read_type self.now.depth)) input.old result input.new }
+        requires { Nests self.now.grammar.depth (F.pre self.now.grammar.ty) (F.post self.now.grammar.ty) }
+        ensures { Reads (λ v. (ty_view v.0, v.1)) (types.square_inside (read_type self.now.grammar.depth)) input.old result input.new }
     {
-        let found = self.ty(Mode::Whole, input)?;
+        let found = self.grammar.ty(Mode::Whole, input)?;
         joined(found, maybe_length(input))
     }
 
     /// Brackets and their inside.
     fn bracketed(&self, input: &mut Input<'_, 'a>) -> Result<(Ty<'a>, Option<Opaque<'a>>), Error>
-        requires { Nests self.now.depth (F.pre self.now.ty) (F.post self.now.ty) }
-        ensures { Reads (λ v. (ty_view v.0, v.1)) (types.read_bracketed (read_type self.now.depth)) input.old result input.new }
+        requires { Nests self.now.grammar.depth (F.pre self.now.grammar.ty) (F.post self.now.grammar.ty) }
+        ensures { Reads (λ v. (ty_view v.0, v.1)) (types.read_bracketed (read_type self.now.grammar.depth)) input.old result input.new }
     {
         let mut inside = input.open(Delim::Bracket)?;
         let found = self.square_inside(&mut inside)?;
@@ -127,8 +127,8 @@ impl<'a, F: for<'t> Fn(&mut Input<'t, 'a>, usize, Mode) -> Result<Ty<'a>, Error>
 
     /// A slice or an array.
     pub fn square(&self, input: &mut Input<'_, 'a>) -> Result<TyNode<'a>, Error>
-        requires { Nests self.now.depth (F.pre self.now.ty) (F.post self.now.ty) }
-        ensures { Reads node_view (types.read_square (read_type self.now.depth)) input.old result input.new }
+        requires { Nests self.now.grammar.depth (F.pre self.now.grammar.ty) (F.post self.now.grammar.ty) }
+        ensures { Reads node_view (types.read_square (read_type self.now.grammar.depth)) input.old result input.new }
     {
         let (found, length) = self.bracketed(input)?;
         Ok(square_node(input.alloc(), found, length)?)
@@ -136,10 +136,10 @@ impl<'a, F: for<'t> Fn(&mut Input<'t, 'a>, usize, Mode) -> Result<Ty<'a>, Error>
 
     /// A type in parentheses or a tuple.
     pub fn round(&self, input: &mut Input<'_, 'a>) -> Result<TyNode<'a>, Error>
-        requires { Nests self.now.depth (F.pre self.now.ty) (F.post self.now.ty) }
-        ensures { Reads node_view (types.read_round (read_type self.now.depth)) input.old result input.new }
+        requires { Nests self.now.grammar.depth (F.pre self.now.grammar.ty) (F.post self.now.grammar.ty) }
+        ensures { Reads node_view (types.read_round (read_type self.now.grammar.depth)) input.old result input.new }
     {
-        let found = self.enclosed_types(input)?;
+        let found = self.grammar.enclosed_types(input)?;
         Ok(round_node(input.alloc(), found)?)
     }
 }

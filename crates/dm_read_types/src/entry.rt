@@ -5,15 +5,15 @@ ghost use Rattle.dm_ast.specs.Tree.{ty_view, bound_view};
 ghost use Rattle.dm_ast.specs.Declarations.{listed};
 ghost use Rattle.dm_input.specs.Inputs.{Reads};
 ghost use Rattle.dm_read.specs.DeclarationReaders as spec;
-ghost use Rattle.dm_read_types.specs.TypeReaders as types;
-ghost use Rattle.dm_read_types.specs.TypeReaders.{read_type};
+ghost use Rattle.dm_read_paths.specs.TypeReaders as types;
+ghost use Rattle.dm_read_paths.specs.TypeReaders.{read_type};
 ghost use Rattle.dm_read_types.specs.WholeReaders.{whole_type, whole_bound};
 
-use crate::grammar::Grammar;
-use crate::kind::Mode;
 use crate::ty::ty as nested;
 use dm_ast::{Bound, Ty};
 use dm_input::Input;
+use dm_read_paths::grammar::Grammar;
+use dm_read_paths::kind::Mode;
 use dm_stream::{Error, Punctuated};
 
 /// How deep types nest: as deep as the levels of their tokens may go, and one more.

@@ -7,18 +7,18 @@ ghost use Rattle.dm_ast.specs.Tree.{ty_view, node_view, input_view, input, input
 ghost use Rattle.dm_read.specs.Stops.{list_view};
 ghost use Rattle.dm_input.specs.Inputs.{Reads};
 ghost use Rattle.dm_read_types.specs.FunctionViews.{signature_view, abi_view, unsafe_view, function_view};
-ghost use Rattle.dm_read_types.specs.TypeReaders as types;
-ghost use Rattle.dm_read_types.specs.TypeReaders.{read_type};
-ghost use Rattle.dm_read_types.specs.Nests.{Nests};
+ghost use Rattle.dm_read_paths.specs.TypeReaders as types;
+ghost use Rattle.dm_read_paths.specs.TypeReaders.{read_type};
+ghost use Rattle.dm_read_paths.specs.Nests.{Nests};
 
-use crate::grammar::Grammar;
-use crate::kind::Mode;
 use crate::pointers::keyword;
+use crate::rules::Types;
 use dm_ast::{Attribute, BareFn, FnArg, Ty, TyNode};
 use dm_input::Input;
 use dm_input::join::{ended, joined};
 use dm_input::list::{Rule, listed};
 use dm_read::list::Stop;
+use dm_read_paths::kind::Mode;
 use dm_stream::{Delim, Error, Ident, Lifetime, Literal, Punctuated, Seq};
 use std::alloc::{AllocError, Global};
 
@@ -95,26 +95,26 @@ fn function_node<'a>(
     Ok(TyNode::BareFn(inner))
 }
 
-impl<'a, F: for<'t> Fn(&mut Input<'t, 'a>, usize, Mode) -> Result<Ty<'a>, Error>> Grammar<F> {
+impl<'a, F: for<'t> Fn(&mut Input<'t, 'a>, usize, Mode) -> Result<Ty<'a>, Error>> Types<F> {
     /// A name, `:` and a type.
     fn labelled(&self, input: &mut Input<'_, 'a>) -> Result<(Ident<'a>, Ty<'a>), Error>
-        requires { Nests self.now.depth (F.pre self.now.ty) (F.post self.now.ty) }
-        ensures { Reads (λ v. (v.0, ty_view v.1)) (types.read_labelled (read_type self.now.depth)) input.old result input.new }
+        requires { Nests self.now.grammar.depth (F.pre self.now.grammar.ty) (F.post self.now.grammar.ty) }
+        ensures { Reads (λ v. (v.0, ty_view v.1)) (types.read_labelled (read_type self.now.grammar.depth)) input.old result input.new }
     {
         let name = label(input)?;
-        joined(name, self.ty(Mode::Whole, input))
+        joined(name, self.grammar.ty(Mode::Whole, input))
     }
 
     /// A type, perhaps with a name.
     fn named_type(&self, input: &mut Input<'_, 'a>) -> Result<(Option<Ident<'a>>, Ty<'a>), Error>
-        requires { Nests self.now.depth (F.pre self.now.ty) (F.post self.now.ty) }
-        ensures { Reads (λ v. (v.0, ty_view v.1)) (types.read_named_type (read_type self.now.depth)) input.old result input.new }
+        requires { Nests self.now.grammar.depth (F.pre self.now.grammar.ty) (F.post self.now.grammar.ty) }
+        ensures { Reads (λ v. (v.0, ty_view v.1)) (types.read_named_type (read_type self.now.grammar.depth)) input.old result input.new }
     {
         if input.sees_named() {
             let (name, found) = self.labelled(input)?;
             return Ok((Some(name), found));
         }
-        Ok((None, self.ty(Mode::Whole, input)?))
+        Ok((None, self.grammar.ty(Mode::Whole, input)?))
     }
 
     /// The parts of a parameter.
@@ -122,8 +122,8 @@ impl<'a, F: for<'t> Fn(&mut Input<'t, 'a>, usize, Mode) -> Result<Ty<'a>, Error>
         &self,
         input: &mut Input<'_, 'a>,
     ) -> Result<(Seq<Attribute<'a>>, (Option<Ident<'a>>, Ty<'a>)), Error>
-        requires { Nests self.now.depth (F.pre self.now.ty) (F.post self.now.ty) }
-        ensures { Reads (λ v. (v.0, (v.1.0, ty_view v.1.1))) (types.read_input_parts (read_type self.now.depth)) input.old result input.new }
+        requires { Nests self.now.grammar.depth (F.pre self.now.grammar.ty) (F.post self.now.grammar.ty) }
+        ensures { Reads (λ v. (v.0, (v.1.0, ty_view v.1.1))) (types.read_input_parts (read_type self.now.grammar.depth)) input.old result input.new }
     {
         let attrs = input.attributes()?;
         joined(attrs, self.named_type(input))
@@ -131,8 +131,8 @@ impl<'a, F: for<'t> Fn(&mut Input<'t, 'a>, usize, Mode) -> Result<Ty<'a>, Error>
 
     /// A parameter.
     fn input(&self, input: &mut Input<'_, 'a>) -> Result<FnArg<'a>, Error>
-        requires { Nests self.now.depth (F.pre self.now.ty) (F.post self.now.ty) }
-        ensures { Reads input_view (types.read_input (read_type self.now.depth)) input.old result input.new }
+        requires { Nests self.now.grammar.depth (F.pre self.now.grammar.ty) (F.post self.now.grammar.ty) }
+        ensures { Reads input_view (types.read_input (read_type self.now.grammar.depth)) input.old result input.new }
     {
         let (attrs, (name, ty)) = self.input_parts(input)?;
         Ok(input_of(attrs, name, ty))
@@ -140,26 +140,46 @@ impl<'a, F: for<'t> Fn(&mut Input<'t, 'a>, usize, Mode) -> Result<Ty<'a>, Error>
 
     /// Parameters with commas between.
     fn inputs(&self, input: &mut Input<'_, 'a>) -> Result<Punctuated<FnArg<'a>>, Error>
-        requires { Nests self.now.depth (F.pre self.now.ty) (F.post self.now.ty) }
-        ensures { Reads (λ v. types.inputs_pair (list_view input_view v)) (types.read_inputs (read_type self.now.depth)) input.old result input.new }
+        requires { Nests self.now.grammar.depth (F.pre self.now.grammar.ty) (F.post self.now.grammar.ty) }
+        ensures { Reads (λ v. types.inputs_pair (list_view input_view v)) (types.read_inputs (read_type self.now.grammar.depth)) input.old result input.new }
     {
-        listed(&InputRule { grammar: self }, ',', Stop::End, input)
+        listed(&InputRule { rules: self }, ',', Stop::End, input)
     }
 
     /// Parameters in parentheses.
     fn enclosed_inputs(&self, input: &mut Input<'_, 'a>) -> Result<Punctuated<FnArg<'a>>, Error>
-        requires { Nests self.now.depth (F.pre self.now.ty) (F.post self.now.ty) }
-        ensures { Reads (λ v. types.inputs_pair (list_view input_view v)) (types.read_enclosed_inputs (read_type self.now.depth)) input.old result input.new }
+        requires { Nests self.now.grammar.depth (F.pre self.now.grammar.ty) (F.post self.now.grammar.ty) }
+        ensures { Reads (λ v. types.inputs_pair (list_view input_view v)) (types.read_enclosed_inputs (read_type self.now.grammar.depth)) input.old result input.new }
     {
         let mut inside = input.open(Delim::Paren)?;
         let found = self.inputs(&mut inside)?;
         ended(found, inside.close())
     }
 
+    /// `->` and a type.
+    fn behind_arrow(&self, input: &mut Input<'_, 'a>) -> Result<Ty<'a>, Error>
+        requires { Nests self.now.grammar.depth (F.pre self.now.grammar.ty) (F.post self.now.grammar.ty) }
+        ensures { Reads ty_view (types.read_behind_arrow (read_type self.now.grammar.depth)) input.old result input.new }
+    {
+        input.arrow()?;
+        self.grammar.ty(Mode::Single, input)
+    }
+
+    /// `-> T` where it comes next.
+    fn output(&self, input: &mut Input<'_, 'a>) -> Result<Option<Ty<'a>>, Error>
+        requires { Nests self.now.grammar.depth (F.pre self.now.grammar.ty) (F.post self.now.grammar.ty) }
+        ensures { Reads (λ o. maybe_type (option_map ty_view o)) (types.read_output_here (read_type self.now.grammar.depth)) input.old result input.new }
+    {
+        if !input.sees_arrow() {
+            return Ok(None);
+        }
+        Ok(Some(self.behind_arrow(input)?))
+    }
+
     /// Parameters and what follows `->`.
     fn behind_fn(&self, input: &mut Input<'_, 'a>) -> Result<Signature<'a>, Error>
-        requires { Nests self.now.depth (F.pre self.now.ty) (F.post self.now.ty) }
-        ensures { Reads signature_view (types.read_behind_fn (read_type self.now.depth)) input.old result input.new }
+        requires { Nests self.now.grammar.depth (F.pre self.now.grammar.ty) (F.post self.now.grammar.ty) }
+        ensures { Reads signature_view (types.read_behind_fn (read_type self.now.grammar.depth)) input.old result input.new }
     {
         let inputs = self.enclosed_inputs(input)?;
         joined(inputs, self.output(input))
@@ -169,8 +189,8 @@ impl<'a, F: for<'t> Fn(&mut Input<'t, 'a>, usize, Mode) -> Result<Ty<'a>, Error>
     #[tactic(auto, using(dm_input::proofs::Levels::level_steps))]
     fn deep_behind_fn(&self, input: &mut Input<'_, 'a>) -> Result<Signature<'a>, Error>
         requires level { input.old.at.level ≤ deepest }
-        requires nests { Nests self.now.depth (F.pre self.now.ty) (F.post self.now.ty) }
-        ensures { Reads signature_view (types.read_deep_behind_fn (read_type self.now.depth)) input.old result input.new }
+        requires nests { Nests self.now.grammar.depth (F.pre self.now.grammar.ty) (F.post self.now.grammar.ty) }
+        ensures { Reads signature_view (types.read_deep_behind_fn (read_type self.now.grammar.depth)) input.old result input.new }
     {
         input.down();
         let found = self.behind_fn(input)?;
@@ -180,8 +200,8 @@ impl<'a, F: for<'t> Fn(&mut Input<'t, 'a>, usize, Mode) -> Result<Ty<'a>, Error>
 
     /// `fn` and what follows.
     fn signature(&self, input: &mut Input<'_, 'a>) -> Result<Signature<'a>, Error>
-        requires { Nests self.now.depth (F.pre self.now.ty) (F.post self.now.ty) }
-        ensures { Reads signature_view (types.read_signature (read_type self.now.depth)) input.old result input.new }
+        requires { Nests self.now.grammar.depth (F.pre self.now.grammar.ty) (F.post self.now.grammar.ty) }
+        ensures { Reads signature_view (types.read_signature (read_type self.now.grammar.depth)) input.old result input.new }
     {
         input.word("fn")?;
         self.deep_behind_fn(input)
@@ -189,8 +209,8 @@ impl<'a, F: for<'t> Fn(&mut Input<'t, 'a>, usize, Mode) -> Result<Ty<'a>, Error>
 
     /// What follows `unsafe`.
     fn behind_unsafe(&self, input: &mut Input<'_, 'a>) -> Result<Callable<'a>, Error>
-        requires { Nests self.now.depth (F.pre self.now.ty) (F.post self.now.ty) }
-        ensures { Reads abi_view (types.read_behind_unsafe (read_type self.now.depth)) input.old result input.new }
+        requires { Nests self.now.grammar.depth (F.pre self.now.grammar.ty) (F.post self.now.grammar.ty) }
+        ensures { Reads abi_view (types.read_behind_unsafe (read_type self.now.grammar.depth)) input.old result input.new }
     {
         let abi = maybe_abi(input)?;
         joined(abi, self.signature(input))
@@ -198,8 +218,8 @@ impl<'a, F: for<'t> Fn(&mut Input<'t, 'a>, usize, Mode) -> Result<Ty<'a>, Error>
 
     /// What follows the lifetimes of a function type.
     fn behind_for(&self, input: &mut Input<'_, 'a>) -> Result<(bool, Callable<'a>), Error>
-        requires { Nests self.now.depth (F.pre self.now.ty) (F.post self.now.ty) }
-        ensures { Reads unsafe_view (types.read_behind_for (read_type self.now.depth)) input.old result input.new }
+        requires { Nests self.now.grammar.depth (F.pre self.now.grammar.ty) (F.post self.now.grammar.ty) }
+        ensures { Reads unsafe_view (types.read_behind_for (read_type self.now.grammar.depth)) input.old result input.new }
     {
         let is_unsafe = keyword("unsafe", input)?;
         joined(is_unsafe, self.behind_unsafe(input))
@@ -210,8 +230,8 @@ impl<'a, F: for<'t> Fn(&mut Input<'t, 'a>, usize, Mode) -> Result<Ty<'a>, Error>
         &self,
         input: &mut Input<'_, 'a>,
     ) -> Result<(Option<Punctuated<Lifetime<'a>>>, (bool, Callable<'a>)), Error>
-        requires { Nests self.now.depth (F.pre self.now.ty) (F.post self.now.ty) }
-        ensures { Reads function_view (types.read_function_parts (read_type self.now.depth)) input.old result input.new }
+        requires { Nests self.now.grammar.depth (F.pre self.now.grammar.ty) (F.post self.now.grammar.ty) }
+        ensures { Reads function_view (types.read_function_parts (read_type self.now.grammar.depth)) input.old result input.new }
     {
         let lifetimes = input.for_lifetimes()?;
         joined(lifetimes, self.behind_for(input))
@@ -219,8 +239,8 @@ impl<'a, F: for<'t> Fn(&mut Input<'t, 'a>, usize, Mode) -> Result<Ty<'a>, Error>
 
     /// A function type.
     pub fn function(&self, input: &mut Input<'_, 'a>) -> Result<TyNode<'a>, Error>
-        requires { Nests self.now.depth (F.pre self.now.ty) (F.post self.now.ty) }
-        ensures { Reads node_view (types.read_function (read_type self.now.depth)) input.old result input.new }
+        requires { Nests self.now.grammar.depth (F.pre self.now.grammar.ty) (F.post self.now.grammar.ty) }
+        ensures { Reads node_view (types.read_function (read_type self.now.grammar.depth)) input.old result input.new }
     {
         let (lifetimes, (is_unsafe, (abi, (inputs, output)))) = self.function_parts(input)?;
         let alloc = input.alloc();
@@ -231,15 +251,15 @@ impl<'a, F: for<'t> Fn(&mut Input<'t, 'a>, usize, Mode) -> Result<Ty<'a>, Error>
 /// A parameter in a list.
 #[derive(Drop)]
 struct InputRule<'g, F> {
-    grammar: &'g Grammar<F>,
+    rules: &'g Types<F>,
 }
 
 impl<'g, 'a, F: for<'t> Fn(&mut Input<'t, 'a>, usize, Mode) -> Result<Ty<'a>, Error>> Rule<'a>
     for InputRule<'g, F> {
     ghost use Rattle.dm_ast.specs.Tree.{InputTree, input_view};
-    ghost use Rattle.dm_read_types.specs.Nests.{Nests};
-    ghost use Rattle.dm_read_types.specs.TypeReaders as types;
-    ghost use Rattle.dm_read_types.specs.TypeReaders.{read_type};
+    ghost use Rattle.dm_read_paths.specs.Nests.{Nests};
+    ghost use Rattle.dm_read_paths.specs.TypeReaders as types;
+    ghost use Rattle.dm_read_paths.specs.TypeReaders.{read_type};
 
     type Part = FnArg<'a>;
 
@@ -247,11 +267,11 @@ impl<'g, 'a, F: for<'t> Fn(&mut Input<'t, 'a>, usize, Mode) -> Result<Ty<'a>, Er
 
     ghost view = { input_view };
 
-    ghost usable = { λ r. Nests r.grammar.now.depth (F.pre r.grammar.now.ty) (F.post r.grammar.now.ty) };
+    ghost usable = { λ r. Nests r.rules.now.grammar.depth (F.pre r.rules.now.grammar.ty) (F.post r.rules.now.grammar.ty) };
 
-    ghost reader = { λ r w. types.read_input (read_type r.grammar.now.depth) w };
+    ghost reader = { λ r w. types.read_input (read_type r.rules.now.grammar.depth) w };
 
     fn read(&self, input: &mut Input<'_, 'a>) -> Result<FnArg<'a>, Error> {
-        self.grammar.input(input)
+        self.rules.input(input)
     }
 }

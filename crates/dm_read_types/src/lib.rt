@@ -1,18 +1,12 @@
-//! Reading types, paths and bounds by the grammar of docs/FORMATS.md, "Read" (Rust Reference, "Types", "Paths", "Trait and lifetime
-//! bounds").
+//! Reading types by the grammar of docs/FORMATS.md, "Read" (Rust Reference, "Types"), over the rules of paths and bounds.
 #![tactic(auto)]
 
-pub mod arguments;
 pub mod bare;
-pub mod bounds;
 pub mod brackets;
 pub mod entry;
 pub mod function;
-pub mod grammar;
-pub mod kind;
 pub mod node;
-pub mod path;
 pub mod pointers;
-pub mod qualified;
+pub mod rules;
 pub mod small;
 pub mod ty;

@@ -5,18 +5,18 @@ ghost use Rattle.std.specs.Prelude.{◌≡◌};
 ghost use Rattle.dm_stream.specs.Cursors.{left, sound};
 ghost use Rattle.dm_ast.specs.Tree.{ty_view, node_view};
 ghost use Rattle.dm_input.specs.Inputs.{Reads};
-ghost use Rattle.dm_read_types.specs.TypeReaders as types;
-ghost use Rattle.dm_read_types.specs.TypeReaders.{read_type};
-ghost use Rattle.dm_read_types.specs.Nests.{Nests};
+ghost use Rattle.dm_read_paths.specs.TypeReaders as types;
+ghost use Rattle.dm_read_paths.specs.TypeReaders.{read_type};
+ghost use Rattle.dm_read_paths.specs.Nests.{Nests};
 
-use crate::grammar::Grammar;
-use crate::kind::{Mode, NodeKind};
+use crate::rules::Types;
 use crate::small::{call_type, infer_type, never_type, path_node};
 use dm_ast::{Ty, TyNode};
 use dm_input::Input;
 use dm_read::group::delim;
 use dm_read::macro_call::sees_macro;
 use dm_read::token::is_word;
+use dm_read_paths::kind::{Mode, NodeKind};
 use dm_stream::{Cursor, Delim, Error, Ident, Span};
 
 fn punct_kind(ch: char) -> NodeKind
@@ -106,11 +106,11 @@ fn type_of<'a>(node: TyNode<'a>, span: Span) -> Ty<'a>
     Ty { node, span }
 }
 
-impl<'a, F: for<'t> Fn(&mut Input<'t, 'a>, usize, Mode) -> Result<Ty<'a>, Error>> Grammar<F> {
+impl<'a, F: for<'t> Fn(&mut Input<'t, 'a>, usize, Mode) -> Result<Ty<'a>, Error>> Types<F> {
     /// What the type that comes next is.
     fn node(&self, single: bool, input: &mut Input<'_, 'a>) -> Result<TyNode<'a>, Error>
-        requires { Nests self.now.depth (F.pre self.now.ty) (F.post self.now.ty) }
-        ensures { Reads node_view (types.read_node (read_type self.now.depth) single) input.old result input.new }
+        requires { Nests self.now.grammar.depth (F.pre self.now.grammar.ty) (F.post self.now.grammar.ty) }
+        ensures { Reads node_view (types.read_node (read_type self.now.grammar.depth) single) input.old result input.new }
     {
         match node_kind(input.cursor()) {
             NodeKind::Call => call_type(input),
@@ -123,15 +123,15 @@ impl<'a, F: for<'t> Fn(&mut Input<'t, 'a>, usize, Mode) -> Result<Ty<'a>, Error>
             NodeKind::Implied => self.implied(single, input),
             NodeKind::Infer => infer_type(input),
             NodeKind::Never => never_type(input),
-            NodeKind::Qualified => self.qualified(input),
+            NodeKind::Qualified => self.grammar.qualified(input),
             NodeKind::Path => self.path_type(input),
         }
     }
 
     /// A type with its range.
     fn ranged_node(&self, single: bool, input: &mut Input<'_, 'a>) -> Result<Ty<'a>, Error>
-        requires { Nests self.now.depth (F.pre self.now.ty) (F.post self.now.ty) }
-        ensures { Reads ty_view (types.read_ranged_node (read_type self.now.depth) single) input.old result input.new }
+        requires { Nests self.now.grammar.depth (F.pre self.now.grammar.ty) (F.post self.now.grammar.ty) }
+        ensures { Reads ty_view (types.read_ranged_node (read_type self.now.grammar.depth) single) input.old result input.new }
     {
         let begun = input.cursor();
         let node = self.node(single, input)?;
@@ -140,18 +140,18 @@ impl<'a, F: for<'t> Fn(&mut Input<'t, 'a>, usize, Mode) -> Result<Ty<'a>, Error>
 
     /// A path with its range, as a type.
     fn ranged_path(&self, input: &mut Input<'_, 'a>) -> Result<Ty<'a>, Error>
-        requires { Nests self.now.depth (F.pre self.now.ty) (F.post self.now.ty) }
-        ensures { Reads ty_view (types.read_ranged_path (read_type self.now.depth)) input.old result input.new }
+        requires { Nests self.now.grammar.depth (F.pre self.now.grammar.ty) (F.post self.now.grammar.ty) }
+        ensures { Reads ty_view (types.read_ranged_path (read_type self.now.grammar.depth)) input.old result input.new }
     {
         let begun = input.cursor();
-        let found = self.path(input)?;
+        let found = self.grammar.path(false, input)?;
         Ok(type_of(path_node(found), input.since(begun)))
     }
 
     /// What may stand where a type may.
     pub fn level(&self, mode: Mode, input: &mut Input<'_, 'a>) -> Result<Ty<'a>, Error>
-        requires { Nests self.now.depth (F.pre self.now.ty) (F.post self.now.ty) }
-        ensures { Reads ty_view (types.read_level (read_type self.now.depth) mode) input.old result input.new }
+        requires { Nests self.now.grammar.depth (F.pre self.now.grammar.ty) (F.post self.now.grammar.ty) }
+        ensures { Reads ty_view (types.read_level (read_type self.now.grammar.depth) mode) input.old result input.new }
     {
         match mode {
             Mode::Whole => self.ranged_node(false, input),

@@ -5,15 +5,15 @@ ghost use Rattle.std.specs.Prelude.{◌≡◌, ◌≤◌, IfOk, true, false, cod
 ghost use Rattle.dm_ast.specs.Spelling.{deepest};
 ghost use Rattle.dm_ast.specs.Tree.{ty_view, node_view, reference, pointer};
 ghost use Rattle.dm_input.specs.Inputs.{Reads};
-ghost use Rattle.dm_read_types.specs.TypeReaders as types;
-ghost use Rattle.dm_read_types.specs.TypeReaders.{read_type};
-ghost use Rattle.dm_read_types.specs.Nests.{Nests};
+ghost use Rattle.dm_read_paths.specs.TypeReaders as types;
+ghost use Rattle.dm_read_paths.specs.TypeReaders.{read_type};
+ghost use Rattle.dm_read_paths.specs.Nests.{Nests};
 
-use crate::grammar::Grammar;
-use crate::kind::Mode;
+use crate::rules::Types;
 use dm_ast::{Ty, TyNode};
 use dm_input::Input;
 use dm_input::join::joined;
+use dm_read_paths::kind::Mode;
 use dm_stream::{Error, Lifetime};
 use std::alloc::{AllocError, Global};
 
@@ -61,14 +61,14 @@ fn pointer_node<'a>(alloc: Global, is_mut: bool, found: Ty<'a>) -> Result<TyNode
     Ok(TyNode::Pointer(is_mut, inner))
 }
 
-impl<'a, F: for<'t> Fn(&mut Input<'t, 'a>, usize, Mode) -> Result<Ty<'a>, Error>> Grammar<F> {
+impl<'a, F: for<'t> Fn(&mut Input<'t, 'a>, usize, Mode) -> Result<Ty<'a>, Error>> Types<F> {
     /// A type, perhaps behind `mut`.
     fn mutable(&self, input: &mut Input<'_, 'a>) -> Result<(bool, Ty<'a>), Error>
-        requires { Nests self.now.depth (F.pre self.now.ty) (F.post self.now.ty) }
-        ensures { Reads (λ v. (v.0, ty_view v.1)) (types.read_mutable (read_type self.now.depth)) input.old result input.new }
+        requires { Nests self.now.grammar.depth (F.pre self.now.grammar.ty) (F.post self.now.grammar.ty) }
+        ensures { Reads (λ v. (v.0, ty_view v.1)) (types.read_mutable (read_type self.now.grammar.depth)) input.old result input.new }
     {
         let is_mut = keyword("mut", input)?;
-        joined(is_mut, self.ty(Mode::Single, input))
+        joined(is_mut, self.grammar.ty(Mode::Single, input))
     }
 
     /// A lifetime, `mut` and a type, the first two where they come next.
@@ -76,8 +76,8 @@ impl<'a, F: for<'t> Fn(&mut Input<'t, 'a>, usize, Mode) -> Result<Ty<'a>, Error>
         &self,
         input: &mut Input<'_, 'a>,
     ) -> Result<(Option<Lifetime<'a>>, (bool, Ty<'a>)), Error>
-        requires { Nests self.now.depth (F.pre self.now.ty) (F.post self.now.ty) }
-        ensures { Reads (λ v. (v.0, (v.1.0, ty_view v.1.1))) (types.read_referred (read_type self.now.depth)) input.old result input.new }
+        requires { Nests self.now.grammar.depth (F.pre self.now.grammar.ty) (F.post self.now.grammar.ty) }
+        ensures { Reads (λ v. (v.0, (v.1.0, ty_view v.1.1))) (types.read_referred (read_type self.now.grammar.depth)) input.old result input.new }
     {
         let name = maybe_lifetime(input)?;
         joined(name, self.mutable(input))
@@ -90,8 +90,8 @@ impl<'a, F: for<'t> Fn(&mut Input<'t, 'a>, usize, Mode) -> Result<Ty<'a>, Error>
         input: &mut Input<'_, 'a>,
     ) -> Result<(Option<Lifetime<'a>>, (bool, Ty<'a>)), Error>
         requires level { input.old.at.level ≤ deepest }
-        requires nests { Nests self.now.depth (F.pre self.now.ty) (F.post self.now.ty) }
-        ensures { Reads (λ v. (v.0, (v.1.0, ty_view v.1.1))) (types.read_deep_referred (read_type self.now.depth)) input.old result input.new }
+        requires nests { Nests self.now.grammar.depth (F.pre self.now.grammar.ty) (F.post self.now.grammar.ty) }
+        ensures { Reads (λ v. (v.0, (v.1.0, ty_view v.1.1))) (types.read_deep_referred (read_type self.now.grammar.depth)) input.old result input.new }
     {
         input.down();
         let found = self.referred(input)?;
@@ -104,8 +104,8 @@ impl<'a, F: for<'t> Fn(&mut Input<'t, 'a>, usize, Mode) -> Result<Ty<'a>, Error>
         &self,
         input: &mut Input<'_, 'a>,
     ) -> Result<(Option<Lifetime<'a>>, (bool, Ty<'a>)), Error>
-        requires { Nests self.now.depth (F.pre self.now.ty) (F.post self.now.ty) }
-        ensures { Reads (λ v. (v.0, (v.1.0, ty_view v.1.1))) (types.read_behind_and (read_type self.now.depth)) input.old result input.new }
+        requires { Nests self.now.grammar.depth (F.pre self.now.grammar.ty) (F.post self.now.grammar.ty) }
+        ensures { Reads (λ v. (v.0, (v.1.0, ty_view v.1.1))) (types.read_behind_and (read_type self.now.grammar.depth)) input.old result input.new }
     {
         input.punct('&')?;
         self.deep_referred(input)
@@ -113,8 +113,8 @@ impl<'a, F: for<'t> Fn(&mut Input<'t, 'a>, usize, Mode) -> Result<Ty<'a>, Error>
 
     /// A reference.
     pub fn reference(&self, input: &mut Input<'_, 'a>) -> Result<TyNode<'a>, Error>
-        requires { Nests self.now.depth (F.pre self.now.ty) (F.post self.now.ty) }
-        ensures { Reads node_view (types.read_reference (read_type self.now.depth)) input.old result input.new }
+        requires { Nests self.now.grammar.depth (F.pre self.now.grammar.ty) (F.post self.now.grammar.ty) }
+        ensures { Reads node_view (types.read_reference (read_type self.now.grammar.depth)) input.old result input.new }
     {
         let (name, (is_mut, found)) = self.behind_and(input)?;
         Ok(reference_node(input.alloc(), name, is_mut, found)?)
@@ -122,26 +122,26 @@ impl<'a, F: for<'t> Fn(&mut Input<'t, 'a>, usize, Mode) -> Result<Ty<'a>, Error>
 
     /// `mut` and a type.
     fn mut_pointed(&self, input: &mut Input<'_, 'a>) -> Result<Ty<'a>, Error>
-        requires { Nests self.now.depth (F.pre self.now.ty) (F.post self.now.ty) }
-        ensures { Reads ty_view (types.pointed_at (read_type self.now.depth) true) input.old result input.new }
+        requires { Nests self.now.grammar.depth (F.pre self.now.grammar.ty) (F.post self.now.grammar.ty) }
+        ensures { Reads ty_view (types.pointed_at (read_type self.now.grammar.depth) true) input.old result input.new }
     {
         input.word("mut")?;
-        self.ty(Mode::Single, input)
+        self.grammar.ty(Mode::Single, input)
     }
 
     /// `const` and a type.
     fn const_pointed(&self, input: &mut Input<'_, 'a>) -> Result<Ty<'a>, Error>
-        requires { Nests self.now.depth (F.pre self.now.ty) (F.post self.now.ty) }
-        ensures { Reads ty_view (types.pointed_at (read_type self.now.depth) false) input.old result input.new }
+        requires { Nests self.now.grammar.depth (F.pre self.now.grammar.ty) (F.post self.now.grammar.ty) }
+        ensures { Reads ty_view (types.pointed_at (read_type self.now.grammar.depth) false) input.old result input.new }
     {
         input.word("const")?;
-        self.ty(Mode::Single, input)
+        self.grammar.ty(Mode::Single, input)
     }
 
     /// A pointer by what follows its `*`, which is `mut` and a type.
     fn mut_pointer(&self, input: &mut Input<'_, 'a>) -> Result<TyNode<'a>, Error>
-        requires { Nests self.now.depth (F.pre self.now.ty) (F.post self.now.ty) }
-        ensures { Reads node_view (types.pointer_at (read_type self.now.depth) true) input.old result input.new }
+        requires { Nests self.now.grammar.depth (F.pre self.now.grammar.ty) (F.post self.now.grammar.ty) }
+        ensures { Reads node_view (types.pointer_at (read_type self.now.grammar.depth) true) input.old result input.new }
     {
         let found = self.mut_pointed(input)?;
         Ok(pointer_node(input.alloc(), true, found)?)
@@ -149,8 +149,8 @@ impl<'a, F: for<'t> Fn(&mut Input<'t, 'a>, usize, Mode) -> Result<Ty<'a>, Error>
 
     /// A pointer by what follows its `*`, which is `const` and a type.
     fn const_pointer(&self, input: &mut Input<'_, 'a>) -> Result<TyNode<'a>, Error>
-        requires { Nests self.now.depth (F.pre self.now.ty) (F.post self.now.ty) }
-        ensures { Reads node_view (types.pointer_at (read_type self.now.depth) false) input.old result input.new }
+        requires { Nests self.now.grammar.depth (F.pre self.now.grammar.ty) (F.post self.now.grammar.ty) }
+        ensures { Reads node_view (types.pointer_at (read_type self.now.grammar.depth) false) input.old result input.new }
     {
         let found = self.const_pointed(input)?;
         Ok(pointer_node(input.alloc(), false, found)?)
@@ -158,8 +158,8 @@ impl<'a, F: for<'t> Fn(&mut Input<'t, 'a>, usize, Mode) -> Result<Ty<'a>, Error>
 
     /// A pointer by what follows its `*`.
     fn pointed(&self, input: &mut Input<'_, 'a>) -> Result<TyNode<'a>, Error>
-        requires { Nests self.now.depth (F.pre self.now.ty) (F.post self.now.ty) }
-        ensures { Reads node_view (types.read_pointed_at (read_type self.now.depth)) input.old result input.new }
+        requires { Nests self.now.grammar.depth (F.pre self.now.grammar.ty) (F.post self.now.grammar.ty) }
+        ensures { Reads node_view (types.read_pointed_at (read_type self.now.grammar.depth)) input.old result input.new }
     {
         if input.sees_word("mut") {
             return self.mut_pointer(input);
@@ -171,8 +171,8 @@ impl<'a, F: for<'t> Fn(&mut Input<'t, 'a>, usize, Mode) -> Result<Ty<'a>, Error>
     #[tactic(auto, using(dm_input::proofs::Levels::level_steps))]
     fn deep_pointed(&self, input: &mut Input<'_, 'a>) -> Result<TyNode<'a>, Error>
         requires level { input.old.at.level ≤ deepest }
-        requires nests { Nests self.now.depth (F.pre self.now.ty) (F.post self.now.ty) }
-        ensures { Reads node_view (types.read_pointed (read_type self.now.depth)) input.old result input.new }
+        requires nests { Nests self.now.grammar.depth (F.pre self.now.grammar.ty) (F.post self.now.grammar.ty) }
+        ensures { Reads node_view (types.read_pointed (read_type self.now.grammar.depth)) input.old result input.new }
     {
         input.down();
         let found = self.pointed(input)?;
@@ -182,8 +182,8 @@ impl<'a, F: for<'t> Fn(&mut Input<'t, 'a>, usize, Mode) -> Result<Ty<'a>, Error>
 
     /// A pointer.
     pub fn pointer(&self, input: &mut Input<'_, 'a>) -> Result<TyNode<'a>, Error>
-        requires { Nests self.now.depth (F.pre self.now.ty) (F.post self.now.ty) }
-        ensures { Reads node_view (types.read_pointer (read_type self.now.depth)) input.old result input.new }
+        requires { Nests self.now.grammar.depth (F.pre self.now.grammar.ty) (F.post self.now.grammar.ty) }
+        ensures { Reads node_view (types.read_pointer (read_type self.now.grammar.depth)) input.old result input.new }
     {
         input.punct('*')?;
         self.deep_pointed(input)

@@ -5,15 +5,15 @@ ghost use Rattle.std.specs.Prelude.{◌≡◌, ◌≤◌, map, false};
 ghost use Rattle.dm_ast.specs.Spelling.{deepest};
 ghost use Rattle.dm_ast.specs.Tree.{node_view, path_view, bound_view, bounds_of, trait_object, impl_trait, infer, never, path, no_self, macro_type};
 ghost use Rattle.dm_input.specs.Inputs.{Reads};
-ghost use Rattle.dm_read_types.specs.TypeReaders as types;
-ghost use Rattle.dm_read_types.specs.TypeReaders.{read_type};
-ghost use Rattle.dm_read_types.specs.Nests.{Nests};
+ghost use Rattle.dm_read_paths.specs.TypeReaders as types;
+ghost use Rattle.dm_read_paths.specs.TypeReaders.{read_type};
+ghost use Rattle.dm_read_paths.specs.Nests.{Nests};
 
-use crate::grammar::Grammar;
-use crate::kind::Mode;
+use crate::rules::Types;
 use dm_ast::{Bound, Path, PlainPath, Ty, TyNode};
 use dm_input::Input;
 use dm_input::join::joined;
+use dm_read_paths::kind::Mode;
 use dm_stream::{Delim, Error, Punctuated, Seq, TokenStream};
 
 /// `dyn` and bounds.
@@ -112,24 +112,24 @@ pub fn call_type<'a>(input: &mut Input<'_, 'a>) -> Result<TyNode<'a>, Error>
     Ok(call_node(path, delim, inside))
 }
 
-impl<'a, F: for<'t> Fn(&mut Input<'t, 'a>, usize, Mode) -> Result<Ty<'a>, Error>> Grammar<F> {
+impl<'a, F: for<'t> Fn(&mut Input<'t, 'a>, usize, Mode) -> Result<Ty<'a>, Error>> Types<F> {
     /// Bounds of a `dyn` or an `impl`: their tokens stand one level deeper.
     #[tactic(auto, using(dm_input::proofs::Levels::level_steps))]
     fn deep_bounds(&self, single: bool, input: &mut Input<'_, 'a>) -> Result<Seq<Bound<'a>>, Error>
         requires level { input.old.at.level ≤ deepest }
-        requires nests { Nests self.now.depth (F.pre self.now.ty) (F.post self.now.ty) }
-        ensures { Reads (λ l. bounds_of (map bound_view l)) (types.read_deep_bounds (read_type self.now.depth) single) input.old result input.new }
+        requires nests { Nests self.now.grammar.depth (F.pre self.now.grammar.ty) (F.post self.now.grammar.ty) }
+        ensures { Reads (λ l. bounds_of (map bound_view l)) (types.read_deep_bounds (read_type self.now.grammar.depth) single) input.old result input.new }
     {
         input.down();
-        let found = self.some_bounds(single, input)?;
+        let found = self.grammar.some_bounds(single, input)?;
         input.up();
         Ok(found)
     }
 
     /// `dyn` and bounds.
     pub fn object(&self, single: bool, input: &mut Input<'_, 'a>) -> Result<TyNode<'a>, Error>
-        requires { Nests self.now.depth (F.pre self.now.ty) (F.post self.now.ty) }
-        ensures { Reads node_view (types.read_object (read_type self.now.depth) single) input.old result input.new }
+        requires { Nests self.now.grammar.depth (F.pre self.now.grammar.ty) (F.post self.now.grammar.ty) }
+        ensures { Reads node_view (types.read_object (read_type self.now.grammar.depth) single) input.old result input.new }
     {
         input.word("dyn")?;
         Ok(object_node(self.deep_bounds(single, input)?))
@@ -137,8 +137,8 @@ impl<'a, F: for<'t> Fn(&mut Input<'t, 'a>, usize, Mode) -> Result<Ty<'a>, Error>
 
     /// `impl` and bounds.
     pub fn implied(&self, single: bool, input: &mut Input<'_, 'a>) -> Result<TyNode<'a>, Error>
-        requires { Nests self.now.depth (F.pre self.now.ty) (F.post self.now.ty) }
-        ensures { Reads node_view (types.read_implied (read_type self.now.depth) single) input.old result input.new }
+        requires { Nests self.now.grammar.depth (F.pre self.now.grammar.ty) (F.post self.now.grammar.ty) }
+        ensures { Reads node_view (types.read_implied (read_type self.now.grammar.depth) single) input.old result input.new }
     {
         input.word("impl")?;
         Ok(implied_node(self.deep_bounds(single, input)?))
@@ -146,9 +146,9 @@ impl<'a, F: for<'t> Fn(&mut Input<'t, 'a>, usize, Mode) -> Result<Ty<'a>, Error>
 
     /// A path as a type.
     pub fn path_type(&self, input: &mut Input<'_, 'a>) -> Result<TyNode<'a>, Error>
-        requires { Nests self.now.depth (F.pre self.now.ty) (F.post self.now.ty) }
-        ensures { Reads node_view (types.read_path_type (read_type self.now.depth)) input.old result input.new }
+        requires { Nests self.now.grammar.depth (F.pre self.now.grammar.ty) (F.post self.now.grammar.ty) }
+        ensures { Reads node_view (types.read_path_type (read_type self.now.grammar.depth)) input.old result input.new }
     {
-        Ok(path_node(self.path(input)?))
+        Ok(path_node(self.grammar.path(false, input)?))
     }
 }

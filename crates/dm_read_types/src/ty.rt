@@ -3,12 +3,13 @@
 
 ghost use Rattle.dm_ast.specs.Tree.{ty_view};
 ghost use Rattle.dm_input.specs.Inputs.{Reads};
-ghost use Rattle.dm_read_types.specs.TypeReaders.{read_type};
+ghost use Rattle.dm_read_paths.specs.TypeReaders.{read_type};
 
-use crate::grammar::Grammar;
-use crate::kind::Mode;
+use crate::rules::Types;
 use dm_ast::Ty;
 use dm_input::Input;
+use dm_read_paths::grammar::Grammar;
+use dm_read_paths::kind::Mode;
 use dm_stream::Error;
 
 /// What may stand where a type may, with at most `depth` types in one another.
@@ -18,9 +19,9 @@ pub fn ty<'a>(input: &mut Input<'_, 'a>, depth: usize, mode: Mode) -> Result<Ty<
     if depth == 0 {
         return Err(input.too_deep());
     }
-    Grammar {
+    let grammar = Grammar {
         depth: depth - 1,
         ty,
-    }
-    .level(mode, input)
+    };
+    Types { grammar }.level(mode, input)
 }

@@ -1,26 +1,23 @@
 -- What is read and written again has the tokens that were read, ranges aside, and spacing aside outside of the parts that are not read.
-use Rattle.std.proofs.Common.{◌≡◌, Some, ℕ, zero, suc, ◌+◌, Bool, true, false, ◌==◌, List, [], ◌∷◌, ◌++◌, map, refl, sym, ap, ap₂, ◌∙◌, subst, append_assoc, append-nil, arith}
-use Rattle.std.proofs.lemmas.Bool.{ne_eqb}
+use Rattle.std.proofs.Common.{◌≡◌, Some, ℕ, zero, suc, ◌+◌, Bool, true, false, List, [], ◌∷◌, ◌++◌, map, refl, sym, ap, ap₂, ◌∙◌, subst, append_assoc, append-nil, arith}
 use Rattle.std.proofs.lemmas.List.{map-append}
 use Rattle.std.specs.Prelude.{if◌then◌else◌}
 use Rattle.dm_stream.specs.declared.tokens.Span.{Span}
 use Rattle.dm_stream.specs.declared.tokens.Delim.{Delim}
+use Rattle.dm_stream.specs.declared.tokens.Punct.{Punct}
 use Rattle.dm_stream.specs.declared.tokens.Spacing.TheVariants.{Alone}
 use Rattle.dm_stream.specs.declared.tokens.Token.TheVariants as t
-use Rattle.dm_stream.specs.Trees.{Trees, no_trees, token, group, join, Stream, join_assoc}
+use Rattle.dm_stream.specs.Trees.{Trees, no_trees, token, group, join}
 use Rattle.dm_stream.specs.Cursors.{split_trees}
 use Rattle.dm_ast.specs.declared.plain.Opaque.{Opaque}
-use Rattle.dm_ast.specs.Spelling.{at_end, Where, deeper, Marks, Spelling, TokenAt, PairAt, LoneAt, GroupAt, punct, keyword, flag, last_item, no_items, AllAt}
-use Rattle.dm_ast.specs.TypeGrammar.{opaque, kept, between_angles}
+use Rattle.dm_ast.specs.Spelling.{at_end, Where, Marks, Spelling, TokenAt, PairAt, GroupAt, keyword, AllAt}
 use Rattle.dm_ast.specs.TypeTokens as spell
 use Rattle.dm_ast.specs.Runs.{unjoined, last_alone, cut_run, run}
 use Rattle.dm_type_eq.specs.BareTokens.{Bare, bare, bare_name, bare_lifetime, bare_literal, bare_punct, opening, closing, tokens_of, unspaced, spelled_of}
 use Rattle.dm_type_eq.proofs.SameTokens.{tokens_join}
 use Rattle.dm_syntax.specs.Unread.{Part, whole, cut}
+use Rattle.dm_syntax.proofs.Walked.{IsWalked}
 use Rattle.dm_syntax.specs.WrittenBack.{Gives, RespacedAround, nothing, same, alone, stands, cut_off}
-
-pub suc_apart : (n : ℕ) → (suc n == 0) ≡ false
-suc_apart n = ne_eqb (suc n) 0 (λ e. omega (arith, e))
 
 -- ---- the relation of tokens
 
@@ -56,14 +53,6 @@ back_join a b ts mid o e f =
       same = moved refl refl (sym (tokens_join a b)) (same_append e.same f.same);
     }
 
--- other trees and parts that are the same
-pub back_as : {ps qs : List Part} (a b ts o : Trees) → ps ≡ qs → a ≡ b → Back ps a ts o → Back qs b ts o
-back_as a b ts o e f h = record { read = h.read; front = h.front; same = moved e refl (ap tokens_of f) h.same }
-
--- nothing that isn't read stands in the second
-pub back_last : {ps : List Part} (a b ts mid o : Trees) → Back ps a ts mid → Back [] b mid o → Back ps (join a b) ts o
-back_last {ps = ps} a b ts mid o e f = back_as (join a b) (join a b) ts o (append-nil ps) refl (back_join a b ts mid o e f)
-
 pub back_none : (ts o : Trees) → ts ≡ o → Back [] no_trees ts o
 back_none ts o e = record { read = []; front = ap tokens_of e; same = nothing }
 
@@ -78,13 +67,8 @@ back_alone k l ts o e f = record { read = bare k ∷ []; front = ap tokens_of e;
 pub back_token : (w : Where) (k : t.the_data) (ts o : Trees) (m : Marks) → TokenAt w k ts o m → Back [] (spell.one k) ts o
 back_token w k ts o m s = back_same k k ts o s.spelled refl
 
-pub back_punct : (r : Span) (w : Where) (c : ℕ) (ts o : Trees) (m : Marks) → punct w c ts o m → Back [] (spell.punct c r) ts o
-back_punct r w c ts o m s =
-    back_alone (t.Punct s.punct) (t.Punct record { ch = c; spacing = Alone; span = r }) ts o s.there.spelled (ap (λ x. bare_punct x Alone) s.is)
-
-pub back_lone : (r : Span) (w : Where) (c : ℕ) (stops : List ℕ) (ts o : Trees) (m : Marks) → LoneAt w c stops ts o m → Back [] (spell.punct c r) ts o
-back_lone r w c stops ts o m s =
-    back_alone (t.Punct s.punct) (t.Punct record { ch = c; spacing = Alone; span = r }) ts o s.there.spelled (ap (λ x. bare_punct x Alone) s.is)
+back_one : (r : Span) (c : ℕ) (p : Punct) (ts o : Trees) → p.ch ≡ c → ts ≡ token (t.Punct p) o → Back [] (spell.punct c r) ts o
+back_one r c p ts o e q = back_alone (t.Punct p) (t.Punct record { ch = c; spacing = Alone; span = r }) ts o q (ap (λ x. bare_punct x Alone) e)
 
 -- the first stays joint
 pub back_pair : (r : Span) (w : Where) (a b : ℕ) (ts o : Trees) (m : Marks) → PairAt w a b ts o m → Back [] (spell.joint a b r) ts o
@@ -115,19 +99,13 @@ back_group {ps = ps} w d a Inside ts o m s h =
       same = same (opening d) (moved (append-nil ps) refl refl (same_append inner.same (same (closing d) nothing)));
     }
 
-pub back_all : (w : Where) (all ts o : Trees) (m : Marks) → AllAt w all ts o m → Back (whole all ∷ []) all ts o
+back_all : (w : Where) (all ts o : Trees) (m : Marks) → AllAt w all ts o m → Back (whole all ∷ []) all ts o
 back_all w all ts o m s =
     record {
       read = tokens_of all;
       front = ap tokens_of s.spelled ∙ sym (append-nil (tokens_of all)) ∙ ap (λ x. tokens_of all ++ tokens_of x) (sym s.none_left);
       same = same_part all;
     }
-
-pub back_opaque : (w : Where) (x : Opaque) (ts o : Trees) (m : Marks) → opaque w x ts o m → Back (whole x.tokens.trees ∷ []) x.tokens.trees ts o
-back_opaque w x ts o m s = back_all w x.tokens.trees ts o m s.part.part
-
-pub back_kept : (w : Where) (d : Delim) (x : Stream) (ts o : Trees) (m : Marks) → GroupAt w d (kept x) ts o m → Back (whole x.trees ∷ []) (spell.grouped d x.trees) ts o
-back_kept w d x ts o m s = back_group w d x.trees (kept x) ts o m s (λ v i k h. back_all v x.trees i no_trees k h.part)
 
 -- ---- discriminants
 
@@ -152,43 +130,19 @@ back_run w x ts o m s =
           (cut_off s.front nothing);
     }
 
--- ---- what may be missing, and lists
+-- ---- all that the walk asks
 
-pub back_flag : (begins : Trees → Bool) (b : Bool) (part : Spelling) (a ts o : Trees) (m : Marks) → flag begins b part ts o m → (part ts o m → Back [] a ts o) → Back [] (spell.given b a) ts o
-back_flag begins true part a ts o m s h = h s
-back_flag begins false part a ts o m s h = back_none ts o s.part.spelled
-
-pub back_last_item : (r : Span) (w : Where) (c : ℕ) (ends : Trees → Bool) (u : Bool) (ts o : Trees) (m : Marks) → last_item w c ends u ts o m → Back [] (spell.given u (spell.punct c r)) ts o
-back_last_item r w c ends true ts o m s =
-    back_join (spell.punct c r) no_trees ts s.middle o (back_punct r w c ts s.middle s.first_marks s.first) (back_none s.middle o s.rest.part.spelled)
-back_last_item r w c ends false ts o m s = back_none ts o s.part.spelled
-
--- the trees of a list behind its first item
-abbrev pub Left : ℕ → Span → List Trees → Bool → Trees
-Left c r xs u = join (spell.spaced (spell.punct c r) false xs) (spell.given u (spell.punct c r))
-
--- an item, and the others
-pub back_first : {ps qs : List Part} (c : ℕ) (r : Span) (x : Trees) (xs : List Trees) (u : Bool) (ts mid o : Trees) → Back ps x ts mid → Back qs (Left c r xs u) mid o →
-    Back (ps ++ qs) (spell.listed c r (x ∷ xs) u) ts o
-back_first c r x xs u ts mid o e f =
-    back_as (join x (Left c r xs u)) (spell.listed c r (x ∷ xs) u) ts o refl (sym (join_assoc x (spell.spaced (spell.punct c r) false xs) (spell.given u (spell.punct c r))))
-    (back_join x (Left c r xs u) ts mid o e f)
-
-pub back_next : {ps qs : List Part} (c : ℕ) (r : Span) (x : Trees) (xs : List Trees) (u : Bool) (ts mid more o : Trees) → Back [] (spell.punct c r) ts mid → Back ps x mid more →
-    Back qs (Left c r xs u) more o → Back (ps ++ qs) (Left c r (x ∷ xs) u) ts o
-back_next c r x xs u ts mid more o d e f =
-    back_join (spell.punct c r) (spell.listed c r (x ∷ xs) u) ts mid o d (back_first c r x xs u mid more o e f)
-
-pub back_no_items : (c : ℕ) (r : Span) (w : Where) (ends : Trees → Bool) (u : Bool) (ts o : Trees) (m : Marks) → no_items w c ends u ts o m → Back [] (spell.listed c r [] u) ts o
-back_no_items c r w ends true ts o m s = absurd (cc)
-back_no_items c r w ends false ts o m s = back_none ts o s.part.part.spelled
-
-pub back_angles : {ps : List Part} (r : Span) (w : Where) (a : Trees) (Inside : Where → Spelling) (ts o : Trees) (m : Marks) → between_angles w Inside ts o m →
-    ((i j : Trees) (k : Marks) → Inside (deeper w) i j k → Back ps a i j) → Back ps (join (spell.punct 60 r) (join a (spell.punct 62 r))) ts o
-back_angles r w a Inside ts o m s h =
-    back_join (spell.punct 60 r) (join a (spell.punct 62 r)) ts s.middle o (back_punct r w 60 ts s.middle s.first_marks s.first)
-    (back_last a (spell.punct 62 r) s.middle s.rest.middle o (h s.middle s.rest.middle s.rest.first_marks s.rest.first)
-    (back_punct r w 62 s.rest.middle o s.rest.rest_marks s.rest.rest))
+pub backs : IsWalked Back
+backs = record {
+  joined = λ ps qs. back_join;
+  none = back_none;
+  plain = λ w k p. back_token w k;
+  one = back_one;
+  pair = back_pair;
+  word = back_word;
+  grouped = λ ps. back_group;
+  all = back_all;
+}
 
 -- ---- all tokens
 

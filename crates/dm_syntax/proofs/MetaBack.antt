@@ -5,23 +5,23 @@ use Rattle.dm_stream.specs.declared.tokens.Delim.TheVariants.{Paren}
 use Rattle.dm_stream.specs.declared.tokens.Token.TheVariants as t
 use Rattle.dm_stream.specs.declared.tokens.Span.{Span}
 use Rattle.dm_stream.specs.Layout.{nowhere}
-use Rattle.dm_stream.specs.Trees.{Trees, join, Stream}
+use Rattle.dm_stream.specs.Trees.{Trees, Stream}
 use Rattle.dm_ast.specs.Tree.{PathTree, path_tree, SegmentTree, segment, SegmentTrees, no_segments, segment_then, ArgumentsTree, absent, angle, parens}
 use Rattle.dm_ast.specs.Spelling.{Where, deeper, Marks, sees_colons, colons, GroupAt}
 use Rattle.dm_ast.specs.TypeGrammar.{kept}
 use Rattle.dm_type_eq.specs.BareTokens.{opening, closing, tokens_of}
 use Rattle.dm_ast.specs.TypeTokens as spell
-use Rattle.dm_read_types.specs.BarePaths.{bare_arguments, bare_segment, bare_segments, bare_segments_left, bare_path}
+use Rattle.dm_read_paths.specs.BarePaths.{bare_arguments, bare_segment, bare_segments, bare_segments_left, bare_path}
 use Rattle.dm_meta.specs.Metas.{PathOrKeywordTree, a_path, keyword, MetaListTree, MetaTree, path_meta, list_meta, NestedMetaTree, nested, lit, path_or_keyword, meta_list, meta_spelled, nested_meta, path_or_keyword_trees, meta_list_trees, meta_trees, nested_meta_trees}
 use Rattle.dm_syntax.specs.Unread.{Part, in_segment_arguments, in_segment, in_segments, in_path}
 use Rattle.dm_syntax.specs.WrittenBack.{Keeps, Gives, IsListBack}
-use Rattle.dm_syntax.proofs.Back.{Back, back_join, back_none, back_token, back_pair, back_flag, back_kept, gives_of}
-use Rattle.dm_syntax.proofs.PartsBack.{back_angle}
-use Rattle.dm_syntax.proofs.TypeBack.{back_arguments}
+use Rattle.dm_syntax.proofs.Back.{Back, back_join, back_none, back_token, back_pair, gives_of, backs}
+use Rattle.dm_syntax.proofs.Walked.{walk_next_segment, walk_angle, walk_flag, walk_kept}
+use Rattle.dm_syntax.proofs.WalkedTypes.{walk_arguments}
 
 back_bare_arguments : (gs : ArgumentsTree) (r : Span) (w : Where) (ts o : Trees) (m : Marks) → bare_arguments gs w ts o m → Back (in_segment_arguments gs) (spell.arguments_trees r gs) ts o
 back_bare_arguments absent r w ts o m s = back_none ts o s.part.spelled
-back_bare_arguments (angle b gs u) r w ts o m s = back_angle gs r b u w ts o m s (λ i j k h. back_arguments gs r u (deeper w) i j k h)
+back_bare_arguments (angle b gs u) r w ts o m s = walk_angle backs gs r b u w ts o m s (λ i j k h. walk_arguments backs gs r u (deeper w) i j k h)
 back_bare_arguments (parens xs u out) r w ts o m s = absurd s.fact
 
 back_bare_segment : (x : SegmentTree) (r : Span) (w : Where) (ts o : Trees) (m : Marks) → bare_segment x w ts o m → Back (in_segment x) (spell.segment_trees r x) ts o
@@ -33,10 +33,8 @@ back_bare_left : (ss : SegmentTrees) (r : Span) (w : Where) (ts o : Trees) (m : 
     Back (in_segments ss) (spell.spaced (spell.colons r) false (spell.each_segment r ss)) ts o
 back_bare_left no_segments r w ts o m s = back_none ts o s.part.spelled
 back_bare_left (segment_then x ss) r w ts o m s =
-    let rest : Trees = spell.spaced (spell.colons r) false (spell.each_segment r ss) in
-    back_join (spell.colons r) (join (spell.segment_trees r x) rest) ts s.middle o (back_pair r w 58 58 ts s.middle s.first_marks s.first)
-    (back_join (spell.segment_trees r x) rest s.middle s.rest.middle o (back_bare_segment x r w s.middle s.rest.middle s.rest.first_marks s.rest.first)
-    (back_bare_left ss r w s.rest.middle o s.rest.rest_marks s.rest.rest))
+    walk_next_segment backs r w (spell.segment_trees r x) (spell.each_segment r ss) ts s.middle s.rest.middle o s.first_marks s.first
+    (back_bare_segment x r w s.middle s.rest.middle s.rest.first_marks s.rest.first) (back_bare_left ss r w s.rest.middle o s.rest.rest_marks s.rest.rest)
 
 back_bare_segments : (ss : SegmentTrees) (r : Span) (w : Where) (ts o : Trees) (m : Marks) → bare_segments ss w ts o m →
     Back (in_segments ss) (spell.spaced (spell.colons r) true (spell.each_segment r ss)) ts o
@@ -48,7 +46,7 @@ back_bare_segments (segment_then x ss) r w ts o m s =
 back_bare_path : (p : PathTree) (r : Span) (w : Where) (ts o : Trees) (m : Marks) → bare_path p w ts o m → Back (in_path p) (spell.path_trees r p) ts o
 back_bare_path (path_tree b ss) r w ts o m s =
     back_join (spell.given b (spell.colons r)) (spell.spaced (spell.colons r) true (spell.each_segment r ss)) ts s.middle o
-    (back_flag sees_colons b (colons w) (spell.colons r) ts s.middle s.first_marks s.first (back_pair r w 58 58 ts s.middle s.first_marks))
+    (walk_flag backs sees_colons b (colons w) (spell.colons r) ts s.middle s.first_marks s.first (back_pair r w 58 58 ts s.middle s.first_marks))
     (back_bare_segments ss r w s.middle o s.rest_marks s.rest)
 
 abbrev in_word : PathOrKeywordTree → List Part
@@ -75,7 +73,7 @@ gives_list : (x : MetaListTree) (w : Where) (ts o : Trees) (m : Marks) → meta_
 gives_list x w ts o m s =
     gives_of (meta_list_trees x) ts o
     (back_join (path_or_keyword_trees x.path) (spell.grouped Paren x.tokens.trees) ts s.middle o (back_word x.path w ts s.middle s.first_marks s.first)
-    (back_kept w Paren x.tokens s.middle o s.rest_marks s.rest))
+    (walk_kept backs w Paren x.tokens s.middle o s.rest_marks s.rest))
 
 pub list_back : (x : MetaListTree) (w : Where) (ts o : Trees) (m : Marks) → meta_list x w ts o m → IsListBack x ts o
 list_back x w ts o m s =

@@ -13,23 +13,23 @@ use Rattle.dm_ast.specs.DeclarationGrammar.{lifetime_bounds, bound_list, predica
 use Rattle.dm_ast.specs.TypeTokens as spell
 use Rattle.dm_ast.specs.DeclarationTokens as written
 use Rattle.dm_syntax.specs.Unread.{Part, in_bound_list, in_predicate, in_where}
-use Rattle.dm_syntax.proofs.Back.{Back, back_join, back_as, back_none, back_token, back_punct, back_word, back_lone, back_last_item, Left, back_first, back_next, back_no_items}
-use Rattle.dm_syntax.proofs.PartsBack.{back_for}
-use Rattle.dm_syntax.proofs.TypeBack.{back_type, back_bounds}
+use Rattle.dm_syntax.proofs.Back.{Back, back_join, back_none, back_token, back_word, backs}
+use Rattle.dm_syntax.proofs.Walked.{walk_punct, walk_lone, Left, walk_as, walk_first, walk_for, walk_last_item, walk_next, walk_no_items}
+use Rattle.dm_syntax.proofs.WalkedTypes.{walk_bounds, walk_type}
 
 -- a list, of which each item has its tokens
 module _ {A : Type 0} (c : ℕ) (w : Where) (ends : Trees → Bool) (item : A → Spelling) (parts : A → List Part) (trees_of : A → Trees)
     (back : (x : A) (ts o : Trees) (m : Marks) → item x ts o m → Back (parts x) (trees_of x) ts o) where
   back_items_left : (xs : List A) (u : Bool) (ts o : Trees) (m : Marks) → items_left w c ends item xs u ts o m → Back (flat_map parts xs) (Left c nowhere (map trees_of xs) u) ts o
-  back_items_left [] u ts o m s = back_last_item nowhere w c ends u ts o m s
+  back_items_left [] u ts o m s = walk_last_item backs nowhere w c ends u ts o m s
   back_items_left (x ∷ xs) u ts o m s =
-      back_next c nowhere (trees_of x) (map trees_of xs) u ts s.middle s.rest.middle o (back_punct nowhere w c ts s.middle s.first_marks s.first)
+      walk_next backs c nowhere (trees_of x) (map trees_of xs) u ts s.middle s.rest.middle o (walk_punct backs nowhere w c ts s.middle s.first_marks s.first)
       (back x s.middle s.rest.middle s.rest.first_marks s.rest.first) (back_items_left xs u s.rest.middle o s.rest.rest_marks s.rest.rest)
 
   pub back_items : (xs : List A) (u : Bool) (ts o : Trees) (m : Marks) → items w c ends item xs u ts o m → Back (flat_map parts xs) (spell.listed c nowhere (map trees_of xs) u) ts o
-  back_items [] u ts o m s = back_no_items c nowhere w ends u ts o m s
+  back_items [] u ts o m s = walk_no_items backs c nowhere w ends u ts o m s
   back_items (x ∷ xs) u ts o m s =
-      back_first c nowhere (trees_of x) (map trees_of xs) u ts s.middle o (back x ts s.middle s.first_marks s.first)
+      walk_first backs c nowhere (trees_of x) (map trees_of xs) u ts s.middle o (back x ts s.middle s.first_marks s.first)
       (back_items_left xs u s.middle o s.rest_marks s.rest)
 
 -- a lifetime is read whole
@@ -45,27 +45,27 @@ pub back_lifetime_bounds : (w : Where) (ls : Punctuated Lifetime) (ts o : Trees)
     Back [] (spell.listed 43 nowhere (map spell.lifetime ls.items) ls.trailing) ts o
 back_lifetime_bounds w ls ts o m s =
     let all : Trees = spell.listed 43 nowhere (map spell.lifetime ls.items) ls.trailing in
-    back_as all all ts o (no_parts ls.items) refl
+    walk_as backs all all ts o (no_parts ls.items) refl
     (back_items 43 w (λ us. not (sees_lifetime us)) (lifetime w) in_lifetime spell.lifetime (λ l i j k h. back_token w (t.Lifetime l) i j k h) ls.items ls.trailing ts o m s)
 
 pub back_bound_list : (w : Where) (bs : Listed BoundTree) (ts o : Trees) (m : Marks) → bound_list w bs ts o m → Back (in_bound_list bs) (written.bound_list_trees bs) ts o
-back_bound_list w bs ts o m s = back_bounds (bounds_of bs.items) nowhere bs.trailing w ts o m s
+back_bound_list w bs ts o m s = walk_bounds backs (bounds_of bs.items) nowhere bs.trailing w ts o m s
 
 pub back_predicate : (p : PredicateTree) (w : Where) (ts o : Trees) (m : Marks) → predicate p w ts o m → Back (in_predicate p) (written.predicate_trees p) ts o
 back_predicate (lifetime_predicate l ls) w ts o m s =
     let q = s.rest in
     let all : Trees = spell.listed 43 nowhere (map spell.lifetime ls.items) ls.trailing in
     back_join (spell.lifetime l) (join (spell.punct 58 nowhere) all) ts s.middle o (back_token w (t.Lifetime l) ts s.middle s.first_marks s.first)
-    (back_join (spell.punct 58 nowhere) all s.middle q.middle o (back_lone nowhere w 58 (58 ∷ []) s.middle q.middle q.first_marks q.first)
+    (back_join (spell.punct 58 nowhere) all s.middle q.middle o (walk_lone backs nowhere w 58 (58 ∷ []) s.middle q.middle q.first_marks q.first)
     (back_lifetime_bounds w ls q.middle o q.rest_marks q.rest))
 back_predicate (type_predicate ls x bs) w ts o m s =
     let q = s.rest in
     let z = q.rest in
     let all : Trees = written.bound_list_trees bs in
     back_join (spell.for_trees nowhere ls) (join (spell.type_trees x) (join (spell.punct 58 nowhere) all)) ts s.middle o
-    (back_for nowhere w ls ts s.middle s.first_marks s.first)
-    (back_join (spell.type_trees x) (join (spell.punct 58 nowhere) all) s.middle q.middle o (back_type x false w s.middle q.middle q.first_marks q.first)
-    (back_join (spell.punct 58 nowhere) all q.middle z.middle o (back_lone nowhere w 58 (58 ∷ []) q.middle z.middle z.first_marks z.first)
+    (walk_for backs nowhere w ls ts s.middle s.first_marks s.first)
+    (back_join (spell.type_trees x) (join (spell.punct 58 nowhere) all) s.middle q.middle o (walk_type backs x false w s.middle q.middle q.first_marks q.first)
+    (back_join (spell.punct 58 nowhere) all q.middle z.middle o (walk_lone backs nowhere w 58 (58 ∷ []) q.middle z.middle z.first_marks z.first)
     (back_bound_list w bs z.middle o z.rest_marks z.rest)))
 
 -- `where`, also before no predicate

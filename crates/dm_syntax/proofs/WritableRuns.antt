@@ -1,6 +1,7 @@
 -- The front of writable trees is writable, where its last punct is joint to nothing.
-use Rattle.std.proofs.Common.{◌≡◌, Bool, true, false, not, ◌&&◌, [], ◌∷◌, ◌++◌, ap, ◌∙◌, sym, refl}
+use Rattle.std.proofs.Common.{◌≡◌, Bool, true, false, ◌∷◌, ◌++◌, ap, ◌∙◌, sym, refl}
 use Rattle.std.specs.Prelude.{ℕ, if◌then◌else◌}
+use Rattle.std.proofs.lemmas.Bool.{and_from, and_parts}
 use Rattle.dm_stream.specs.declared.tokens.Spacing.{Spacing}
 use Rattle.dm_stream.specs.declared.tokens.Spacing.TheVariants.{Joint, Alone}
 use Rattle.dm_stream.specs.declared.tokens.Token.TheVariants as t
@@ -11,17 +12,6 @@ use Rattle.dm_lexer.proofs.Rewritten.{spellable-alike}
 use Rattle.dm_ast.specs.Spelling.{at_end}
 use Rattle.dm_ast.specs.Runs.{unjoined, last_alone}
 use Rattle.dm_type_eq.specs.BareTokens.{opening, closing, bare, tokens_of}
-
-and_left : (a b : Bool) → (a && b) ≡ true → a ≡ true
-and_left true b h = refl
-and_left false b h = h
-
-and_right : (a b : Bool) → (a && b) ≡ true → b ≡ true
-and_right true b h = h
-and_right false b h = absurd (cc)
-
-both : (a b : Bool) → a ≡ true → b ≡ true → (a && b) ≡ true
-both a b h k = ap (λ v. v && b) h ∙ k
 
 spellable_unjoined : (k : t.the_data) → IsSpellable k → IsSpellable (unjoined k)
 spellable_unjoined (t.Ident i) h = h
@@ -74,12 +64,11 @@ spaced_if false k ts us e h = token_spaced k ts us e h
 spaced_front : (ts us : Trees) → are_spaced (join ts us) ≡ true → are_spaced (last_alone ts) ≡ true
 spaced_front no_trees us h = refl
 spaced_front (token k rest) us h =
-    both (is_spaced (if at_end rest then unjoined k else k) (last_alone rest)) (are_spaced (last_alone rest))
-    (spaced_if (at_end rest) k rest us refl (and_left (is_spaced k (join rest us)) (are_spaced (join rest us)) h))
-    (spaced_front rest us (and_right (is_spaced k (join rest us)) (are_spaced (join rest us)) h))
+    and_from (is_spaced (if at_end rest then unjoined k else k) (last_alone rest)) (are_spaced (last_alone rest)) (spaced_if (at_end rest) k rest us refl (and_parts (is_spaced k (join rest us)) (are_spaced (join rest us)) h).0)
+    (spaced_front rest us (and_parts (is_spaced k (join rest us)) (are_spaced (join rest us)) h).1)
 spaced_front (group d from inside upto rest) us h =
-    both (are_spaced inside) (are_spaced (last_alone rest)) (and_left (are_spaced inside) (are_spaced (join rest us)) h)
-    (spaced_front rest us (and_right (are_spaced inside) (are_spaced (join rest us)) h))
+    and_from (are_spaced inside) (are_spaced (last_alone rest)) (and_parts (are_spaced inside) (are_spaced (join rest us)) h).0
+    (spaced_front rest us (and_parts (are_spaced inside) (are_spaced (join rest us)) h).1)
 
 -- an opaque part: the front of a list, cut before a comma
 pub writable_front : (ts us : Trees) → AreWritable (join ts us) → AreWritable (last_alone ts)

@@ -71,13 +71,13 @@ abbrev mutual
   pub in_input : InputTree → List Part
   in_input (input attrs i t) = in_attributes attrs ++ in_type t
 
-  pub in_bounds : BoundTrees → List Part
-  in_bounds no_bounds = []
-  in_bounds (bound_then b bs) = in_bound b ++ in_bounds bs
-
   pub in_bound : BoundTree → List Part
   in_bound (outlives l) = []
   in_bound (implements t) = in_trait t
+
+  pub in_bounds : BoundTrees → List Part
+  in_bounds no_bounds = []
+  in_bounds (bound_then b bs) = in_bound b ++ in_bounds bs
 
   pub in_trait : TraitBoundTree → List Part
   in_trait (trait_bound round maybe ls p) = in_path p

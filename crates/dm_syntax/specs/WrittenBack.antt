@@ -13,7 +13,7 @@ use Rattle.dm_ast.specs.DeclarationTokens.{predicate_trees, declaration_trees}
 use Rattle.dm_ast.specs.Parsed.{SpelledBy}
 use Rattle.dm_ast.specs.Runs.{last_alone}
 use Rattle.dm_type_eq.specs.BareTokens.{Bare, unspaced, tokens_of, spelled_of}
-use Rattle.dm_read_types.specs.BarePaths.{bare_path}
+use Rattle.dm_read_paths.specs.BarePaths.{bare_path}
 use Rattle.dm_syntax.specs.Unread.{Part, whole, cut, in_declaration}
 use Rattle.dm_meta.specs.Metas.{PathOrKeywordTree, MetaListTree, MetaTree, NestedMetaTree, path_or_keyword, meta_list, meta_spelled, nested_meta, path_or_keyword_trees, meta_list_trees, meta_trees, nested_meta_trees}
 

@@ -1,6 +1,6 @@
 ghost use Rattle.dm_stream.specs.Cursors.{sound};
 
-use dm_syntax::{Path, Ty, parse_path, parse_predicates, parse_type, type_eq};
+use dm_syntax::{Ty, parse_path, parse_predicates, parse_type, type_eq};
 use dm_tokens::{Cursor, Error, Kind, ToTokens, TokenStream, lex, print};
 use std::alloc::{AllocError, Global};
 
@@ -26,6 +26,14 @@ pub(crate) fn refusal_of(error: Error) -> Option<(Kind, usize, usize)> {
     match error {
         Error::NoMemory => None,
         Error::Refused(refusal) => Some((refusal.kind, refusal.span.start, refusal.span.end)),
+    }
+}
+
+/// The kind and the range of the refusal of what isn't read.
+fn refused<T: Drop>(read: Result<T, Error>) -> Option<(Kind, usize, usize)> {
+    match read {
+        Ok(_) => None,
+        Err(error) => refusal_of(error),
     }
 }
 
@@ -66,21 +74,13 @@ fn types(rt: HostRuntime) -> Result<(), Error> {
     Ok(())
 }
 
-/// The kind and the range of the refusal of a text that begins with no type.
-fn refused_type(alloc: Global, text: &str) -> Option<(Kind, usize, usize)> {
-    match ty(alloc, text) {
-        Ok(_) => None,
-        Err(error) => refusal_of(error),
-    }
-}
-
 /// Texts that begin with no type, and the range of the refusal.
 const NO_TYPES: &[(&str, usize, usize)] = &[("", 0, 0), (", x", 0, 1), ("3", 0, 1), ("{}", 0, 1)];
 
 #[test]
 fn no_types(rt: HostRuntime) {
     for (text, start, end) in NO_TYPES.iter().copied() {
-        assert!(rt; refused_type(rt.alloc(), text) == Some((Kind::Syntax, start, end)));
+        assert!(rt; refused(ty(rt.alloc(), text)) == Some((Kind::Syntax, start, end)));
     }
 }
 
@@ -108,39 +108,24 @@ fn levels(rt: HostRuntime) -> Result<(), AllocError> {
     let text = nested(alloc, "&", "", 128)?;
     assert!(rt; ty(alloc, text.as_str()).is_ok());
     let deep = nested(alloc, "&", "", 129)?;
-    assert!(rt; refused_type(alloc, deep.as_str()) == Some((Kind::TooDeep, 129, 131)));
+    assert!(rt; refused(ty(alloc, deep.as_str())) == Some((Kind::TooDeep, 129, 131)));
     Ok(())
 }
 
-/// The longest path that a text begins with.
-fn path<'a>(alloc: Global, text: &'a str) -> Result<Path<'a>, Error> {
+/// The number of segments of the longest path that a text begins with, its text, and the text of what it leaves.
+fn path(alloc: Global, text: &str) -> Result<(usize, String, String), Error> {
     let stream = lex(alloc, text)?;
-    let (path, _) = parse_path(alloc, stream.cursor())?;
-    Ok(path)
-}
-
-/// The text of what that path leaves.
-fn behind_path(alloc: Global, text: &str) -> Result<String, Error> {
-    let stream = lex(alloc, text)?;
-    let (_, rest) = parse_path(alloc, stream.cursor())?;
-    Ok(left(alloc, rest)?)
-}
-
-/// The kind and the range of the refusal of a text that begins with no path.
-fn refused_path(alloc: Global, text: &str) -> Option<(Kind, usize, usize)> {
-    match path(alloc, text) {
-        Ok(_) => None,
-        Err(error) => refusal_of(error),
-    }
+    let (path, rest) = parse_path(alloc, stream.cursor())?;
+    let front = printed(alloc, &path)?;
+    Ok((path.segments.len(), front, left(alloc, rest)?))
 }
 
 #[test]
 fn path_levels(rt: HostRuntime) -> Result<(), AllocError> {
     let alloc = rt.alloc();
-    let text = nested(alloc, "a<", ">", 128)?;
-    assert!(rt; path(alloc, text.as_str()).is_ok());
-    let deep = nested(alloc, "a<", ">", 129)?;
-    assert!(rt; refused_path(alloc, deep.as_str()) == Some((Kind::TooDeep, 258, 260)));
+    assert!(rt; path(alloc, nested(alloc, "a<", ">", 128)?.as_str()).is_ok());
+    let refusal = refused(path(alloc, nested(alloc, "a<", ">", 129)?.as_str()));
+    assert!(rt; refusal == Some((Kind::TooDeep, 258, 260)));
     Ok(())
 }
 
@@ -157,17 +142,16 @@ const PATHS: &[(&str, usize, &str, &str)] = &[
 fn paths(rt: HostRuntime) -> Result<(), Error> {
     let alloc = rt.alloc();
     for (text, count, front, others) in PATHS.iter().copied() {
-        let path = path(alloc, text)?;
-        assert!(rt; path.segments.len() == count);
-        assert!(rt; printed(alloc, &path)?.as_str() == front);
-        assert!(rt; behind_path(alloc, text)?.as_str() == others);
+        let (segments, path, rest) = path(alloc, text)?;
+        assert!(rt; segments == count);
+        assert!(rt; path.as_str() == front && rest.as_str() == others);
     }
     Ok(())
 }
 
 #[test]
 fn no_path(rt: HostRuntime) {
-    assert!(rt; refused_path(rt.alloc(), "fn a") == Some((Kind::Syntax, 0, 2)));
+    assert!(rt; refused(path(rt.alloc(), "fn a")) == Some((Kind::Syntax, 0, 2)));
 }
 
 /// How many predicates a text is.
@@ -175,14 +159,6 @@ fn predicates_of(alloc: Global, text: &str) -> Result<usize, Error> {
     let stream = lex(alloc, text)?;
     let found = parse_predicates(alloc, stream.cursor())?;
     Ok(found.items.len())
-}
-
-/// The kind and the range of the refusal of a text that is no predicates.
-fn refused_predicates(alloc: Global, text: &str) -> Option<(Kind, usize, usize)> {
-    match predicates_of(alloc, text) {
-        Ok(_) => None,
-        Err(error) => refusal_of(error),
-    }
 }
 
 /// Predicates, and how many each text has.
@@ -204,7 +180,7 @@ fn predicates(rt: HostRuntime) -> Result<(), Error> {
 #[test]
 fn no_predicates(rt: HostRuntime) {
     for text in [",", "T: X = 1", "T X"] {
-        match refused_predicates(rt.alloc(), text) {
+        match refused(predicates_of(rt.alloc(), text)) {
             Some((kind, _, _)) => assert!(rt; kind == Kind::Syntax),
             None => assert!(rt; false),
         }
@@ -221,10 +197,9 @@ fn referred(alloc: Global, times: usize) -> Result<String, AllocError> {
 #[test]
 fn predicate_levels(rt: HostRuntime) -> Result<(), AllocError> {
     let alloc = rt.alloc();
-    let text = referred(alloc, 128)?;
-    assert!(rt; predicates_of(alloc, text.as_str()).is_ok());
-    let deep = referred(alloc, 129)?;
-    assert!(rt; refused_predicates(alloc, deep.as_str()) == Some((Kind::TooDeep, 129, 131)));
+    assert!(rt; predicates_of(alloc, referred(alloc, 128)?.as_str()).is_ok());
+    let refusal = refused(predicates_of(alloc, referred(alloc, 129)?.as_str()));
+    assert!(rt; refusal == Some((Kind::TooDeep, 129, 131)));
     Ok(())
 }
 

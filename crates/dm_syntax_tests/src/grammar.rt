@@ -28,6 +28,16 @@ fn is_read(alloc: Global, text: &str) -> Result<bool, Error> {
     Ok(found.as_str() == text && again.as_str() == text)
 }
 
+/// The first text for which `is_read` is false.
+fn first_unread<'t>(alloc: Global, texts: &[&'t str]) -> Result<Option<&'t str>, Error> {
+    for text in texts.iter().copied() {
+        if !is_read(alloc, text)? {
+            return Ok(Some(text));
+        }
+    }
+    Ok(None)
+}
+
 /// The kind and the range of the refusal of a text.
 fn refused(alloc: Global, text: &str) -> Option<(Kind, usize, usize)> {
     match read(alloc, text) {
@@ -272,10 +282,10 @@ const TYPES: &[&str] = &[
 ];
 
 #[test]
-fn items(rt: HostRuntime) -> Result<(), Error> {
-    for text in ITEMS.iter().copied() {
-        assert!(rt; is_read(rt.alloc(), text)?);
-    }
+fn declarations(rt: HostRuntime) -> Result<(), Error> {
+    assert_eq!(rt; first_unread(rt.alloc(), ITEMS)?, None);
+    assert_eq!(rt; first_unread(rt.alloc(), ATTRIBUTES)?, None);
+    assert_eq!(rt; first_unread(rt.alloc(), GENERICS)?, None);
     Ok(())
 }
 
@@ -285,22 +295,6 @@ fn ends(rt: HostRuntime) -> Result<(), Error> {
     for (text, wanted) in ENDS.iter().copied() {
         let input = read(alloc, text)?;
         assert!(rt; written(alloc, &input)?.as_str() == wanted);
-    }
-    Ok(())
-}
-
-#[test]
-fn attributes(rt: HostRuntime) -> Result<(), Error> {
-    for text in ATTRIBUTES.iter().copied() {
-        assert!(rt; is_read(rt.alloc(), text)?);
-    }
-    Ok(())
-}
-
-#[test]
-fn generics(rt: HostRuntime) -> Result<(), Error> {
-    for text in GENERICS.iter().copied() {
-        assert!(rt; is_read(rt.alloc(), text)?);
     }
     Ok(())
 }

@@ -10,6 +10,8 @@ mod metas;
 #[cfg(test)]
 mod names;
 #[cfg(test)]
+mod searches;
+#[cfg(test)]
 mod tokens;
 #[cfg(test)]
 mod trees;

@@ -41,24 +41,14 @@ fn names(rt: HostRuntime) -> Result<(), Error> {
             Err(refusal) => Some((refusal.kind, refusal.span.start, refusal.span.end)),
         };
         assert!(rt; found == want);
-    }
-    Ok(())
-}
-
-#[test]
-fn many_names(rt: HostRuntime) -> Result<(), Error> {
-    let alloc = rt.alloc();
-    for (text, want) in ROWS.iter().copied() {
-        let stream = lex(alloc, text)?;
-        let input = parse_decl(alloc, &stream)?;
-        let found = match check_names_in(alloc, &input) {
+        let found_in_memory = match check_names_in(alloc, &input) {
             Ok(()) => None,
             Err(Error::NoMemory) => return Err(Error::NoMemory),
             Err(Error::Refused(refusal)) => {
                 Some((refusal.kind, refusal.span.start, refusal.span.end))
             }
         };
-        assert!(rt; found == want);
+        assert!(rt; found_in_memory == want);
     }
     Ok(())
 }

@@ -35,33 +35,16 @@ fn predicate<'x, 'a>(input: &'x DeriveInput<'a>) -> Option<&'x WherePredicate<'a
 const TEXT: &str = "struct P<T: ?::S<u8> + 'a = U>(T,) where T: 'a;";
 
 #[test]
-fn parameters(rt: HostRuntime) -> Result<(), Error> {
-    let input = read(rt.alloc(), TEXT)?;
-    match param(&input) {
-        Some(found) => {
-            assert!(rt; printed(rt.alloc(), found)?.as_str() == "T : ? :: S < u8 > + 'a = U");
+fn parts(rt: HostRuntime) -> Result<(), Error> {
+    let alloc = rt.alloc();
+    let input = read(alloc, TEXT)?;
+    match (param(&input), bound(&input), predicate(&input)) {
+        (Some(param), Some(bound), Some(predicate)) => {
+            assert!(rt; printed(alloc, param)?.as_str() == "T : ? :: S < u8 > + 'a = U");
+            assert!(rt; printed(alloc, bound)?.as_str() == "? :: S < u8 >");
+            assert!(rt; printed(alloc, predicate)?.as_str() == "T : 'a");
         }
-        None => assert!(rt; false),
-    }
-    Ok(())
-}
-
-#[test]
-fn bounds(rt: HostRuntime) -> Result<(), Error> {
-    let input = read(rt.alloc(), TEXT)?;
-    match bound(&input) {
-        Some(found) => assert!(rt; printed(rt.alloc(), found)?.as_str() == "? :: S < u8 >"),
-        None => assert!(rt; false),
-    }
-    Ok(())
-}
-
-#[test]
-fn predicates(rt: HostRuntime) -> Result<(), Error> {
-    let input = read(rt.alloc(), TEXT)?;
-    match predicate(&input) {
-        Some(found) => assert!(rt; printed(rt.alloc(), found)?.as_str() == "T : 'a"),
-        None => assert!(rt; false),
+        _ => assert!(rt; false),
     }
     Ok(())
 }

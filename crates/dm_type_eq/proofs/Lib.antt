@@ -1,4 +1,3 @@
-pub mod Comparing
 pub mod CutMacros
 pub mod Cutting
 pub mod RespelledTypes

@@ -6,7 +6,7 @@ use Rattle.dm_stream.specs.declared.tokens.Delim.TheVariants.{Paren, Bracket}
 use Rattle.dm_stream.specs.Layout.{nowhere}
 use Rattle.dm_stream.specs.Trees.{Trees, no_trees, join, join-no_trees, join_assoc}
 use Rattle.dm_ast.specs.Tree.{TypeTree, type_tree, TypeNode, paren, tuple, slice, array, reference, pointer, bare_fn, trait_object, impl_trait, infer, never, path, macro_type, TypeTrees, no_types, type_then, MaybeType, no_type, some_type, no_self, some_self, BoundTree, outlives, implements, BoundTrees, no_bounds, bound_then, TraitBoundTree, trait_bound, FnTree, fn_tree, InputTree, input, InputTrees, no_inputs, input_then, PathTree, path_tree, SegmentTree, segment, SegmentTrees, no_segments, segment_then, ArgumentsTree, absent, angle, parens, ArgumentTree, lifetime_arg, type_arg, const_arg, assoc_type, assoc_const, constraint, ArgumentTrees, no_arguments, argument_then, MaybeArguments, arguments_absent, some_arguments}
-use Rattle.dm_ast.specs.Spelling.{Where, Marks, Facing, ◌then◌, at_end, sees, punct, colons, flag}
+use Rattle.dm_ast.specs.Spelling.{Where, Marks, Facing, ◌then◌, at_end, sees, punct, flag}
 use Rattle.dm_ast.specs.TypeGrammar.{sees_macro, is_macro, is_tuple, ends_bounds, opaque, kept, type_spelled, node, types, types_left, output, function, input_spelled, inputs, inputs_left, bound, trait_bound_spelled, some_bounds, more_bounds, bounds, bounds_left, path_spelled, segments, segments_left, qualified, trait_segments, some_segments_left, segment_spelled, arguments_of_segment, arguments, arguments_left, argument, maybe_angled, for_lifetimes}
 use Rattle.dm_ast.specs.TypeTokens as spell
 use Rattle.dm_type_eq.specs.Unplaced.{unplaced_ident, unplaced_lifetimes, unplaced_plain, unplaced_stream, unplaced_opaque, unplaced_type, unplaced_node, unplaced_types, unplaced_maybe_type, unplaced_bound, unplaced_bounds, unplaced_trait, unplaced_fn, unplaced_input, unplaced_inputs, unplaced_path, unplaced_segments, unplaced_segment, unplaced_arguments_of, unplaced_argument, unplaced_arguments, unplaced_maybe_arguments}
@@ -216,17 +216,17 @@ mutual
       (spell.given u (spell.punct 43 nowhere)))))
       (respells_then (respells_punct 43 (plain 43 refl) l) (respells_then (again_bound b l) (again_more_bounds bs single u l e))))
 
-  again_bounds : (bs : BoundTrees) (u : Bool) {v w : Where} → Lower v w →
-      RespellsIf (Ending ends_bounds) (bounds bs u w) (bounds (unplaced_bounds bs) u v) (spell.listed 43 nowhere (spell.each_bound nowhere (unplaced_bounds bs)) u)
-  again_bounds no_bounds u l = respells_none 43 (plain 43 refl) ends_bounds l u
-  again_bounds (bound_then b bs) u l =
-      respells_first 43 (plain 43 refl) ends_bounds l (spell.each_bound nowhere (unplaced_bounds bs)) u (again_bound b l) (again_bounds_left bs u l)
-
   again_bounds_left : (bs : BoundTrees) (u : Bool) {v w : Where} → Lower v w →
       RespellsIf (Ending ends_bounds) (bounds_left bs u w) (bounds_left (unplaced_bounds bs) u v) (Left 43 (spell.each_bound nowhere (unplaced_bounds bs)) u)
   again_bounds_left no_bounds u l = respells_last 43 (plain 43 refl) ends_bounds l u
   again_bounds_left (bound_then b bs) u l =
       respells_next 43 (plain 43 refl) ends_bounds l (spell.each_bound nowhere (unplaced_bounds bs)) u (again_bound b l) (again_bounds_left bs u l)
+
+  again_bounds : (bs : BoundTrees) (u : Bool) {v w : Where} → Lower v w →
+      RespellsIf (Ending ends_bounds) (bounds bs u w) (bounds (unplaced_bounds bs) u v) (spell.listed 43 nowhere (spell.each_bound nowhere (unplaced_bounds bs)) u)
+  again_bounds no_bounds u l = respells_none 43 (plain 43 refl) ends_bounds l u
+  again_bounds (bound_then b bs) u l =
+      respells_first 43 (plain 43 refl) ends_bounds l (spell.each_bound nowhere (unplaced_bounds bs)) u (again_bound b l) (again_bounds_left bs u l)
 
   -- ---- paths
 

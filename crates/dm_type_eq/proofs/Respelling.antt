@@ -25,7 +25,7 @@ use Rattle.dm_ast.specs.Tree.{Lifetimes}
 use Rattle.dm_ast.specs.Spelling.{Where, deeper, Marks, Spelling, deepest, first_too_deep, last_end, range_of, marks_of, at_end, sees, sees_word, sees_lifetime, sees_literal, sees_colons, Nothing, Facing, ◌then◌, Provided, Before, TokenAt, ident, lifetime, literal, punct, keyword, PairAt, LoneAt, colons, arrow, colon, equals, is_joint, sees_one, GroupAt, flag, perhaps, repeated, chain, no_items, last_item, items_left, items, RangedAt, AllAt}
 use Rattle.dm_ast.specs.TypeGrammar.{name, plain_path, opaque, kept, attribute_args, attribute, attributes, between_angles, for_lifetimes, constant_spelled, constant_argument, not_named}
 use Rattle.dm_ast.specs.TypeTokens as spell
-use Rattle.dm_read_types.proofs.PlainParts.{nothing_left}
+use Rattle.dm_read_paths.proofs.PlainParts.{nothing_left}
 use Rattle.dm_type_eq.specs.Unplaced.{unplaced_ident, unplaced_lifetime, unplaced_literal, unplaced_token, unplaced_trees, unplaced_stream, unplaced_opaque, unplaced_option, unplaced_plain, unplaced_args, unplaced_attribute, unplaced_lifetimes, unplaced_abi, unplaced_constant}
 use Rattle.dm_type_eq.proofs.Cutting.{IsAlone, Cut, cut_end, cut_ident, cut_lifetime, cut_literal, cut_punct, cut_pair, cut_group, Unseen, closed, unseen_sees, unseen_word, unseen_lifetime, unseen_literal, unseen_colons}
 use Rattle.dm_type_eq.proofs.CutMacros.{unseen_macro}
@@ -330,9 +330,28 @@ opaque_again {v} {w} l x ts others m s o c =
 opaque_lower : {v w : Where} → Lower v w → (x : Opaque) (ts others : Trees) (m : Marks) → opaque w x ts others m → Lowered (Kept v x) m
 opaque_lower {v} {w} l x ts others m s = subst (Lowered (Kept v x)) (sym s.part.part.marks) (lower_levels v.level w.level x.tokens.trees l.level)
 
+-- what stands behind one punct, too
+closing_lower : {v w : Where} → Lower v w → (x : Opaque) (ts others : Trees) (r : Span) (first rest m : Marks) → m ≡ first ++ rest →
+    first ≡ (w.level, r) ∷ [] → opaque w x ts others rest → Lowered ((v.level, nowhere) ∷ Kept v x) m
+closing_lower {v} {w} l x ts others r first rest m e f s =
+    subst (Lowered ((v.level, nowhere) ∷ Kept v x)) (sym e)
+    (lowered_append ((v.level, nowhere) ∷ []) (Kept v x) first rest (mark_lower v.level w.level r first l.level f) (opaque_lower l x ts others rest s))
+
 -- a punct and all that is left behind it
 abbrev Closing : ℕ → Opaque → Trees
 Closing c x = join (spell.punct c nowhere) (unplaced_trees x.tokens.trees)
+
+-- behind a part of one mark
+closed_again : {v w : Where} → Lower v w → (x : Opaque) (First : Spelling) (mid others : Trees) (m : Marks) → opaque w x mid others m → (ts o : Trees) → Cut o others →
+    First ts (join (unplaced_trees x.tokens.trees) o) ((v.level, nowhere) ∷ []) → (First then opaque v (unplaced_opaque x)) ts o ((v.level, nowhere) ∷ Kept v x)
+closed_again {v} {w} l x First mid others m s ts o c first = record {
+  middle = join (unplaced_trees x.tokens.trees) o;
+  first_marks = (v.level, nowhere) ∷ [];
+  rest_marks = Kept v x;
+  first = first;
+  rest = opaque_again l x mid others m s o c;
+  marks = refl;
+}
 
 pub respells_length : {v w : Where} → Lower v w → (x : Opaque) →
     Respells (punct w 59 then opaque w x) (punct v 59 then opaque v (unplaced_opaque x)) (Closing 59 x)
@@ -340,17 +359,9 @@ respells_length {v} {w} l x ts others m s o c h =
     let p = s.first in
     record {
       marks = (v.level, nowhere) ∷ Kept v x;
-      spelled = record {
-        middle = join (unplaced_trees x.tokens.trees) o;
-        first_marks = (v.level, nowhere) ∷ [];
-        rest_marks = Kept v x;
-        first = record { punct = record { ch = 59; spacing = Alone; span = nowhere }; is = refl; there = record { spelled = refl; marks = refl } };
-        rest = opaque_again l x s.middle others s.rest_marks s.rest o c;
-        marks = refl;
-      };
-      lower = subst (Lowered ((v.level, nowhere) ∷ Kept v x)) (sym s.marks)
-          (lowered_append ((v.level, nowhere) ∷ []) (Kept v x) s.first_marks s.rest_marks
-          (mark_lower v.level w.level p.punct.span s.first_marks l.level p.there.marks) (opaque_lower l x s.middle others s.rest_marks s.rest));
+      spelled = closed_again l x (punct v 59) s.middle others s.rest_marks s.rest (join (Closing 59 x) o) o c
+          (record { punct = record { ch = 59; spacing = Alone; span = nowhere }; is = refl; there = record { spelled = refl; marks = refl } });
+      lower = closing_lower l x s.middle others p.punct.span s.first_marks s.rest_marks m s.marks p.there.marks s.rest;
       cut = subst (λ z. Cut (join (Closing 59 x) o) z) (sym p.there.spelled)
           (cut_punct 59 p.punct (join (unplaced_trees x.tokens.trees) o) s.middle p.is
           (record { colon = λ e. absurd (omega (arith, e)); equals = λ e. absurd (omega (arith, e)) }) (λ e. absurd (omega (arith, e))));
@@ -362,17 +373,9 @@ respells_value {v} {w} l x ts others m s o c h =
     let p = s.first in
     record {
       marks = (v.level, nowhere) ∷ Kept v x;
-      spelled = record {
-        middle = join (unplaced_trees x.tokens.trees) o;
-        first_marks = (v.level, nowhere) ∷ [];
-        rest_marks = Kept v x;
-        first = record { punct = record { ch = 61; spacing = Alone; span = nowhere }; is = refl; lone = refl; there = record { spelled = refl; marks = refl } };
-        rest = opaque_again l x s.middle others s.rest_marks s.rest o c;
-        marks = refl;
-      };
-      lower = subst (Lowered ((v.level, nowhere) ∷ Kept v x)) (sym s.marks)
-          (lowered_append ((v.level, nowhere) ∷ []) (Kept v x) s.first_marks s.rest_marks
-          (mark_lower v.level w.level p.punct.span s.first_marks l.level p.there.marks) (opaque_lower l x s.middle others s.rest_marks s.rest));
+      spelled = closed_again l x (equals v) s.middle others s.rest_marks s.rest (join (Closing 61 x) o) o c
+          (record { punct = record { ch = 61; spacing = Alone; span = nowhere }; is = refl; lone = refl; there = record { spelled = refl; marks = refl } });
+      lower = closing_lower l x s.middle others p.punct.span s.first_marks s.rest_marks m s.marks p.there.marks s.rest;
       cut = subst (λ z. Cut (join (Closing 61 x) o) z) (sym p.there.spelled)
           (cut_punct 61 p.punct (join (unplaced_trees x.tokens.trees) o) s.middle p.is
           (record { colon = λ e. absurd (omega (arith, e)); equals = λ _. p.lone }) (λ e. absurd (omega (arith, e))));

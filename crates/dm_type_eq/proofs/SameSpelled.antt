@@ -1,24 +1,24 @@
 -- Types that are read somewhere and have the same tokens are the same part for part: both are read again from these tokens without their
 -- places, and trees are read as one type.
-use Rattle.std.proofs.Common.{◌≡◌, ℕ, Bool, true, false, List, codes, Some, None, Ok, Err, refl, sym, ap₂, ◌∙◌, subst, arith}
+use Rattle.std.proofs.Common.{◌≡◌, ℕ, Bool, true, false, List, codes, Some, None, Ok, Err, refl, sym, ◌∙◌, subst, arith}
 use Rattle.dm_stream.specs.declared.tokens.Span.{Span}
 use Rattle.dm_stream.specs.declared.error.Kind.{Kind}
 use Rattle.dm_stream.specs.declared.error.Kind.TheVariants.{TooDeep, Syntax}
 use Rattle.dm_stream.specs.Trees.{Trees, no_trees, join-no_trees}
-use Rattle.dm_ast.specs.declared.ty.Ty.{Ty}
-use Rattle.dm_ast.specs.Tree.{ty_view, node_view, TypeTree, type_tree, TypeNode, pointer, trait_object, impl_trait, path, no_self, some_self, BoundTrees, no_bounds, bound_then}
+use Rattle.dm_ast.specs.Tree.{TypeTree, type_tree, TypeNode, pointer, trait_object, impl_trait, path, no_self, some_self, BoundTrees, no_bounds, bound_then}
 use Rattle.dm_ast.specs.Spelling.{Where, deeper, Marks, Spelling, first_too_deep, ◌then◌, keyword}
 use Rattle.dm_ast.specs.TypeGrammar.{type_spelled, node, some_bounds}
 use Rattle.dm_ast.specs.TypeTokens.{type_trees}
 use Rattle.dm_type_eq.specs.BareTokens.{tokens_of}
-use Rattle.dm_type_eq.specs.SameTypes.{same_type, same_node, IsSpelled}
+use Rattle.dm_same.specs.SameTypes.{same_type}
+use Rattle.dm_type_eq.specs.Spelled.{IsSpelled}
 use Rattle.dm_ast.specs.Readers.{Outcome}
-use Rattle.dm_read_types.specs.TypeReaders.{read_type}
-use Rattle.dm_read_types.specs.declared.kind.Mode.TheVariants.{Whole}
-use Rattle.dm_ast.proofs.View.{view-Ty}
+use Rattle.dm_read_paths.specs.TypeReaders.{read_type}
+use Rattle.dm_read_paths.specs.declared.kind.Mode.TheVariants.{Whole}
 use Rattle.dm_read.proofs.Deciding.{IsRefused, Decides}
 use Rattle.dm_read_types.proofs.TypeTheorem.{type_decided}
 use Rattle.dm_type_eq.specs.Unplaced.{unplaced_type}
+use Rattle.dm_type_eq.proofs.SameTokens.{type_same}
 use Rattle.dm_type_eq.proofs.UnplacedSame.{same_unplaced, unplaced_tokens}
 use Rattle.dm_type_eq.proofs.Cutting.{cut_end}
 use Rattle.dm_type_eq.proofs.Respelling.{Again, lowered_within}
@@ -120,7 +120,11 @@ same_spelled a b h g e =
     (read_as_one own (read_type 129 Whole top own) (type_decided top own) (unplaced_type a) (unplaced_type b) x.marks y.marks x.spelled x.within
     (subst (λ z. type_spelled (unplaced_type b) false top z no_trees y.marks) (sym (unplaced_tokens a b e)) y.spelled))
 
--- what the program compares
-pub same_read : (a b : Ty) (r : Bool) → r ≡ same_node (node_view a.node) (node_view b.node) → IsSpelled (ty_view a) → IsSpelled (ty_view b) →
-    tokens_of (type_trees (ty_view a)) ≡ tokens_of (type_trees (ty_view b)) → r ≡ true
-same_read a b r e h g f = e ∙ sym (ap₂ same_type (view-Ty a) (view-Ty b)) ∙ same_spelled (ty_view a) (ty_view b) h g f
+-- what the program answers
+pub tokens_told : (a b : TypeTree) (r : Bool) → r ≡ same_type a b → r ≡ true → tokens_of (type_trees a) ≡ tokens_of (type_trees b)
+tokens_told a b r e h = type_same a b (sym e ∙ h)
+
+pub spelled_told : (a b : TypeTree) (r : Bool) → r ≡ same_type a b → IsSpelled a → IsSpelled b → tokens_of (type_trees a) ≡ tokens_of (type_trees b) → r ≡ true
+spelled_told a b r e h g f = e ∙ same_spelled a b h g f
+
+pub ruleset spelled_steps = (tokens_told)

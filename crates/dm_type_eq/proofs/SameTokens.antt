@@ -1,6 +1,6 @@
 -- Types that are the same part for part have the same tokens.
 use Rattle.std.proofs.Common.{◌≡◌, ℕ, Bool, true, false, cond, ◌&&◌, ◌==◌, nat_eq, List, [], ◌∷◌, ◌++◌, map, take, drop, codes, Option, Some, None, refl, sym, ap, ap₂, ◌∙◌, append_assoc}
-use Rattle.std.proofs.lemmas.Bool.{eqb-true}
+use Rattle.std.proofs.lemmas.Bool.{and_parts, eqb-true}
 use Rattle.std.proofs.lemmas.List.{map-append, take-map, drop-map}
 use Rattle.std.proofs.lemmas.Slice.Eq.{bytes_eq-Decides}
 use Rattle.std.specs.Str.{bytes_eq}
@@ -29,25 +29,21 @@ use Rattle.dm_ast.specs.declared.plain.ConstArg.TheVariants as constant
 use Rattle.dm_ast.specs.Tree.{Lifetimes, TypeTree, type_tree, TypeNode, paren, tuple, slice, array, reference, pointer, bare_fn, trait_object, impl_trait, infer, never, path, macro_type, TypeTrees, no_types, type_then, MaybeType, no_type, some_type, MaybeSelf, no_self, some_self, BoundTree, outlives, implements, BoundTrees, no_bounds, bound_then, TraitBoundTree, trait_bound, FnTree, fn_tree, InputTree, input, InputTrees, no_inputs, input_then, PathTree, path_tree, SegmentTree, segment, SegmentTrees, no_segments, segment_then, ArgumentsTree, absent, angle, parens, ArgumentTree, lifetime_arg, type_arg, const_arg, assoc_type, assoc_const, constraint, ArgumentTrees, no_arguments, argument_then, MaybeArguments, arguments_absent, some_arguments}
 use Rattle.dm_ast.specs.TypeTokens as spell
 use Rattle.dm_type_eq.specs.BareTokens.{Bare, bare_name, bare_lifetime, bare_literal, bare_punct, opening, closing, bare, tokens_of}
-use Rattle.dm_type_eq.specs.SameTypes.{same_flag, same_option, all_same, same_name, same_lifetime, kind_number, same_literal, same_spacing, same_token, same_entry, same_stream, same_lifetimes, same_plain, same_args, same_attribute, same_constant, same_abi, same_type, same_node, same_types, same_maybe_type, same_self, same_bound, same_bounds, same_trait_bound, same_fn, same_input, same_inputs, same_path, same_segments, same_segment, same_arguments_of, same_argument, same_arguments, same_maybe_arguments}
+use Rattle.dm_same.specs.SameTypes.{same_flag, same_option, all_same, same_name, same_lifetime, kind_number, same_literal, same_spacing, same_token, same_entry, same_stream, same_lifetimes, same_plain, same_args, same_attribute, same_constant, same_abi, same_type, same_node, same_types, same_maybe_type, same_self, same_bound, same_bounds, same_trait_bound, same_fn, same_input, same_inputs, same_path, same_segments, same_segment, same_arguments_of, same_argument, same_arguments, same_maybe_arguments}
 
 abbrev pub Same : Trees → Trees → Type 0
 Same ts us = tokens_of ts ≡ tokens_of us
 
 -- ---- truth values
 
-both : (a b : Bool) → (a && b) ≡ true → (a ≡ true) × (b ≡ true)
-both true b e = (refl, e)
-both false b e = absurd (cc)
-
 first_of_three : (a b c : Bool) → (a && b && c) ≡ true → a ≡ true
-first_of_three a b c e = (both a b (both (a && b) c e).0).0
+first_of_three a b c e = (and_parts a b (and_parts (a && b) c e).0).0
 
 second_of_three : (a b c : Bool) → (a && b && c) ≡ true → b ≡ true
-second_of_three a b c e = (both a b (both (a && b) c e).0).1
+second_of_three a b c e = (and_parts a b (and_parts (a && b) c e).0).1
 
 third_of_three : (a b c : Bool) → (a && b && c) ≡ true → c ≡ true
-third_of_three a b c e = (both (a && b) c e).1
+third_of_three a b c e = (and_parts (a && b) c e).1
 
 flag_same : (a b : Bool) → same_flag a b ≡ true → a ≡ b
 flag_same true true e = refl
@@ -83,6 +79,25 @@ all_tokens l = map tokens_of l
 abbrev AllSame : List Trees → List Trees → Type 0
 AllSame xs ys = all_tokens xs ≡ all_tokens ys
 
+-- one item more
+item_same : {x y : List Bare} {xs ys : List (List Bare)} (a b : Bool) → (a ≡ true → x ≡ y) → (b ≡ true → xs ≡ ys) → (a && b) ≡ true → x ∷ xs ≡ y ∷ ys
+item_same a b f g e = let h = and_parts a b e in ap₂ (λ l ls. l ∷ ls) (f h.0) (g h.1)
+
+list_same : {A : Type 0} (same : A → A → Bool) (trees_of : A → Trees) → ((x y : A) → same x y ≡ true → Same (trees_of x) (trees_of y)) →
+    (xs ys : List A) → all_same same xs ys ≡ true → AllSame (map trees_of xs) (map trees_of ys)
+list_same same trees_of f [] [] e = refl
+list_same same trees_of f (x ∷ xs) (y ∷ ys) e = item_same (same x y) (all_same same xs ys) (f x y) (list_same same trees_of f xs ys) e
+list_same same trees_of f [] (y ∷ ys) e = absurd (cc)
+list_same same trees_of f (x ∷ xs) [] e = absurd (cc)
+
+-- what may be missing, by its tokens on each side
+option_same : {A : Type 0} (same : A → A → Bool) (f g : Option A → Trees) → Same (f None) (g None) →
+    ((x y : A) → same x y ≡ true → Same (f (Some x)) (g (Some y))) → (a b : Option A) → same_option same a b ≡ true → Same (f a) (g b)
+option_same same f g n h None None e = n
+option_same same f g n h (Some x) (Some y) e = h x y e
+option_same same f g n h None (Some y) e = absurd (cc)
+option_same same f g n h (Some x) None e = absurd (cc)
+
 abbrev spaced_tokens : List Bare → Bool → List (List Bare) → List Bare
 spaced_tokens between first [] = []
 spaced_tokens between first (x ∷ xs) = cond first [] between ++ (x ++ spaced_tokens between false xs)
@@ -115,7 +130,7 @@ angles_same s r xs ys a b e f =
 
 name_same : (i j : Ident) → same_name i j ≡ true → Same (spell.name i) (spell.name j)
 name_same i j e =
-    let h = both (same_flag i.raw j.raw) (bytes_eq i.name j.name) e in
+    let h = and_parts (same_flag i.raw j.raw) (bytes_eq i.name j.name) e in
     ap₂ (λ n r. bare_name n r ∷ []) ((bytes_eq-Decides i.name j.name).0 h.1) (flag_same i.raw j.raw h.0)
 
 lifetime_same : (l k : Lifetime) → same_lifetime l k ≡ true → Same (spell.lifetime l) (spell.lifetime k)
@@ -143,7 +158,7 @@ kind_same k l e = sym (kind_again k) ∙ ap kind_of (eqb-true (kind_number k) (k
 
 literal_same : (l k : Literal) → same_literal l k ≡ true → Same (spell.literal l) (spell.literal k)
 literal_same l k e =
-    let h = both (nat_eq (kind_number l.kind) (kind_number k.kind)) (bytes_eq l.text k.text) e in
+    let h = and_parts (nat_eq (kind_number l.kind) (kind_number k.kind)) (bytes_eq l.text k.text) e in
     ap₂ (λ a b. bare_literal a b ∷ []) (kind_same l.kind k.kind h.0) ((bytes_eq-Decides l.text k.text).0 h.1)
 
 spacing_same : (a b : Spacing) → same_spacing a b ≡ true → a ≡ b
@@ -163,7 +178,7 @@ token_same (t.Ident i) (t.Ident j) e = name_same i j e
 token_same (t.Lifetime l) (t.Lifetime k) e = lifetime_same l k e
 token_same (t.Literal l) (t.Literal k) e = literal_same l k e
 token_same (t.Punct p) (t.Punct q) e =
-    let h = both (nat_eq p.ch q.ch) (same_spacing p.spacing q.spacing) e in
+    let h = and_parts (nat_eq p.ch q.ch) (same_spacing p.spacing q.spacing) e in
     ap₂ (λ a b. bare_punct a b ∷ []) (eqb-true p.ch q.ch h.0) (spacing_same p.spacing q.spacing h.1)
 token_same _ _ e = absurd (cc)
 
@@ -184,7 +199,7 @@ entry_same _ _ h = absurd (cc)
 entries_same : (es fs : List Entry) → all_same same_entry es fs ≡ true → map bare_entry es ≡ map bare_entry fs
 entries_same [] [] h = refl
 entries_same (e ∷ es) (f ∷ fs) h =
-    let g = both (same_entry e f) (all_same same_entry es fs) h in
+    let g = and_parts (same_entry e f) (all_same same_entry es fs) h in
     ap₂ (λ x y. x ∷ y) (entry_same e f g.0) (entries_same es fs g.1)
 entries_same [] (f ∷ fs) h = absurd (cc)
 entries_same (e ∷ es) [] h = absurd (cc)
@@ -203,25 +218,15 @@ stream_same s u e = sym (tokens_flat s.trees) ∙ entries_same (flatten s.trees)
 -- ---- the parts that hold no types
 
 names_same : (xs ys : List Ident) → all_same same_name xs ys ≡ true → AllSame (map spell.name xs) (map spell.name ys)
-names_same [] [] e = refl
-names_same (x ∷ xs) (y ∷ ys) e =
-    let h = both (same_name x y) (all_same same_name xs ys) e in
-    ap₂ (λ a b. a ∷ b) (name_same x y h.0) (names_same xs ys h.1)
-names_same [] (y ∷ ys) e = absurd (cc)
-names_same (x ∷ xs) [] e = absurd (cc)
+names_same = list_same same_name spell.name name_same
 
 lifetimes_same : (xs ys : List Lifetime) → all_same same_lifetime xs ys ≡ true → AllSame (map spell.lifetime xs) (map spell.lifetime ys)
-lifetimes_same [] [] e = refl
-lifetimes_same (x ∷ xs) (y ∷ ys) e =
-    let h = both (same_lifetime x y) (all_same same_lifetime xs ys) e in
-    ap₂ (λ a b. a ∷ b) (lifetime_same x y h.0) (lifetimes_same xs ys h.1)
-lifetimes_same [] (y ∷ ys) e = absurd (cc)
-lifetimes_same (x ∷ xs) [] e = absurd (cc)
+lifetimes_same = list_same same_lifetime spell.lifetime lifetime_same
 
 for_same : (s r : Span) (a b : Lifetimes) → same_lifetimes a b ≡ true → Same (spell.for_trees s a) (spell.for_trees r b)
 for_same s r None None e = refl
 for_same s r (Some ls) (Some ks) e =
-    let h = both (all_same same_lifetime ls.items ks.items) (same_flag ls.trailing ks.trailing) e in
+    let h = and_parts (all_same same_lifetime ls.items ks.items) (same_flag ls.trailing ks.trailing) e in
     ap (λ l. bare_name (codes "for") false ∷ l)
     (angles_same s r (map spell.lifetime ls.items) (map spell.lifetime ks.items) ls.trailing ks.trailing (lifetimes_same ls.items ks.items h.0)
     (flag_same ls.trailing ks.trailing h.1))
@@ -230,7 +235,7 @@ for_same s r (Some ls) None e = absurd (cc)
 
 plain_same : (s r : Span) (p q : PlainPath) → same_plain p q ≡ true → Same (spell.plain_trees s p) (spell.plain_trees r q)
 plain_same s r p q e =
-    let h = both (same_flag p.leading_colon q.leading_colon) (all_same same_name p.segments q.segments) e in
+    let h = and_parts (same_flag p.leading_colon q.leading_colon) (all_same same_name p.segments q.segments) e in
     join_same (spell.given p.leading_colon (spell.colons s)) (spell.given q.leading_colon (spell.colons r))
     (spell.spaced (spell.colons s) true (map spell.name p.segments)) (spell.spaced (spell.colons r) true (map spell.name q.segments))
     (given_same p.leading_colon q.leading_colon (spell.colons s) (spell.colons r) (flag_same p.leading_colon q.leading_colon h.0) refl)
@@ -239,14 +244,14 @@ plain_same s r p q e =
 args_same : (s r : Span) (a b : AttrArgs) → same_args a b ≡ true → Same (spell.attr_args_trees s a) (spell.attr_args_trees r b)
 args_same s r args.Absent args.Absent e = refl
 args_same s r (args.List d i) (args.List c j) e =
-    let h = both (same_delim d c) (same_stream i j) e in
+    let h = and_parts (same_delim d c) (same_stream i j) e in
     grouped_same d c i.trees j.trees (delim_same d c h.0) (stream_same i j h.1)
 args_same s r (args.Value o) (args.Value p) e = ap (λ l. bare_punct 61 Alone ∷ l) (stream_same o.tokens p.tokens e)
 args_same s r _ _ e = absurd (cc)
 
 attribute_same : (a b : Attribute) → same_attribute a b ≡ true → Same (spell.attribute_trees a) (spell.attribute_trees b)
 attribute_same a b e =
-    let h = both (same_plain a.path b.path) (same_args a.args b.args) e in
+    let h = and_parts (same_plain a.path b.path) (same_args a.args b.args) e in
     ap (λ l. bare_punct 35 Alone ∷ l)
     (grouped_same Bracket Bracket (join (spell.plain_trees a.span a.path) (spell.attr_args_trees a.span a.args))
     (join (spell.plain_trees b.span b.path) (spell.attr_args_trees b.span b.args)) refl
@@ -256,14 +261,14 @@ attribute_same a b e =
 attributes_same : (xs ys : List Attribute) → all_same same_attribute xs ys ≡ true → Same (spell.attributes_trees xs) (spell.attributes_trees ys)
 attributes_same [] [] e = refl
 attributes_same (x ∷ xs) (y ∷ ys) e =
-    let h = both (same_attribute x y) (all_same same_attribute xs ys) e in
+    let h = and_parts (same_attribute x y) (all_same same_attribute xs ys) e in
     join_same (spell.attribute_trees x) (spell.attribute_trees y) (spell.attributes_trees xs) (spell.attributes_trees ys) (attribute_same x y h.0) (attributes_same xs ys h.1)
 attributes_same [] (y ∷ ys) e = absurd (cc)
 attributes_same (x ∷ xs) [] e = absurd (cc)
 
 constant_same : (s r : Span) (a b : ConstArg) → same_constant a b ≡ true → Same (spell.const_trees s a) (spell.const_trees r b)
 constant_same s r (constant.Literal m l) (constant.Literal n k) e =
-    let h = both (same_flag m n) (same_literal l k) e in
+    let h = and_parts (same_flag m n) (same_literal l k) e in
     join_same (spell.given m (spell.punct 45 s)) (spell.given n (spell.punct 45 r)) (spell.literal l) (spell.literal k)
     (given_same m n (spell.punct 45 s) (spell.punct 45 r) (flag_same m n h.0) refl) (literal_same l k h.1)
 constant_same s r (constant.Bool i) (constant.Bool j) e = name_same i j e
@@ -272,28 +277,18 @@ constant_same s r (constant.Name i) (constant.Name j) e = name_same i j e
 constant_same s r _ _ e = absurd (cc)
 
 maybe_lifetime_same : (a b : Option Lifetime) → same_option same_lifetime a b ≡ true → Same (spell.maybe_lifetime a) (spell.maybe_lifetime b)
-maybe_lifetime_same None None e = refl
-maybe_lifetime_same (Some l) (Some k) e = lifetime_same l k e
-maybe_lifetime_same None (Some k) e = absurd (cc)
-maybe_lifetime_same (Some l) None e = absurd (cc)
-
-maybe_literal_same : (a b : Option Literal) → same_option same_literal a b ≡ true → Same (spell.maybe_literal a) (spell.maybe_literal b)
-maybe_literal_same None None e = refl
-maybe_literal_same (Some l) (Some k) e = literal_same l k e
-maybe_literal_same None (Some k) e = absurd (cc)
-maybe_literal_same (Some l) None e = absurd (cc)
+maybe_lifetime_same = option_same same_lifetime spell.maybe_lifetime spell.maybe_lifetime refl lifetime_same
 
 abi_same : (s r : Span) (a b : Option (Option Literal)) → same_abi a b ≡ true → Same (spell.abi_trees s a) (spell.abi_trees r b)
-abi_same s r None None e = refl
-abi_same s r (Some l) (Some k) e = ap (λ x. bare_name (codes "extern") false ∷ x) (maybe_literal_same l k e)
-abi_same s r None (Some k) e = absurd (cc)
-abi_same s r (Some l) None e = absurd (cc)
+abi_same s r =
+    option_same (same_option same_literal) (spell.abi_trees s) (spell.abi_trees r) refl
+    (λ l k e.
+    ap (λ x. bare_name (codes "extern") false ∷ x) (option_same same_literal spell.maybe_literal spell.maybe_literal refl literal_same l k e))
 
 input_name_same : (s r : Span) (a b : Option Ident) → same_option same_name a b ≡ true → Same (spell.input_name_trees s a) (spell.input_name_trees r b)
-input_name_same s r None None e = refl
-input_name_same s r (Some i) (Some j) e = join_same (spell.name i) (spell.name j) (spell.punct 58 s) (spell.punct 58 r) (name_same i j e) refl
-input_name_same s r None (Some j) e = absurd (cc)
-input_name_same s r (Some i) None e = absurd (cc)
+input_name_same s r =
+    option_same same_name (spell.input_name_trees s) (spell.input_name_trees r) refl
+    (λ i j e. join_same (spell.name i) (spell.name j) (spell.punct 58 s) (spell.punct 58 r) (name_same i j e) refl)
 
 -- ---- what is known of parts that are the same
 
@@ -384,12 +379,12 @@ mutual
   node_same : (s r : Span) (n k : TypeNode) → same_node n k ≡ true → Same (spell.node_trees s n) (spell.node_trees r k)
   node_same s r (paren x) (paren y) e = grouped_same Paren Paren (spell.type_trees x) (spell.type_trees y) refl (type_same x y e)
   node_same s r (tuple xs a) (tuple ys b) e =
-      let h = both (same_types xs ys) (same_flag a b) e in
+      let h = and_parts (same_types xs ys) (same_flag a b) e in
       grouped_same Paren Paren (spell.listed 44 s (spell.each_type xs) a) (spell.listed 44 r (spell.each_type ys) b) refl
       (listed_same 44 s r (spell.each_type xs) (spell.each_type ys) a b (types_same xs ys h.0) (flag_same a b h.1))
   node_same s r (slice x) (slice y) e = grouped_same Bracket Bracket (spell.type_trees x) (spell.type_trees y) refl (type_same x y e)
   node_same s r (array x o) (array y p) e =
-      let h = both (same_type x y) (same_stream o.tokens p.tokens) e in
+      let h = and_parts (same_type x y) (same_stream o.tokens p.tokens) e in
       grouped_same Bracket Bracket (join (spell.type_trees x) (join (spell.punct 59 s) o.tokens.trees)) (join (spell.type_trees y) (join (spell.punct 59 r) p.tokens.trees)) refl
       (join_same (spell.type_trees x) (spell.type_trees y) (join (spell.punct 59 s) o.tokens.trees) (join (spell.punct 59 r) p.tokens.trees) (type_same x y h.0)
       (ap (λ l. bare_punct 59 Alone ∷ l) (stream_same o.tokens p.tokens h.1)))
@@ -403,23 +398,23 @@ mutual
       (join_same (spell.given m (spell.word (codes "mut") s)) (spell.given n (spell.word (codes "mut") r)) (spell.type_trees x) (spell.type_trees y)
       (given_same m n (spell.word (codes "mut") s) (spell.word (codes "mut") r) (flag_same m n (second_of_three p q z e)) refl) (type_same x y (third_of_three p q z e))))
   node_same s r (pointer m x) (pointer n y) e =
-      let h = both (same_flag m n) (same_type x y) e in
+      let h = and_parts (same_flag m n) (same_type x y) e in
       ap (λ v. bare_punct 42 Alone ∷ v)
       (join_same (cond m (spell.word (codes "mut") s) (spell.word (codes "const") s)) (cond n (spell.word (codes "mut") r) (spell.word (codes "const") r))
       (spell.type_trees x) (spell.type_trees y) (pointer_word_same m n s r (flag_same m n h.0)) (type_same x y h.1))
   node_same s r (bare_fn f) (bare_fn g) e = fn_same s r f g e
   node_same s r (trait_object bs a) (trait_object cs b) e =
-      let h = both (same_bounds bs cs) (same_flag a b) e in
+      let h = and_parts (same_bounds bs cs) (same_flag a b) e in
       ap (λ v. bare_name (codes "dyn") false ∷ v)
       (listed_same 43 s r (spell.each_bound s bs) (spell.each_bound r cs) a b (bounds_same s r bs cs h.0) (flag_same a b h.1))
   node_same s r (impl_trait bs a) (impl_trait cs b) e =
-      let h = both (same_bounds bs cs) (same_flag a b) e in
+      let h = and_parts (same_bounds bs cs) (same_flag a b) e in
       ap (λ v. bare_name (codes "impl") false ∷ v)
       (listed_same 43 s r (spell.each_bound s bs) (spell.each_bound r cs) a b (bounds_same s r bs cs h.0) (flag_same a b h.1))
   node_same s r infer infer e = refl
   node_same s r never never e = refl
   node_same s r (path q p) (path w o) e =
-      let h = both (same_self q w) (same_path p o) e in
+      let h = and_parts (same_self q w) (same_path p o) e in
       path_node_by s r q w p o (self_same q w h.0) (path_same p o h.1)
   node_same s r (macro_type p d i) (macro_type o c j) e =
       let x = same_plain p o in
@@ -432,43 +427,34 @@ mutual
 
   types_same : (xs ys : TypeTrees) → same_types xs ys ≡ true → AllSame (spell.each_type xs) (spell.each_type ys)
   types_same no_types no_types e = refl
-  types_same (type_then x xs) (type_then y ys) e =
-      let h = both (same_type x y) (same_types xs ys) e in
-      ap₂ (λ a b. a ∷ b) (type_same x y h.0) (types_same xs ys h.1)
-  types_same no_types (type_then y ys) e = absurd (cc)
-  types_same (type_then x xs) no_types e = absurd (cc)
+  types_same (type_then x xs) (type_then y ys) e = item_same (same_type x y) (same_types xs ys) (type_same x y) (types_same xs ys) e
+  types_same _ _ e = absurd (cc)
 
   output_same : (s r : Span) (a b : MaybeType) → same_maybe_type a b ≡ true → Same (spell.output_trees s a) (spell.output_trees r b)
   output_same s r no_type no_type e = refl
   output_same s r (some_type x) (some_type y) e = ap (λ v. bare_punct 45 Joint ∷ (bare_punct 62 Alone ∷ v)) (type_same x y e)
-  output_same s r no_type (some_type y) e = absurd (cc)
-  output_same s r (some_type x) no_type e = absurd (cc)
+  output_same s r _ _ e = absurd (cc)
 
   self_same : (q w : MaybeSelf) → same_self q w ≡ true → SelfSame q w
   self_same no_self no_self e = tt
   self_same (some_self x n) (some_self y k) e =
-      let h = both (same_type x y) (nat_eq n k) e in
+      let h = and_parts (same_type x y) (nat_eq n k) e in
       (type_same x y h.0, eqb-true n k h.1)
-  self_same no_self (some_self y k) e = absurd (cc)
-  self_same (some_self x n) no_self e = absurd (cc)
-
-  bounds_same : (s r : Span) (bs cs : BoundTrees) → same_bounds bs cs ≡ true → AllSame (spell.each_bound s bs) (spell.each_bound r cs)
-  bounds_same s r no_bounds no_bounds e = refl
-  bounds_same s r (bound_then b bs) (bound_then c cs) e =
-      let h = both (same_bound b c) (same_bounds bs cs) e in
-      ap₂ (λ x y. x ∷ y) (bound_same s r b c h.0) (bounds_same s r bs cs h.1)
-  bounds_same s r no_bounds (bound_then c cs) e = absurd (cc)
-  bounds_same s r (bound_then b bs) no_bounds e = absurd (cc)
+  self_same _ _ e = absurd (cc)
 
   bound_same : (s r : Span) (b c : BoundTree) → same_bound b c ≡ true → Same (spell.bound_trees s b) (spell.bound_trees r c)
   bound_same s r (outlives l) (outlives k) e = lifetime_same l k e
   bound_same s r (implements b) (implements c) e = trait_bound_same s r b c e
-  bound_same s r (outlives l) (implements c) e = absurd (cc)
-  bound_same s r (implements b) (outlives k) e = absurd (cc)
+  bound_same s r _ _ e = absurd (cc)
+
+  bounds_same : (s r : Span) (bs cs : BoundTrees) → same_bounds bs cs ≡ true → AllSame (spell.each_bound s bs) (spell.each_bound r cs)
+  bounds_same s r no_bounds no_bounds e = refl
+  bounds_same s r (bound_then b bs) (bound_then c cs) e = item_same (same_bound b c) (same_bounds bs cs) (bound_same s r b c) (bounds_same s r bs cs) e
+  bounds_same s r _ _ e = absurd (cc)
 
   trait_bound_same : (s r : Span) (b c : TraitBoundTree) → same_trait_bound b c ≡ true → Same (spell.trait_bound_trees s b) (spell.trait_bound_trees r c)
   trait_bound_same s r (trait_bound a m ls p) (trait_bound b n ks o) e =
-      let h = both (same_flag a b && same_flag m n && same_lifetimes ls ks) (same_path p o) e in
+      let h = and_parts (same_flag a b && same_flag m n && same_lifetimes ls ks) (same_path p o) e in
       let v = same_flag a b in
       let y = same_flag m n in
       let z = same_lifetimes ls ks in
@@ -483,10 +469,10 @@ mutual
   fn_same s r (fn_tree ls m abi is a out) (fn_tree ks n called js b into) e =
       let v = same_lifetimes ls ks && same_flag m n && same_abi abi called in
       let h : (same_lifetimes ls ks && same_flag m n && same_abi abi called && same_inputs is js ≡ true) × (same_flag a b ≡ true) × (same_maybe_type out into ≡ true) =
-      let k = both (v && same_inputs is js && same_flag a b) (same_maybe_type out into) e in
-      let l = both (v && same_inputs is js) (same_flag a b) k.0 in
+      let k = and_parts (v && same_inputs is js && same_flag a b) (same_maybe_type out into) e in
+      let l = and_parts (v && same_inputs is js) (same_flag a b) k.0 in
       (l.0, l.1, k.1) in
-      let i = both v (same_inputs is js) h.0 in
+      let i = and_parts v (same_inputs is js) h.0 in
       let x = same_lifetimes ls ks in
       let y = same_flag m n in
       let z = same_abi abi called in
@@ -503,11 +489,8 @@ mutual
 
   inputs_same : (s r : Span) (is js : InputTrees) → same_inputs is js ≡ true → AllSame (spell.each_input s is) (spell.each_input r js)
   inputs_same s r no_inputs no_inputs e = refl
-  inputs_same s r (input_then i is) (input_then j js) e =
-      let h = both (same_input i j) (same_inputs is js) e in
-      ap₂ (λ x y. x ∷ y) (input_same s r i j h.0) (inputs_same s r is js h.1)
-  inputs_same s r no_inputs (input_then j js) e = absurd (cc)
-  inputs_same s r (input_then i is) no_inputs e = absurd (cc)
+  inputs_same s r (input_then i is) (input_then j js) e = item_same (same_input i j) (same_inputs is js) (input_same s r i j) (inputs_same s r is js) e
+  inputs_same s r _ _ e = absurd (cc)
 
   input_same : (s r : Span) (i j : InputTree) → same_input i j ≡ true → Same (spell.input_trees s i) (spell.input_trees r j)
   input_same s r (input xs i x) (input ys j y) e =
@@ -521,20 +504,17 @@ mutual
 
   path_same : (p o : PathTree) → same_path p o ≡ true → PathSame p o
   path_same (path_tree a ss) (path_tree b us) e =
-      let h = both (same_flag a b) (same_segments ss us) e in
+      let h = and_parts (same_flag a b) (same_segments ss us) e in
       (flag_same a b h.0, λ s r. segments_same s r ss us h.1)
 
   segments_same : (s r : Span) (ss us : SegmentTrees) → same_segments ss us ≡ true → AllSame (spell.each_segment s ss) (spell.each_segment r us)
   segments_same s r no_segments no_segments e = refl
-  segments_same s r (segment_then x ss) (segment_then y us) e =
-      let h = both (same_segment x y) (same_segments ss us) e in
-      ap₂ (λ a b. a ∷ b) (segment_same s r x y h.0) (segments_same s r ss us h.1)
-  segments_same s r no_segments (segment_then y us) e = absurd (cc)
-  segments_same s r (segment_then x ss) no_segments e = absurd (cc)
+  segments_same s r (segment_then x ss) (segment_then y us) e = item_same (same_segment x y) (same_segments ss us) (segment_same s r x y) (segments_same s r ss us) e
+  segments_same s r _ _ e = absurd (cc)
 
   segment_same : (s r : Span) (x y : SegmentTree) → same_segment x y ≡ true → Same (spell.segment_trees s x) (spell.segment_trees r y)
   segment_same s r (segment i gs) (segment j hs) e =
-      let h = both (same_name i j) (same_arguments_of gs hs) e in
+      let h = and_parts (same_name i j) (same_arguments_of gs hs) e in
       join_same (spell.name i) (spell.name j) (spell.arguments_trees s gs) (spell.arguments_trees r hs) (name_same i j h.0) (arguments_of_same s r gs hs h.1)
 
   arguments_of_same : (s r : Span) (a b : ArgumentsTree) → same_arguments_of a b ≡ true → Same (spell.arguments_trees s a) (spell.arguments_trees r b)
@@ -560,18 +540,9 @@ mutual
   maybe_angles_same : (s r : Span) (a b : MaybeArguments) → same_maybe_arguments a b ≡ true → Same (spell.maybe_angle_trees s a) (spell.maybe_angle_trees r b)
   maybe_angles_same s r arguments_absent arguments_absent e = refl
   maybe_angles_same s r (some_arguments gs a) (some_arguments hs b) e =
-      let h = both (same_arguments gs hs) (same_flag a b) e in
+      let h = and_parts (same_arguments gs hs) (same_flag a b) e in
       angles_same s r (spell.each_argument s gs) (spell.each_argument r hs) a b (arguments_same s r gs hs h.0) (flag_same a b h.1)
-  maybe_angles_same s r arguments_absent (some_arguments hs b) e = absurd (cc)
-  maybe_angles_same s r (some_arguments gs a) arguments_absent e = absurd (cc)
-
-  arguments_same : (s r : Span) (gs hs : ArgumentTrees) → same_arguments gs hs ≡ true → AllSame (spell.each_argument s gs) (spell.each_argument r hs)
-  arguments_same s r no_arguments no_arguments e = refl
-  arguments_same s r (argument_then x gs) (argument_then y hs) e =
-      let h = both (same_argument x y) (same_arguments gs hs) e in
-      ap₂ (λ a b. a ∷ b) (argument_same s r x y h.0) (arguments_same s r gs hs h.1)
-  arguments_same s r no_arguments (argument_then y hs) e = absurd (cc)
-  arguments_same s r (argument_then x gs) no_arguments e = absurd (cc)
+  maybe_angles_same s r _ _ e = absurd (cc)
 
   argument_same : (s r : Span) (g h : ArgumentTree) → same_argument g h ≡ true → Same (spell.argument_trees s g) (spell.argument_trees r h)
   argument_same s r (lifetime_arg l) (lifetime_arg k) e = lifetime_same l k e
@@ -597,7 +568,7 @@ mutual
       let p = same_name i j in
       let q = same_maybe_arguments gs hs in
       let z = same_bounds bs cs && same_flag a b in
-      let k = both (same_bounds bs cs) (same_flag a b) (third_of_three p q z e) in
+      let k = and_parts (same_bounds bs cs) (same_flag a b) (third_of_three p q z e) in
       join_same (spell.name i) (spell.name j) (join (spell.maybe_angle_trees s gs) (join (spell.punct 58 s) (spell.listed 43 s (spell.each_bound s bs) a)))
       (join (spell.maybe_angle_trees r hs) (join (spell.punct 58 r) (spell.listed 43 r (spell.each_bound r cs) b))) (name_same i j (first_of_three p q z e))
       (join_same (spell.maybe_angle_trees s gs) (spell.maybe_angle_trees r hs) (join (spell.punct 58 s) (spell.listed 43 s (spell.each_bound s bs) a))
@@ -605,3 +576,8 @@ mutual
       (ap (λ v. bare_punct 58 Alone ∷ v)
       (listed_same 43 s r (spell.each_bound s bs) (spell.each_bound r cs) a b (bounds_same s r bs cs k.0) (flag_same a b k.1))))
   argument_same s r _ _ e = absurd (cc)
+
+  arguments_same : (s r : Span) (gs hs : ArgumentTrees) → same_arguments gs hs ≡ true → AllSame (spell.each_argument s gs) (spell.each_argument r hs)
+  arguments_same s r no_arguments no_arguments e = refl
+  arguments_same s r (argument_then x gs) (argument_then y hs) e = item_same (same_argument x y) (same_arguments gs hs) (argument_same s r x y) (arguments_same s r gs hs) e
+  arguments_same s r _ _ e = absurd (cc)

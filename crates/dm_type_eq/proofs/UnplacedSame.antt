@@ -29,7 +29,7 @@ use Rattle.dm_ast.specs.declared.plain.ConstArg.TheVariants as constant
 use Rattle.dm_ast.specs.Tree.{Lifetimes, TypeTree, type_tree, TypeNode, paren, tuple, slice, array, reference, pointer, bare_fn, trait_object, impl_trait, infer, never, path, macro_type, TypeTrees, no_types, type_then, MaybeType, no_type, some_type, MaybeSelf, no_self, some_self, BoundTree, outlives, implements, BoundTrees, no_bounds, bound_then, TraitBoundTree, trait_bound, FnTree, fn_tree, InputTree, input, InputTrees, no_inputs, input_then, PathTree, path_tree, SegmentTree, segment, SegmentTrees, no_segments, segment_then, ArgumentsTree, absent, angle, parens, ArgumentTree, lifetime_arg, type_arg, const_arg, assoc_type, assoc_const, constraint, ArgumentTrees, no_arguments, argument_then, MaybeArguments, arguments_absent, some_arguments}
 use Rattle.dm_ast.specs.TypeTokens as spell
 use Rattle.dm_type_eq.specs.BareTokens.{Bare, bare_name, bare_lifetime, bare_literal, bare_punct, opening, closing, bare, tokens_of}
-use Rattle.dm_type_eq.specs.SameTypes.{same_flag, same_option, all_same, same_list, same_name, same_lifetime, kind_number, same_literal, same_spacing, same_token, same_entry, same_stream, same_lifetimes, same_plain, same_args, same_attribute, same_constant, same_abi, same_type, same_node, same_types, same_maybe_type, same_self, same_bound, same_bounds, same_trait_bound, same_fn, same_input, same_inputs, same_path, same_segments, same_segment, same_arguments_of, same_argument, same_arguments, same_maybe_arguments}
+use Rattle.dm_same.specs.SameTypes.{same_flag, same_option, all_same, same_list, same_name, same_lifetime, kind_number, same_literal, same_spacing, same_token, same_entry, same_stream, same_lifetimes, same_plain, same_args, same_attribute, same_constant, same_abi, same_type, same_node, same_types, same_maybe_type, same_self, same_bound, same_bounds, same_trait_bound, same_fn, same_input, same_inputs, same_path, same_segments, same_segment, same_arguments_of, same_argument, same_arguments, same_maybe_arguments}
 use Rattle.dm_type_eq.specs.Unplaced.{unplaced_ident, unplaced_lifetime, unplaced_literal, unplaced_token, unplaced_trees, unplaced_stream, unplaced_option, unplaced_plain, unplaced_args, unplaced_attribute, unplaced_lifetimes, unplaced_abi, unplaced_constant, unplaced_type, unplaced_node, unplaced_types, unplaced_maybe_type, unplaced_self, unplaced_bound, unplaced_bounds, unplaced_trait, unplaced_fn, unplaced_input, unplaced_inputs, unplaced_path, unplaced_segments, unplaced_segment, unplaced_arguments_of, unplaced_argument, unplaced_arguments, unplaced_maybe_arguments}
 
 both : {a b c d : Bool} → a ≡ c → b ≡ d → (a && b) ≡ (c && d)

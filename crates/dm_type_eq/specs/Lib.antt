@@ -1,4 +1,3 @@
 pub mod BareTokens
-pub mod SameTypes
-pub mod Shapes
+pub mod Spelled
 pub mod Unplaced

@@ -1,6 +1,5 @@
 -- Types without the places of their tokens: each range is the empty one at 0, and lists of trees that are not read end at 0.
 use Rattle.std.specs.Prelude.{map, Option, Some, None}
-use Rattle.dm_stream.specs.declared.tokens.Span.{Span}
 use Rattle.dm_stream.specs.declared.tokens.Ident.{Ident}
 use Rattle.dm_stream.specs.declared.tokens.Lifetime.{Lifetime}
 use Rattle.dm_stream.specs.declared.tokens.Literal.{Literal}

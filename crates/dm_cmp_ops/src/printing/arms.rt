@@ -14,9 +14,8 @@ ghost use Rattle.dm_cmp_ops.specs.Emitted as spec;
 ghost use Rattle.dm_cmp_ops.specs.Printed as printed;
 ghost use Rattle.dm_operands.specs.CaseViews.{case_view, fields_ref_view};
 
-use super::sides::{numbered, side};
-use crate::comparing::add_rest;
-use crate::partial_eq::Comparing;
+use crate::arms::add_rest;
+use crate::comparing::Comparing;
 use dm_ast::{DeriveInput, Field};
 use dm_attr::skips::is_skipped;
 use dm_layout::Layout;
@@ -24,33 +23,15 @@ use dm_operands::cases::{CaseRef, FieldsRef, is_compared};
 use dm_operands::sides::Operand;
 use dm_print::expr::arms as tree_arms;
 use dm_print::token::{close, joint, open, punct};
+use dm_sides::pattern::{numbered, side};
 use dm_stream::{Delim, Seq};
 use std::alloc::{AllocError, Global};
-
-fn sign(out: &mut Layout, comparing: Comparing) -> Result<(), AllocError>
-    ensures { OnOk result (out.new ≡ lay out.old (printed.sign_trees comparing)) }
-{
-    match comparing {
-        Comparing::Equal => joint(out, '=', '='),
-        Comparing::Unequal => joint(out, '!', '='),
-    }
-}
-
-/// Adds what joins two tests.
-pub fn join(out: &mut Layout, comparing: Comparing) -> Result<(), AllocError>
-    ensures { OnOk result (out.new ≡ lay out.old (printed.join_trees comparing)) }
-{
-    match comparing {
-        Comparing::Equal => joint(out, '&', '&'),
-        Comparing::Unequal => joint(out, '|', '|'),
-    }
-}
 
 fn test(alloc: Global, out: &mut Layout, comparing: Comparing, n: usize) -> Result<(), AllocError>
     ensures { OnOk result (out.new ≡ lay out.old (tokens.expr_trees (spec.test comparing n))) }
 {
     numbered(alloc, out, Operand::Mine, n)?;
-    sign(out, comparing)?;
+    comparing.sign(out)?;
     numbered(alloc, out, Operand::Theirs, n)
 }
 
@@ -65,7 +46,7 @@ fn next_test(
     ensures { OnOk result (out.new ≡ lay out.old (trees.join (cond first no_trees (printed.join_trees comparing)) (tokens.expr_trees (spec.test comparing n)))) }
 {
     if !first {
-        join(out, comparing)?;
+        comparing.join(out)?;
     }
     test(alloc, out, comparing, n)
 }

@@ -5,7 +5,8 @@ use Rattle.dm_ast.specs.Declarations.{declaration_view}
 use Rattle.dm_print.specs.Laying.{lay, begun, done}
 use Rattle.dm_output.specs.Tokens.{in_turn, method_trees}
 use Rattle.dm_cmp_ops.specs.Emitted.{methods}
-use Rattle.dm_cmp_ops.proofs.PrintLaws.{on-ok, item-laid}
+use Rattle.dm_layout.proofs.Fixing.{on-ok}
+use Rattle.dm_cmp_ops.proofs.PrintLaws.{item-laid}
 use Rattle.dm_cmp_ops.proofs.printing.item.Goals as goal
 
 pub returns : goal.returns

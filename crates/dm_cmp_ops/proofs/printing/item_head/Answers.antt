@@ -2,7 +2,7 @@ use Rattle.std.proofs.Common.{ap, ◌∙◌}
 use Rattle.dm_print.specs.Laying.{lay}
 use Rattle.dm_output.specs.Output.{ItemTree}
 use Rattle.dm_output.specs.Tokens.{head_trees}
-use Rattle.dm_cmp_ops.proofs.PrintLaws.{on-ok}
+use Rattle.dm_layout.proofs.Fixing.{on-ok}
 use Rattle.dm_cmp_ops.proofs.printing.item_head.Goals as goal
 
 pub returns : goal.returns

@@ -7,7 +7,7 @@ use Rattle.dm_output.specs.Output.{arms_of}
 use Rattle.dm_output.specs.Tokens.{expr_trees, arms_trees}
 use Rattle.dm_output.specs.Values.{Case, cases}
 use Rattle.dm_cmp_ops.specs.Emitted.{arms, both, rest}
-use Rattle.dm_cmp_ops.proofs.PrintLaws.{on-ok}
+use Rattle.dm_layout.proofs.Fixing.{on-ok}
 use Rattle.dm_cmp_ops.proofs.printing.matching.Goals as goal
 
 pub returns : goal.returns

@@ -4,7 +4,7 @@ use Rattle.dm_ast.specs.Declarations.{declaration_view}
 use Rattle.dm_print.specs.Laying.{lay}
 use Rattle.dm_output.specs.Tokens.{item_trees}
 use Rattle.dm_cmp_ops.specs.Emitted.{item}
-use Rattle.dm_cmp_ops.proofs.PrintLaws.{laid-start}
+use Rattle.dm_print.proofs.Laying.{laid-start}
 use Rattle.dm_cmp_ops.proofs.printing.printed_item.Goals as goal
 
 pub returns : goal.returns

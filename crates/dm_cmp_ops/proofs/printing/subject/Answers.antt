@@ -2,7 +2,7 @@ use Rattle.std.proofs.Common.{ap, ◌∙◌}
 use Rattle.dm_print.specs.Laying.{lay}
 use Rattle.dm_output.specs.Output.{ExprTree}
 use Rattle.dm_output.specs.Tokens.{expr_trees}
-use Rattle.dm_cmp_ops.proofs.PrintLaws.{on-ok}
+use Rattle.dm_layout.proofs.Fixing.{on-ok}
 use Rattle.dm_cmp_ops.proofs.printing.subject.Goals as goal
 
 pub returns : goal.returns

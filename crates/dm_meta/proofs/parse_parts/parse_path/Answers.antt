@@ -1,7 +1,7 @@
 use Rattle.dm_stream.specs.Cursors.{left}
 use Rattle.dm_ast.specs.Tree.{path_view}
-use Rattle.dm_read_types.specs.BarePaths.{bare_path, read_bare_path}
-use Rattle.dm_read_types.specs.TypeReaders.{read_type}
+use Rattle.dm_read_paths.specs.BarePaths.{bare_path, read_bare_path}
+use Rattle.dm_read_paths.specs.TypeReaders.{read_type}
 use Rattle.dm_ast.specs.Readers.{place}
 use Rattle.dm_meta.proofs.BarePaths.{bare_decided}
 use Rattle.dm_meta.proofs.FrontParts.{front_found, front_refused}

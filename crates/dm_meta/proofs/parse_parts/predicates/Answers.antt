@@ -3,7 +3,7 @@ use Rattle.dm_ast.specs.Declarations.{listed, predicate_view}
 use Rattle.dm_ast.specs.Spelling.{at_end}
 use Rattle.dm_read.specs.DeclarationReaders.{read_listed, read_predicate}
 use Rattle.dm_read_types.specs.WholeReaders.{parts}
-use Rattle.dm_read_decl.proofs.Sequels.{passed_on}
+use Rattle.dm_input.proofs.Sequels.{passed_on}
 use Rattle.dm_meta.proofs.parse_parts.predicates.Goals as goal
 
 pub returns-in_err-found-clause-reads : goal.returns-in_err-found-clause-reads

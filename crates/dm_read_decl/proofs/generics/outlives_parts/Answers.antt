@@ -1,7 +1,7 @@
 -- A lifetime and those that it outlives.
 use Rattle.dm_ast.specs.Readers.{read_lifetime}
 use Rattle.dm_read_decl.specs.Rules.{read_some_outlived}
-use Rattle.dm_read_decl.proofs.Sequels.{both_reads}
+use Rattle.dm_input.proofs.Sequels.{both_reads}
 use Rattle.dm_read_decl.proofs.generics.outlives_parts.Goals as goal
 
 pub returns : goal.returns

@@ -3,7 +3,7 @@ use Rattle.std.proofs.Common.{codes}
 use Rattle.dm_ast.specs.Readers.{read_word}
 use Rattle.dm_ast.specs.Declarations.{listed, predicate_view}
 use Rattle.dm_read_decl.specs.Rules.{read_predicates}
-use Rattle.dm_read_decl.proofs.Sequels.{next_reads}
+use Rattle.dm_input.proofs.Sequels.{next_reads}
 use Rattle.dm_read_decl.proofs.generics.some_where.Goals as goal
 
 pub returns : goal.returns

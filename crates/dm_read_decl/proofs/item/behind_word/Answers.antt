@@ -2,7 +2,7 @@
 use Rattle.dm_read.specs.DeclarationReaders.{read_name}
 use Rattle.dm_read_decl.specs.Rules.{behind_name}
 use Rattle.dm_read_decl.specs.ShapeViews.{both_views, angled_view}
-use Rattle.dm_read_decl.proofs.Sequels.{both_reads}
+use Rattle.dm_input.proofs.Sequels.{both_reads}
 use Rattle.dm_read_decl.proofs.item.behind_word.Goals as goal
 
 pub returns : goal.returns

@@ -5,7 +5,7 @@ use Rattle.dm_read.specs.DeclarationReaders.{read_where}
 use Rattle.dm_read_types.specs.WholeReaders.{parts}
 use Rattle.dm_read_decl.specs.Rules.{enclosed}
 use Rattle.dm_read_decl.specs.ShapeViews.{clause_view}
-use Rattle.dm_read_decl.proofs.Sequels.{both_reads}
+use Rattle.dm_input.proofs.Sequels.{both_reads}
 use Rattle.dm_read_decl.proofs.item.braces.Goals as goal
 
 pub returns : goal.returns

@@ -3,7 +3,7 @@ use Rattle.dm_stream.specs.declared.tokens.Ident.{Ident}
 use Rattle.dm_read.specs.DeclarationReaders.{read_word_at}
 use Rattle.dm_read_decl.specs.Rules.{behind_word}
 use Rattle.dm_read_decl.specs.ShapeViews.{both_views, second_view, angled_view}
-use Rattle.dm_read_decl.proofs.Sequels.{both_reads}
+use Rattle.dm_input.proofs.Sequels.{both_reads}
 use Rattle.dm_read_decl.proofs.item.headed.Goals as goal
 
 pub returns : goal.returns

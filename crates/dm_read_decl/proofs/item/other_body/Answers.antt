@@ -3,7 +3,7 @@ use Rattle.dm_ast.specs.Declarations.{fields_view}
 use Rattle.dm_read.specs.DeclarationReaders.{read_where, read_named_or_unit}
 use Rattle.dm_read_types.specs.WholeReaders.{parts}
 use Rattle.dm_read_decl.specs.ShapeViews.{clause_view}
-use Rattle.dm_read_decl.proofs.Sequels.{both_reads}
+use Rattle.dm_input.proofs.Sequels.{both_reads}
 use Rattle.dm_read_decl.proofs.item.other_body.Goals as goal
 
 pub returns : goal.returns

@@ -4,7 +4,7 @@ use Rattle.dm_ast.specs.Readers.{read_word}
 use Rattle.dm_read_decl.specs.Rules.{read_named_value}
 use Rattle.dm_read_decl.specs.ShapeViews.{second_view, value_view}
 use Rattle.dm_stream.specs.declared.tokens.Ident.{Ident}
-use Rattle.dm_read_decl.proofs.Sequels.{next_reads}
+use Rattle.dm_input.proofs.Sequels.{next_reads}
 use Rattle.dm_read_decl.proofs.param.const_parts.Goals as goal
 
 pub returns : goal.returns

@@ -2,7 +2,7 @@
 use Rattle.dm_read.specs.DeclarationReaders.{read_name}
 use Rattle.dm_read_decl.specs.Rules.{read_typed_value}
 use Rattle.dm_read_decl.specs.ShapeViews.{value_view}
-use Rattle.dm_read_decl.proofs.Sequels.{both_reads}
+use Rattle.dm_input.proofs.Sequels.{both_reads}
 use Rattle.dm_read_decl.proofs.param.named_value.Goals as goal
 
 pub returns : goal.returns

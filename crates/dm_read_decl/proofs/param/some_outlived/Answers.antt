@@ -1,7 +1,7 @@
 -- The bounds behind `:`.
 use Rattle.dm_ast.specs.Readers.{read_colon}
 use Rattle.dm_read.specs.DeclarationReaders.{read_lifetime_bounds}
-use Rattle.dm_read_decl.proofs.Sequels.{next_reads}
+use Rattle.dm_input.proofs.Sequels.{next_reads}
 use Rattle.dm_read_decl.proofs.param.some_outlived.Goals as goal
 
 pub returns : goal.returns

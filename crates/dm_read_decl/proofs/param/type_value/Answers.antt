@@ -2,7 +2,7 @@
 use Rattle.dm_ast.specs.Tree.{ty_view}
 use Rattle.dm_read_types.specs.WholeReaders.{whole_type}
 use Rattle.dm_read_decl.specs.Rules.{read_value}
-use Rattle.dm_read_decl.proofs.Sequels.{both_reads}
+use Rattle.dm_input.proofs.Sequels.{both_reads}
 use Rattle.dm_read_decl.proofs.param.type_value.Goals as goal
 
 pub returns : goal.returns

@@ -2,7 +2,7 @@
 use Rattle.dm_ast.specs.Declarations.{fields_view}
 use Rattle.dm_read.specs.DeclarationReaders.{read_variant_fields, read_discriminant}
 use Rattle.dm_read_types.specs.WholeReaders.{parts}
-use Rattle.dm_read_decl.proofs.Sequels.{both_reads}
+use Rattle.dm_input.proofs.Sequels.{both_reads}
 use Rattle.dm_read_decl.proofs.variant.body.Goals as goal
 
 pub returns : goal.returns

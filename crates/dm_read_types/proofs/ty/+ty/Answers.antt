@@ -2,7 +2,7 @@
 use Rattle.std.proofs.Common.{◌≡◌, suc, ◌-◌, sym, subst, arith}
 use Rattle.dm_input.specs.Inputs.{Reads}
 use Rattle.dm_ast.specs.Tree.{ty_view}
-use Rattle.dm_read_types.specs.TypeReaders.{read_type}
+use Rattle.dm_read_paths.specs.TypeReaders.{read_type}
 use Rattle.dm_read_types.proofs.ty.+ty.Goals as goal
 
 pub returns : goal.returns

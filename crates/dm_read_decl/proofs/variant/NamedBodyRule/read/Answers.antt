@@ -2,7 +2,7 @@
 use Rattle.dm_read.specs.DeclarationReaders.{read_name}
 use Rattle.dm_read_decl.specs.Rules.{read_body}
 use Rattle.dm_read_decl.specs.ShapeViews.{body_view}
-use Rattle.dm_read_decl.proofs.Sequels.{both_reads}
+use Rattle.dm_input.proofs.Sequels.{both_reads}
 use Rattle.dm_read_decl.proofs.variant.NamedBodyRule.read.Goals as goal
 
 pub returns : goal.returns

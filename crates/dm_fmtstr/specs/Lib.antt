@@ -1,0 +1,5 @@
+pub mod Characters
+pub mod Fronts
+pub mod Grammar
+pub mod Parts
+pub mod Positions

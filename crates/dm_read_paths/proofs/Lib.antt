@@ -1,0 +1,16 @@
+pub mod ArgumentRules
+pub mod Bindings
+pub mod BoundRules
+pub mod Built
+pub mod Constants
+pub mod Listing
+pub mod NodeKinds
+pub mod Paths
+pub mod PlainParts
+pub mod QualifiedParts
+pub mod QualifiedRules
+pub mod QualifiedSteps
+pub mod Sequences
+pub mod TypeEnds
+pub mod TypeLists
+pub mod TypeRules

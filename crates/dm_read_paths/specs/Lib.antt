@@ -1,0 +1,4 @@
+pub mod BarePaths
+pub mod Bindings
+pub mod Nests
+pub mod TypeReaders

@@ -1,0 +1,7 @@
+//! Whether types are the same part for part.
+#![tactic(auto)]
+
+mod alike;
+mod same_types;
+
+pub use same_types::same_type;

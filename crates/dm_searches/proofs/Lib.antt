@@ -1,0 +1,5 @@
+pub mod Counts
+pub mod Entries
+pub mod Lent
+mod Rows
+pub mod Segments

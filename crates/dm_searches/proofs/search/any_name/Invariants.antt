@@ -1,0 +1,11 @@
+use Rattle.std.proofs.Common.{◌≡◌}
+use Rattle.std.specs.List.{list_any}
+use Rattle.std.specs.Slice.Iter.{iter_rest}
+use Rattle.dm_ast.specs.Tree.{ty_view}
+use Rattle.dm_searches.specs.Mentions.{in_type}
+use Rattle.dm_searches.specs.Parameters.{lent}
+use Rattle.dm_searches.proofs.search.any_name.Given as goal
+
+abbrev pub invariant-loop-item : goal.invariant-loop-item
+invariant-loop-item l =
+    list_any (λ i. in_type l.sort i.name (ty_view l.ty)) (lent l.all) ≡ list_any (λ i. in_type l.sort i.name (ty_view l.ty)) (lent (iter_rest l.item-iterator))

@@ -1,0 +1,4 @@
+//! The operands of emitted methods as text, for which their trees aren't made.
+#![tactic(auto)]
+
+pub mod pattern;

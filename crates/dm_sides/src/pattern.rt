@@ -1,0 +1,158 @@
+//! The pattern of an operand of a variant, as text.
+#![tactic(auto, using(crate::proofs::Patterns::pattern_steps))]
+
+ghost use Rattle.std.specs.Prelude.{◌≡◌, map, OnOk};
+ghost use Rattle.dm_stream.specs.Layout.{nowhere};
+ghost use Rattle.dm_stream.specs.Trees.{join};
+ghost use Rattle.dm_ast.specs.Declarations.{declaration_view, field_view};
+ghost use Rattle.dm_ast.specs.TypeTokens as syntax;
+ghost use Rattle.dm_output.specs.Output.{patterns_of, named_of};
+ghost use Rattle.dm_output.specs.Tokens as tokens;
+ghost use Rattle.dm_print.specs.Laying.{lay};
+ghost use Rattle.dm_operands.specs.Sides as spec;
+ghost use Rattle.dm_operands.specs.Numbered.{binds};
+ghost use Rattle.dm_operands.specs.CaseViews.{case_view, naming};
+
+use dm_ast::{DeriveInput, Field};
+use dm_attr::skips::is_skipped;
+use dm_layout::Layout;
+use dm_operands::cases::{CaseRef, FieldsRef, is_enum, some_skipped_field};
+use dm_operands::sides::{Operand, first_name, formatted};
+use dm_print::token::{close, joint, joint_if, name, open, punct, word};
+use dm_stream::{Delim, Ident};
+use std::alloc::{AllocError, Global};
+
+/// Adds the name of a field of an operand.
+pub fn numbered(
+    alloc: Global,
+    out: &mut Layout,
+    operand: Operand,
+    n: usize,
+) -> Result<(), AllocError>
+    ensures { OnOk result (out.new ≡ lay out.old (tokens.word (naming operand n))) }
+{
+    match first_name(operand, n) {
+        Some(name) => word(out, name),
+        None => {
+            let made = formatted(alloc, operand, n)?;
+            word(out, made.as_str())
+        }
+    }
+}
+
+fn binding(
+    alloc: Global,
+    out: &mut Layout,
+    operand: Operand,
+    n: usize,
+    skip: bool,
+) -> Result<(), AllocError>
+    ensures { OnOk result (out.new ≡ lay out.old (tokens.pattern_trees (spec.binding skip (naming operand n)))) }
+{
+    if skip {
+        return word(out, "_");
+    }
+    numbered(alloc, out, operand, n)
+}
+
+fn bindings(
+    alloc: Global,
+    out: &mut Layout,
+    operand: Operand,
+    fields: &[Field<'_>],
+) -> Result<(), AllocError>
+    ensures { OnOk result (out.new ≡ lay out.old (tokens.ended (tokens.each_pattern (patterns_of (spec.bindings (binds (naming operand)) 0 (map field_view fields.now)))))) }
+{
+    for (i, field) in fields.iter().enumerate() {
+        binding(alloc, out, operand, i, is_skipped(field.attrs.as_slice()))?;
+        punct(out, ',')?;
+    }
+    Ok(())
+}
+
+fn field_name(out: &mut Layout, ident: &Option<Ident<'_>>) -> Result<(), AllocError>
+    ensures { OnOk result (out.new ≡ lay out.old (syntax.name (spec.field_ident ident.now))) }
+{
+    match ident {
+        Some(ident) => name(out, ident),
+        None => word(out, ""),
+    }
+}
+
+fn named_binding(
+    alloc: Global,
+    out: &mut Layout,
+    operand: Operand,
+    n: usize,
+    field: &Field<'_>,
+) -> Result<(), AllocError>
+    ensures { OnOk result (out.new ≡ lay out.old (join (join (syntax.name (spec.field_ident field.now.ident)) (join tokens.colon (tokens.word (naming operand n)))) tokens.comma)) }
+{
+    field_name(out, &field.ident)?;
+    punct(out, ':')?;
+    numbered(alloc, out, operand, n)?;
+    punct(out, ',')
+}
+
+fn named_bindings(
+    alloc: Global,
+    out: &mut Layout,
+    operand: Operand,
+    fields: &[Field<'_>],
+) -> Result<(), AllocError>
+    ensures { OnOk result (out.new ≡ lay out.old (tokens.ended (tokens.each_named (named_of (spec.named_bindings (binds (naming operand)) 0 (map field_view fields.now)))))) }
+{
+    for (i, field) in fields.iter().enumerate() {
+        if !is_skipped(field.attrs.as_slice()) {
+            named_binding(alloc, out, operand, i, field)?;
+        }
+    }
+    Ok(())
+}
+
+/// Adds `Self`, or `Self::V`.
+fn case_path(
+    out: &mut Layout,
+    input: &DeriveInput<'_>,
+    case: &CaseRef<'_, '_>,
+) -> Result<(), AllocError>
+    ensures { OnOk result (out.new ≡ lay out.old (syntax.path_trees nowhere (spec.case_path (declaration_view input.now) (case_view case.now)))) }
+{
+    word(out, "Self")?;
+    if is_enum(input) {
+        joint(out, ':', ':')?;
+        name(out, case.ident)?;
+    }
+    Ok(())
+}
+
+/// Adds the pattern of an operand that is of this variant.
+pub fn side(
+    alloc: Global,
+    out: &mut Layout,
+    operand: Operand,
+    input: &DeriveInput<'_>,
+    case: &CaseRef<'_, '_>,
+) -> Result<(), AllocError>
+    ensures { OnOk result (out.new ≡ lay out.old (tokens.pattern_trees (spec.side (binds (naming operand)) (spec.case_path (declaration_view input.now) (case_view case.now)) (case_view case.now).fields))) }
+{
+    case_path(out, input, case)?;
+    match case.fields {
+        FieldsRef::Named(all) => {
+            let items = all.items.as_slice();
+            open(out, Delim::Brace)?;
+            named_bindings(alloc, out, operand, items)?;
+            joint_if(out, some_skipped_field(items), '.', '.')?;
+            close(out, Delim::Brace)
+        }
+        FieldsRef::Unnamed(all) => {
+            open(out, Delim::Paren)?;
+            bindings(alloc, out, operand, all.items.as_slice())?;
+            close(out, Delim::Paren)
+        }
+        FieldsRef::Unit => {
+            open(out, Delim::Paren)?;
+            close(out, Delim::Paren)
+        }
+    }
+}
