@@ -126,5 +126,3 @@ tokens_told a b r e h = type_same a b (sym e ∙ h)
 
 pub spelled_told : (a b : TypeTree) (r : Bool) → r ≡ same_type a b → IsSpelled a → IsSpelled b → tokens_of (type_trees a) ≡ tokens_of (type_trees b) → r ≡ true
 spelled_told a b r e h g f = e ∙ same_spelled a b h g f
-
-pub ruleset spelled_steps = (tokens_told)

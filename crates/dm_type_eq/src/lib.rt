@@ -1,5 +1,5 @@
 //! Which types are spelled with the same tokens.
-#![tactic(auto, using(crate::proofs::SameSpelled::spelled_steps))]
+#![tactic(auto)]
 
 ghost use Rattle.std.specs.Prelude.{◌≡◌, IsTrue};
 ghost use Rattle.dm_ast.specs.Tree.{ty_view};
@@ -14,6 +14,7 @@ use dm_same::same_type;
 /// Whether two types have the same tokens, wherever these stand. Spacing counts only between tokens that are not read.
 /// The answer is yes exactly for the same tokens where each type was read, by whichever call, or differs from a read one in ranges alone,
 /// as types made by hand do.
+#[tactic(auto, using(crate::proofs::SameSpelled::tokens_told))]
 pub fn type_eq(a: &Ty<'_>, b: &Ty<'_>) -> bool
     ensures is { result ≡ same.same_type (ty_view a.now) (ty_view b.now) }
     ensures tokens { IsTrue result → tokens_of (type_trees (ty_view a.now)) ≡ tokens_of (type_trees (ty_view b.now)) }
