@@ -1,87 +1,118 @@
--- One attribute after the other gives what the definitions say of all.
-use Rattle.std.proofs.Common.{◌≡◌, ◌==◌, ℕ, suc, length, arith, List, [], ◌∷◌, true, false, cond, filter, codes, Option, None, Some, Ok, Err, refl, sym, ap, ◌∙◌}
+-- What the fold of the kind `Skip` answers, by the definitions of skipped places and their refusals.
+use Rattle.std.proofs.Common.{◌≡◌, ℕ, List, [], ◌∷◌, Bool, true, false, cond, filter, codes, Option, None, Some, Ok, Err, refl, sym, ap, ◌∙◌, subst}
+use Rattle.std.specs.Prelude.{Result, IsErrAnd}
 use Rattle.std.specs.Option.{is_some}
-use Rattle.std.specs.Result.{result_err}
-use Rattle.std.proofs.lemmas.Bool.{ne_eqb}
-use Rattle.std.proofs.lemmas.Grind.{common_steps}
+use Rattle.dm_stream.specs.Cursors.{first_span}
+use Rattle.dm_stream.specs.declared.tokens.Span.{Span}
+use Rattle.dm_stream.specs.declared.error.Error.{Error}
+use Rattle.dm_stream.specs.declared.error.Error.TheVariants.{NoMemory, Refused}
 use Rattle.dm_stream.specs.declared.error.Kind.TheVariants.{AttrSyntax, AttrRepeated}
 use Rattle.dm_stream.specs.declared.error.Refusal.{Refusal}
 use Rattle.dm_ast.specs.declared.plain.Attribute.{Attribute}
-use Rattle.dm_attr.specs.declared.attr.Skip.{Skip}
-use Rattle.dm_attr.specs.declared.attr.Spanning.{Spanning}
-use Rattle.dm_attr.specs.Skips.{Skipping, no, yes, bad, or_else, skip_read, reads_skip, is_examined, skip_among, skip, partial_eq_skip}
-use Rattle.dm_attr.specs.SkipRefusals.{refusal_at, repetition, refusal_among, or_those, place_refusal}
-use Rattle.dm_attr.specs.Merged.{Merging, found, parsed_as, merged_with, taken, taken_named}
+use Rattle.dm_ast.specs.declared.plain.AttrArgs.{AttrArgs}
+use Rattle.dm_ast.specs.declared.plain.AttrArgs.TheVariants as args
+use Rattle.dm_attr.specs.declared.skip.Skip.{Skip}
+use Rattle.dm_attr.specs.declared.spanning.Spanning.{Spanning}
+use Rattle.dm_attr.specs.Answers.{Allows}
+use Rattle.dm_attr.specs.Examined.{is_examined}
+use Rattle.dm_attr.specs.Folding.{Folds}
+use Rattle.dm_attr.specs.Kinds.{unread_at, whole_or_unread, ReadsWhole, read_to_end, contents_in, ReadsIn, ReadsContents, MergesNever}
+use Rattle.dm_attr.specs.Skips.{Skipping, no, yes, bad, or_else, skip_in, skip_read, skip_among, skip, is_yes, is_skipped}
+use Rattle.dm_attr.specs.SkipRefusals.{refusal_at, repetition, refusal_among, or_those, place_refusal, IsSkipUnder, IsSkipAnswer}
+use Rattle.dm_attr.proofs.Once.{second, beginning, at_most_one, folds_once}
 
--- after all of these attributes
-abbrev pub taken_all : List ℕ → Merging → List Attribute → Merging
-taken_all name m [] = m
-taken_all name m (a ∷ more) = taken_all name (taken_named name m a) more
+-- ---- one attribute
 
--- after all of these attributes that have the name
-abbrev taken_examined : Merging → List Attribute → Merging
-taken_examined m [] = m
-taken_examined m (a ∷ more) = taken_examined (taken m a) more
+abbrev value_or : Option Skip → Span → Result Skip Refusal
+value_or None at = unread_at at
+value_or (Some s) at = Ok s
 
-bad_stays : (r : Refusal) (xs : List Attribute) → taken_examined (Err r) xs ≡ Err r
-bad_stays r [] = refl
-bad_stays r (a ∷ xs) = bad_stays r xs
+abbrev value : Attribute → Result Skip Refusal
+value a = value_or (skip_read a.args) a.span
 
-all_examined : (name : List ℕ) (m : Merging) (xs : List Attribute) → taken_all name m xs ≡ taken_examined m (filter (is_examined name) xs)
-all_examined name m [] = refl
-all_examined name m (a ∷ xs) =
-    elim (is_examined name a) as (λ v. taken_all name (cond v (taken m a) m) xs ≡ taken_examined m (cond v (a ∷ filter (is_examined name) xs) (filter (is_examined name) xs))) [
-      | true ↦ all_examined name (taken m a) xs
-      | false ↦ all_examined name m xs
-    ]
+to_end : (at first : Span) (o : Option Skip) → read_to_end at (whole_or_unread first o) ≡ value_or o at
+to_end at first None = refl
+to_end at first (Some s) = refl
 
--- a refusal is kept behind all others
-pub refusal_stays : (name : List ℕ) (r : Refusal) (xs : List Attribute) → taken_all name (Err r) xs ≡ Err r
-refusal_stays name r xs = all_examined name (Err r) xs ∙ bad_stays r (filter (is_examined name) xs)
+reads_in : (at : Span) (a : AttrArgs) (r : Result Skip Refusal) → ReadsIn (ReadsWhole skip_in) at (contents_in a) r → r ≡ value_or (skip_read a) at
+reads_in at (args.List d inside) r (read, is, e) = e ∙ ap (read_to_end at) is ∙ to_end at (first_span inside.trees inside.limit) (skip_in inside.trees)
+reads_in at args.Absent r e = e
+reads_in at (args.Value o) r e = e
 
--- ---- whether the place is skipped
+reads_value : (a : Attribute) (r : Result Skip Refusal) → ReadsContents (ReadsWhole skip_in) a r → r ≡ value a
+reads_value a r h = reads_in a.span a.args r h
 
--- one more behind one that was found is refused
-behind_one : (s : Spanning Skip) (a : Attribute) (xs : List Attribute) (o : Option Skip) →
-    taken_examined (merged_with (Some s) (parsed_as o a)) xs ≡ Err (refusal_at (cond (is_some o) AttrRepeated AttrSyntax) a)
-behind_one s a xs None = bad_stays (refusal_at AttrSyntax a) xs
-behind_one s a xs (Some k) = bad_stays (refusal_at AttrRepeated a) xs
+-- ---- all of one name
 
-two_are_bad : (o : Option Skip) (a b : Attribute) (xs : List Attribute) → found (taken_examined (taken (merged_with None (parsed_as o a)) b) xs) ≡ bad
-two_are_bad None a b xs = ap found (bad_stays (refusal_at AttrSyntax a) xs)
-two_are_bad (Some k) a b xs = ap found (behind_one (record { span = a.span; item = k }) b xs (skip_read b.args))
+-- a refusal, or whether there is a value
+abbrev Says : Option Refusal → Bool → Result (Option (Spanning Skip)) Refusal → Type 0
+Says refusal b (Ok o) = (refusal ≡ None) × (is_some o ≡ b)
+Says refusal b (Err r) = refusal ≡ Some r
 
-one_alone : (o : Option Skip) (a : Attribute) → found (merged_with None (parsed_as o a)) ≡ cond (is_some o) yes bad
-one_alone None a = refl
-one_alone (Some k) a = refl
+says_second : (b : Attribute) (o : Option Skip) →
+    Some (refusal_at (cond (is_some o) AttrRepeated AttrSyntax) b) ≡ Some (second (value_or o b.span) b.span)
+says_second b None = refl
+says_second b (Some s) = refl
 
-found_among : (xs : List Attribute) → found (taken_examined (Ok None) xs) ≡ skip_among xs
-found_among [] = refl
-found_among (a ∷ []) = one_alone (skip_read a.args) a
-found_among (a ∷ b ∷ xs) = two_are_bad (skip_read a.args) a b xs
+says_one : (a : Attribute) (o : Option Skip) → Says (cond (is_some o) None (Some (refusal_at AttrSyntax a))) (is_yes (cond (is_some o) yes bad))
+    (beginning value (value_or o a.span) a [])
+says_one a None = refl
+says_one a (Some s) = (refl, refl)
 
-pub all_skip : (name : List ℕ) (xs : List Attribute) → found (taken_all name (Ok None) xs) ≡ skip xs name
-all_skip name xs = ap found (all_examined name (Ok None) xs) ∙ found_among (filter (is_examined name) xs)
+says_more : (a b : Attribute) (more : List Attribute) (o : Option Skip) →
+    Says (cond (is_some o) (repetition (b ∷ more)) (Some (refusal_at AttrSyntax a))) false (beginning value (value_or o a.span) a (b ∷ more))
+says_more a b more None = refl
+says_more a b more (Some s) = says_second b (skip_read b.args)
 
--- ---- the first refusal
+says : (xs : List Attribute) → Says (refusal_among xs) (is_yes (skip_among xs)) (at_most_one value xs)
+says [] = (refl, refl)
+says (a ∷ []) = says_one a (skip_read a.args)
+says (a ∷ b ∷ more) = says_more a b more (skip_read a.args)
 
-refused_behind : (s : Spanning Skip) (xs : List Attribute) → result_err (taken_examined (Ok (Some s)) xs) ≡ repetition xs
-refused_behind s [] = refl
-refused_behind s (a ∷ xs) = ap result_err (behind_one s a xs (skip_read a.args))
+abbrev FoldsSkip : List ℕ → List Attribute → Result (Option (Spanning Skip)) Refusal → Type 0
+FoldsSkip name attrs answer = Folds (λ a. ReadsContents (ReadsWhole skip_in) a) MergesNever name attrs None answer
 
-refused_first : (o : Option Skip) (a : Attribute) (xs : List Attribute) →
-    result_err (taken_examined (merged_with None (parsed_as o a)) xs) ≡ cond (is_some o) (repetition xs) (Some (refusal_at AttrSyntax a))
-refused_first None a xs = ap result_err (bad_stays (refusal_at AttrSyntax a) xs)
-refused_first (Some k) a xs = refused_behind (record { span = a.span; item = k }) xs
+fold_says : (name : List ℕ) (attrs : List Attribute) (answer : Result (Option (Spanning Skip)) Refusal) → FoldsSkip name attrs answer →
+    Says (refusal_among (filter (is_examined name) attrs)) (is_yes (skip attrs name)) answer
+fold_says name attrs answer h =
+    let e = folds_once (λ a. ReadsContents (ReadsWhole skip_in) a) value reads_value name attrs answer h in
+    subst (λ r. Says (refusal_among (filter (is_examined name) attrs)) (is_yes (skip attrs name)) r) (sym e) (says (filter (is_examined name) attrs))
 
-refused_among : (xs : List Attribute) → result_err (taken_examined (Ok None) xs) ≡ refusal_among xs
-refused_among [] = refl
-refused_among (a ∷ xs) = refused_first (skip_read a.args) a xs
+pub under_ok : (name : List ℕ) (attrs : List Attribute) (o : Option (Spanning Skip)) (b : Bool) → FoldsSkip name attrs (Ok o) → b ≡ is_some o →
+    IsSkipUnder name attrs (Ok b)
+under_ok name attrs o b h is = let s = fold_says name attrs (Ok o) h in (s.0, is ∙ s.1)
 
-pub all_refused : (name : List ℕ) (xs : List Attribute) → result_err (taken_all name (Ok None) xs) ≡ refusal_among (filter (is_examined name) xs)
-all_refused name xs = ap result_err (all_examined name (Ok None) xs) ∙ refused_among (filter (is_examined name) xs)
+under_err : (name : List ℕ) (attrs : List Attribute) (e : Error) → Allows (FoldsSkip name attrs) e → IsSkipUnder name attrs (Err e)
+under_err name attrs NoMemory h = tt
+under_err name attrs (Refused r) h = fold_says name attrs (Err r) h
+
+-- and it is passed on
+pub under_passed : (name : List ℕ) (attrs : List Attribute) (e : Error) → Allows (FoldsSkip name attrs) e → (r : Result Bool Error) →
+    IsErrAnd r (λ d. d ≡ e) → IsSkipUnder name attrs r
+under_passed name attrs e h (Ok b) i = absurd i
+under_passed name attrs e h (Err d) i = rw i (under_err name attrs e h)
 
 -- ---- both names
+
+none_among : (xs : List Attribute) → refusal_among xs ≡ None → false ≡ is_yes (skip_among xs) → xs ≡ []
+none_among [] r s = refl
+none_among (a ∷ []) r s = (elim (skip_read a.args) as (λ o. cond (is_some o) None (Some (refusal_at AttrSyntax a)) ≡ None →
+    false ≡ is_yes (cond (is_some o) yes bad) → a ∷ [] ≡ []) [ None ↦ λ r s. cc | Some k ↦ λ r s. cc ]) r s
+none_among (a ∷ b ∷ more) r s = (elim (skip_read a.args) as (λ o. cond (is_some o) (repetition (b ∷ more)) (Some (refusal_at AttrSyntax a)) ≡ None →
+    a ∷ b ∷ more ≡ []) [ None ↦ λ r. cc | Some k ↦ λ r. cc ]) r
+
+yes_stays : (s others : Skipping) → true ≡ is_yes s → true ≡ is_yes (or_else s others)
+yes_stays no others h = cc
+yes_stays yes others h = refl
+yes_stays bad others h = cc
+
+first_counts : (xs ys : List Attribute) → true ≡ is_yes (skip_among xs) → or_those xs ys ≡ xs
+first_counts [] ys h = cc
+first_counts (a ∷ xs) ys h = refl
+
+refusal_counts : (xs ys : List Attribute) (r : Refusal) → refusal_among xs ≡ Some r → refusal_among (or_those xs ys) ≡ Some r
+refusal_counts [] ys r h = cc
+refusal_counts (a ∷ xs) ys r h = h
 
 abbrev first_name : List Attribute → List Attribute
 first_name attrs = filter (is_examined (codes "partial_eq")) attrs
@@ -89,54 +120,34 @@ first_name attrs = filter (is_examined (codes "partial_eq")) attrs
 abbrev second_name : List Attribute → List Attribute
 second_name attrs = filter (is_examined (codes "eq")) attrs
 
--- these are what a place says
-pub record Says (attrs : List Attribute) (m : Merging) : Type 0 where
-  pub skip : found m ≡ partial_eq_skip attrs
-  pub refusal : result_err m ≡ place_refusal attrs
+-- the place is skipped under the first name
+pub by_first : (attrs : List Attribute) → IsSkipUnder (codes "partial_eq") attrs (Ok true) → IsSkipAnswer attrs (Ok true)
+unfolding place_refusal is_skipped
+by_first attrs (r, s) = (
+  ap refusal_among (first_counts (first_name attrs) (second_name attrs) s) ∙ r,
+  yes_stays (skip_among (first_name attrs)) (skip_among (second_name attrs)) s,
+)
 
-others_count : (xs ys : List Attribute) → no ≡ skip_among xs → or_those xs ys ≡ ys
-others_count [] ys h = refl
-others_count (a ∷ []) ys h = (elim (reads_skip a.args) as (λ v. no ≡ cond v yes bad → a ∷ [] ≡ ys) [ true ↦ λ k. cc | false ↦ λ k. cc ]) h
-others_count (a ∷ b ∷ xs) ys h = cc
-
-none_count_else : (xs ys : List Attribute) (s : Skipping) → s ≡ skip_among xs → (s ≡ no → ⊥) → or_those xs ys ≡ xs
-none_count_else [] ys s h some = absurd (some h)
-none_count_else (a ∷ xs) ys s h some = refl
-
--- what is found where there is no word, and where there is one
-pub found_none : (o : Option (Spanning Skip)) (s : Skipping) → o ≡ None → found (Ok o) ≡ s → no ≡ s
-found_none o s e f = ap (λ (p : Option (Spanning Skip)). found (Ok p)) (sym e) ∙ f
-
-pub found_some : (o : Option (Spanning Skip)) (k : Spanning Skip) (s : Skipping) → o ≡ Some k → found (Ok o) ≡ s → yes ≡ s
-found_some o k s e f = ap (λ (p : Option (Spanning Skip)). found (Ok p)) (sym e) ∙ f
-
--- nothing under the first name
-pub unheard : (attrs : List Attribute) (m : Merging) → no ≡ skip attrs (codes "partial_eq") → found m ≡ skip attrs (codes "eq") →
-    result_err m ≡ refusal_among (second_name attrs) → Says attrs m
+-- an attribute of the first name is refused
+first_refused : (attrs : List Attribute) (e : Error) → IsSkipUnder (codes "partial_eq") attrs (Err e) → IsSkipAnswer attrs (Err e)
 unfolding place_refusal
-unheard attrs m none f r = record {
-  skip = f ∙ ap (λ k. or_else k (skip attrs (codes "eq"))) none;
-  refusal = r ∙ ap refusal_among (sym (others_count (first_name attrs) (second_name attrs) none));
-}
+first_refused attrs NoMemory h = tt
+first_refused attrs (Refused r) h = refusal_counts (first_name attrs) (second_name attrs) r h
 
-heard : (attrs : List Attribute) (m : Merging) → (found m ≡ no → ⊥) → ((k : Skipping) → or_else (found m) k ≡ found m) → found m ≡ skip attrs (codes "partial_eq") →
-    result_err m ≡ refusal_among (first_name attrs) → Says attrs m
-unfolding place_refusal
-heard attrs m some first f r = record {
-  skip = sym (first (skip attrs (codes "eq"))) ∙ ap (λ k. or_else k (skip attrs (codes "eq"))) f;
-  refusal = r ∙ ap refusal_among (sym (none_count_else (first_name attrs) (second_name attrs) (found m) f some));
-}
+pub first_passed : (attrs : List Attribute) (e : Error) → IsSkipUnder (codes "partial_eq") attrs (Err e) → (r : Result Bool Error) →
+    IsErrAnd r (λ d. d ≡ e) → IsSkipAnswer attrs r
+first_passed attrs e h (Ok b) i = absurd i
+first_passed attrs e h (Err d) i = rw i (first_refused attrs e h)
 
-pub heard_yes : (attrs : List Attribute) (s : Spanning Skip) → yes ≡ skip attrs (codes "partial_eq") → None ≡ refusal_among (first_name attrs) → Says attrs (Ok (Some s))
-heard_yes attrs s f r = heard attrs (Ok (Some s)) (λ e. cc) (λ k. refl) f r
-
-pub heard_bad : (attrs : List Attribute) (b : Refusal) → bad ≡ skip attrs (codes "partial_eq") → Some b ≡ refusal_among (first_name attrs) → Says attrs (Err b)
-heard_bad attrs b f r = heard attrs (Err b) (λ e. cc) (λ k. refl) f r
-
--- nothing is refused of no attributes
-pub nothing_refused : (attrs : List Attribute) → (length attrs == 0) ≡ true → place_refusal attrs ≡ None
-unfolding place_refusal
-nothing_refused [] e = refl
-nothing_refused (a ∷ more) e = let f : (suc (length more) == 0) ≡ false = ne_eqb (suc (length more)) 0 (λ g. omega (arith, g)) in absurd (cc)
-
-pub ruleset skip_steps = (common_steps, refusal_stays, all_skip, all_refused)
+-- there is none of the first name
+pub by_second : (attrs : List Attribute) (answer : Result Bool Error) → IsSkipUnder (codes "partial_eq") attrs (Ok false) →
+    IsSkipUnder (codes "eq") attrs answer → IsSkipAnswer attrs answer
+unfolding place_refusal is_skipped
+by_second attrs (Ok b) f s =
+    let none = none_among (first_name attrs) f.0 f.1 in (
+      ap (λ xs. refusal_among (or_those xs (second_name attrs))) none ∙ s.0,
+      s.1 ∙ sym (ap (λ xs. is_yes (or_else (skip_among xs) (skip_among (second_name attrs)))) none),
+    )
+by_second attrs (Err NoMemory) f s = tt
+by_second attrs (Err (Refused r)) f s =
+    ap (λ xs. refusal_among (or_those xs (second_name attrs))) (none_among (first_name attrs) f.0 f.1) ∙ s

@@ -1,3 +1,9 @@
+pub mod Answers
+pub mod Meanings
+pub mod Examined
+pub mod Folding
+pub mod Kinds
+pub mod Eithers
+pub mod Spannings
 pub mod Skips
 pub mod SkipRefusals
-pub mod Merged

@@ -1,7 +1,6 @@
 -- Which places an attribute skips: `#[NAME(skip)]` or `#[NAME(ignore)]`, in any delimiters.
-use Rattle.std.specs.Prelude.{ℕ, List, [], ◌∷◌, Bool, true, false, not, ◌&&◌, cond, Option, Some, None, codes, filter}
+use Rattle.std.specs.Prelude.{ℕ, List, [], ◌∷◌, Bool, true, false, cond, Option, Some, None, codes, filter}
 use Rattle.std.specs.Option.{is_some}
-use Rattle.std.specs.Str.{bytes_eq}
 use Rattle.dm_stream.specs.declared.tokens.Ident.{Ident}
 use Rattle.dm_stream.specs.declared.tokens.Token.TheVariants as t
 use Rattle.dm_stream.specs.Trees.{Trees, no_trees, token}
@@ -9,21 +8,13 @@ use Rattle.dm_ast.specs.declared.plain.Attribute.{Attribute}
 use Rattle.dm_ast.specs.declared.plain.AttrArgs.{AttrArgs}
 use Rattle.dm_ast.specs.declared.plain.AttrArgs.TheVariants as args
 use Rattle.dm_ast.specs.Declarations.{FieldTree}
-use Rattle.dm_attr.specs.declared.attr.Skip.{Skip}
-use Rattle.dm_attr.specs.declared.attr.Skip.TheVariants.{BySkip, ByIgnore}
+use Rattle.dm_attr.specs.declared.skip.Skip.{Skip}
+use Rattle.dm_attr.specs.declared.skip.Skip.TheVariants.{BySkip, ByIgnore}
+pub use Rattle.dm_attr.specs.Examined.{is_spelled, is_one_word, is_examined}
 
--- an identifier that isn't raw, of these characters
-abbrev pub is_spelled : List ℕ → Ident → Bool
-is_spelled word i = not i.raw && bytes_eq i.name word
-
-abbrev pub is_one_word : List ℕ → List Ident → Bool
-is_one_word word [] = false
-is_one_word word (i ∷ []) = is_spelled word i
-is_one_word word (i ∷ j ∷ more) = false
-
--- an attribute whose path is exactly one identifier spelled so
-abbrev pub is_examined : List ℕ → Attribute → Bool
-is_examined name a = not a.path.leading_colon && is_one_word name a.path.segments
+abbrev pub skip_name : Skip → List ℕ
+skip_name BySkip = codes "skip"
+skip_name ByIgnore = codes "ignore"
 
 -- the word by which a place is skipped
 abbrev pub skip_named : Ident → Option Skip

@@ -1,53 +1,33 @@
 //! What the attributes of a place say to `PartialEq`: whether it leaves the place out, or that one of them is refused.
-#![tactic(auto, using(crate::proofs::SkipSteps::skip_steps))]
 
-ghost use Rattle.std.specs.Prelude.{◌≡◌};
-ghost use Rattle.std.specs.Result.{result_err};
-ghost use Rattle.dm_attr.specs.Skips as spec;
-ghost use Rattle.dm_attr.specs.SkipRefusals as checks;
-ghost use Rattle.dm_attr.specs.Merged.{found};
+ghost use Rattle.dm_attr.specs.SkipRefusals as spec;
 
-use crate::attr::{Skip, Spanning, parse_attrs};
+use crate::fold::parse_attrs;
+use crate::skip::Skip;
+use crate::spanning::Spanning;
 use dm_ast::Attribute;
-use dm_stream::Refusal;
+use dm_stream::Error;
+use std::alloc::Global;
 
-/// The word by which `PartialEq` leaves out the place with these attributes.
-pub fn skip_of(attrs: &[Attribute<'_>]) -> Result<Option<Spanning<Skip>>, Refusal>
-    ensures skip { found result ≡ spec.partial_eq_skip attrs.now }
-    ensures refusal { result_err result ≡ checks.place_refusal attrs.now }
+/// Whether the attributes of one name skip their place.
+fn is_skipped_under(alloc: Global, attrs: &[Attribute<'_>], name: &str) -> Result<bool, Error>
+    ensures { spec.IsSkipUnder name.now attrs.now result }
 {
-    if attrs.is_empty() {
-        return Ok(None);
-    }
-    match parse_attrs(attrs, "partial_eq") {
-        Ok(None) => parse_attrs(attrs, "eq"),
-        Ok(Some(skip)) => Ok(Some(skip)),
-        Err(refusal) => Err(refusal),
-    }
+    let found: Option<Spanning<Skip>> = parse_attrs(alloc, attrs, name)?;
+    Ok(found.is_some())
 }
 
-/// Whether `PartialEq` leaves out the place with these attributes.
-#[tactic(auto, unfolding(crate::specs::Skips::is_skipped))]
-pub fn is_skipped(attrs: &[Attribute<'_>]) -> bool
-    ensures { result ≡ spec.is_skipped attrs.now }
+/// Whether `PartialEq` leaves out the place with these attributes: one of the name `partial_eq`, or of the name `eq` where there is
+/// none of the first, is `skip` or `ignore` in any delimiters, as in derive_more.
+///
+/// The names and the words are compared as they are spelled, so that raw ones say nothing. Of the attributes that count, the first
+/// that is something else is refused with `AttrSyntax`, and a second one that reads with `AttrRepeated`, each at its own range,
+/// from `#` to `]`.
+pub fn is_left_out(alloc: Global, attrs: &[Attribute<'_>]) -> Result<bool, Error>
+    ensures { spec.IsSkipAnswer attrs.now result }
 {
-    let skip = skip_of(attrs);
-    is_yes(skip)
-}
-
-fn is_yes(skip: Result<Option<Spanning<Skip>>, Refusal>) -> bool
-    ensures { result ≡ spec.is_yes (found skip) }
-{
-    match skip {
-        Ok(None) => false,
-        Ok(Some(_)) => true,
-        Err(_) => false,
+    if is_skipped_under(alloc, attrs, "partial_eq")? {
+        return Ok(true);
     }
-}
-
-/// The first refusal of the attributes of a place.
-pub fn place_refusal(attrs: &[Attribute<'_>]) -> Option<Refusal>
-    ensures { result ≡ checks.place_refusal attrs.now }
-{
-    skip_of(attrs).err()
+    is_skipped_under(alloc, attrs, "eq")
 }

@@ -1,1 +1,2 @@
 pub mod Needing
+pub mod CoveringLaws

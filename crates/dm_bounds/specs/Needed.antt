@@ -2,11 +2,11 @@
 -- field of an unskipped variant whose type mentions a parameter and is free, in order and with repeats.
 use Rattle.std.specs.Prelude.{List, [], ◌∷◌, flat_map, Bool, false, not, cond, ◌&&◌, ◌||◌, None}
 use Rattle.dm_ast.specs.Tree.{Lifetimes, TypeTree, type_tree, bare_fn, FnTree, fn_tree, BoundTree, implements, trait_bound, PathTree, ty_view}
-use Rattle.dm_ast.specs.Declarations.{Listed, FieldTree, PredicateTree, type_predicate, Declaration}
+use Rattle.dm_ast.specs.Declarations.{Listed, PredicateTree, type_predicate, Declaration}
 use Rattle.dm_ast.specs.Implementors.{implementor}
 use Rattle.dm_attr.specs.Skips.{is_skipped}
-use Rattle.dm_output.specs.Values.{Case, cases, field_list}
-use Rattle.dm_operands.specs.Heads.{self_type}
+use Rattle.dm_generics.specs.Words.{self_type}
+use Rattle.dm_operands.specs.Marked.{MarkedField, MarkedCase, marked}
 use Rattle.dm_searches.specs.Parameters.{Parameters, looked_for, declared_in}
 use Rattle.dm_searches.specs.Mentions.{mentions}
 use Rattle.dm_searches.specs.Inside.{inside}
@@ -50,15 +50,19 @@ is_free w t = not (inside w.this t || inside w.whole t)
 abbrev pub needs : Wanted → TypeTree → Bool
 needs w t = mentions w.parameters t && is_free w t
 
-abbrev pub added : PathTree → Wanted → FieldTree → List PredicateTree
-added p w f = cond (not (is_skipped f.attrs) && needs w f.ty) (bounded p f.ty ∷ []) []
+abbrev pub added : PathTree → Wanted → MarkedField → List PredicateTree
+added p w f = cond (not f.left_out && needs w f.field.ty) (bounded p f.field.ty ∷ []) []
 
-abbrev pub added_in : PathTree → Wanted → Case → List PredicateTree
-added_in p w v = cond (is_skipped v.attrs) [] (flat_map (added p w) (field_list v.fields))
+abbrev pub added_in : PathTree → Wanted → MarkedCase → List PredicateTree
+added_in p w c = cond c.left_out [] (flat_map (added p w) c.fields)
 
 abbrev pub wanted_of : Declaration → Wanted
 wanted_of d = record { parameters = declared_in d.generics; this = self_type; whole = implementor d }
 
+-- for the trait of this path, in an implementation for these cases
+abbrev pub needed_in : PathTree → Declaration → List MarkedCase → List PredicateTree
+needed_in p d cs = flat_map (added_in p (wanted_of d)) cs
+
 -- for the trait of this path
 abbrev pub needed : PathTree → Declaration → List PredicateTree
-needed p d = flat_map (added_in p (wanted_of d)) (cases d)
+needed p d = needed_in p d (marked is_skipped d)

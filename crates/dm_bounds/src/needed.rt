@@ -3,20 +3,18 @@
 
 ghost use Rattle.std.specs.Prelude.{◌≡◌, OnOk, IfOk, map, flat_map, ◌++◌};
 ghost use Rattle.dm_ast.specs.Tree.{ty_view};
-ghost use Rattle.dm_ast.specs.Declarations.{field_view, predicate_view, declaration_view};
+ghost use Rattle.dm_ast.specs.Declarations.{predicate_view, declaration_view};
 ghost use Rattle.dm_ast.specs.Implementors.{plain_path};
-ghost use Rattle.dm_output.specs.Values as values;
-ghost use Rattle.dm_operands.specs.Heads.{words};
-ghost use Rattle.dm_operands.specs.CaseViews.{case_view, fields_ref_view};
+ghost use Rattle.dm_generics.specs.Words.{words};
+ghost use Rattle.dm_operands.specs.CaseViews.{case_view, field_ref_view};
 ghost use Rattle.dm_bounds.specs.Needed as spec;
 
 use crate::predicate::bounded;
-use dm_ast::{DeriveInput, Field, Ty, WherePredicate};
-use dm_attr::skips::is_skipped;
+use dm_ast::{DeriveInput, Ty, WherePredicate};
 use dm_copy::both;
-use dm_operands::cases::{CaseRef, FieldsRef, cases_of};
-use dm_operands::generics::{implementor, params};
-use dm_operands::heads::word_type;
+use dm_generics::implementors::{implementor, params};
+use dm_generics::types::word_type;
+use dm_operands::cases::{CaseRef, FieldRef};
 use dm_searches::{GenericsSearch, contains_type_structurally};
 use dm_stream::Seq;
 use std::alloc::{AllocError, Global};
@@ -67,53 +65,36 @@ fn needs(sought: &Sought<'_, '_>, ty: &Ty<'_>) -> bool
 
 /// Adds the predicate of a field, where it needs one.
 fn add_for_field<'a>(
-    field: &Field<'a>,
+    field: &FieldRef<'_, 'a>,
     sought: &Sought<'_, '_>,
     names: &[&'a str],
     alloc: Global,
     out: &mut Seq<WherePredicate<'a>>,
 ) -> Result<(), AllocError>
     ensures { OnOk result (map predicate_view out.new ≡ map predicate_view out.old ++
-        spec.added (plain_path (words (map (λ s. s.now) names.now))) (spec.wanted sought.now) (field_view field.now)) }
+        spec.added (plain_path (words (map (λ s. s.now) names.now))) (spec.wanted sought.now) (field_ref_view field.now)) }
 {
-    if !is_skipped(field.attrs.as_slice()) && needs(sought, &field.ty) {
-        let predicate = bounded(&field.ty, names, alloc)?;
+    if !field.left_out && needs(sought, &field.field.ty) {
+        let predicate = bounded(&field.field.ty, names, alloc)?;
         return out.add(predicate);
     }
     Ok(())
 }
 
 fn add_for_fields<'a>(
-    fields: &[Field<'a>],
+    fields: &[FieldRef<'_, 'a>],
     sought: &Sought<'_, '_>,
     names: &[&'a str],
     alloc: Global,
     out: &mut Seq<WherePredicate<'a>>,
 ) -> Result<(), AllocError>
     ensures { OnOk result (map predicate_view out.new ≡ map predicate_view out.old ++
-        flat_map (spec.added (plain_path (words (map (λ s. s.now) names.now))) (spec.wanted sought.now)) (map field_view fields.now)) }
+        flat_map (spec.added (plain_path (words (map (λ s. s.now) names.now))) (spec.wanted sought.now)) (map field_ref_view fields.now)) }
 {
     for field in fields {
         add_for_field(field, sought, names, alloc, out)?;
     }
     Ok(())
-}
-
-fn add_for_fields_of<'a>(
-    fields: FieldsRef<'_, 'a>,
-    sought: &Sought<'_, '_>,
-    names: &[&'a str],
-    alloc: Global,
-    out: &mut Seq<WherePredicate<'a>>,
-) -> Result<(), AllocError>
-    ensures { OnOk result (map predicate_view out.new ≡ map predicate_view out.old ++
-        flat_map (spec.added (plain_path (words (map (λ s. s.now) names.now))) (spec.wanted sought.now)) (values.field_list (fields_ref_view fields.entry))) }
-{
-    match fields {
-        FieldsRef::Named(all) => add_for_fields(all.items.as_slice(), sought, names, alloc, out),
-        FieldsRef::Unnamed(all) => add_for_fields(all.items.as_slice(), sought, names, alloc, out),
-        FieldsRef::Unit => Ok(()),
-    }
 }
 
 fn add_for_case<'a>(
@@ -126,10 +107,10 @@ fn add_for_case<'a>(
     ensures { OnOk result (map predicate_view out.new ≡ map predicate_view out.old ++
         spec.added_in (plain_path (words (map (λ s. s.now) names.now))) (spec.wanted sought.now) (case_view case.now)) }
 {
-    if is_skipped(case.attrs) {
+    if case.left_out {
         return Ok(());
     }
-    add_for_fields_of(case.fields, sought, names, alloc, out)
+    add_for_fields(case.fields.as_slice(), sought, names, alloc, out)
 }
 
 fn add_for_cases<'a>(
@@ -148,18 +129,18 @@ fn add_for_cases<'a>(
     Ok(())
 }
 
-/// Adds what an implementation of the trait of this path needs beside the declared predicates: `T: TRAIT` for the type `T` of each field that
-/// is kept, in order and with repeats, where it mentions a parameter and neither `Self` nor the declared type stands in it.
+/// Adds what an implementation of the trait of this path for these cases needs beside the declared predicates: `T: TRAIT` for the type `T` of
+/// each field that isn't left out, in order and with repeats, where it mentions a parameter and neither `Self` nor the declared type stands in it.
 pub fn add_needed<'a>(
+    cases: &[CaseRef<'_, 'a>],
     input: &DeriveInput<'a>,
     names: &[&'a str],
     alloc: Global,
     out: &mut Seq<WherePredicate<'a>>,
 ) -> Result<(), AllocError>
     ensures { OnOk result (map predicate_view out.new ≡ map predicate_view out.old ++
-        spec.needed (plain_path (words (map (λ s. s.now) names.now))) (declaration_view input.now)) }
+        spec.needed_in (plain_path (words (map (λ s. s.now) names.now))) (declaration_view input.now) (map case_view cases.now)) }
 {
-    let cases = cases_of(alloc, input)?;
     let sought = sought_in(alloc, input)?;
-    add_for_cases(cases.as_slice(), &sought, names, alloc, out)
+    add_for_cases(cases, &sought, names, alloc, out)
 }

@@ -15,12 +15,13 @@ ghost use Rattle.dm_ast.specs.Tree.{
 };
 ghost use Rattle.dm_ast.specs.Declarations.{listed, predicate_view};
 ghost use Rattle.dm_ast.specs.Implementors.{plain_path};
-ghost use Rattle.dm_operands.specs.Heads.{words};
+ghost use Rattle.dm_generics.specs.Words.{words};
 ghost use Rattle.dm_bounds.specs.Needed as spec;
 
 use dm_ast::{BareFn, Bound, Path, TraitBound, Ty, TyNode, WherePredicate};
 use dm_copy::{CloneIn, both, boxed};
-use dm_operands::names::{one, path_of};
+use dm_generics::lists::one;
+use dm_generics::names::path_of;
 use dm_stream::{Lifetime, Punctuated, Span};
 use std::alloc::{AllocError, Global};
 

@@ -1,8 +1,10 @@
 -- A declaration is refused nowhere exactly where it is valid.
-use Rattle.std.proofs.Common.{◌≡◌, ◌≢◌, ℕ, zero, suc, ◌<◌, List, [], ◌∷◌, length, Bool, true, false, cond, filter, map, codes, Option, Some, None, refl, sym, ap, ◌∙◌, arith}
+use Rattle.std.proofs.Common.{◌≡◌, ◌≢◌, ℕ, zero, suc, ◌<◌, List, [], ◌∷◌, length, Bool, true, false, cond, filter, map, codes, Option, Some, None, Result, Ok, Err, refl, sym, ap, ◌∙◌, arith}
 use Rattle.std.specs.Option.{option_or}
 use Rattle.std.specs.Prelude.{◌↔◌, All, flat_map, slice_index_or}
 use Rattle.std.proofs.lemmas.List.Concat.{flat_map_single}
+use Rattle.dm_stream.specs.declared.error.Error.{Error}
+use Rattle.dm_stream.specs.declared.error.Error.TheVariants.{NoMemory, Refused}
 use Rattle.dm_stream.specs.declared.error.Kind.TheVariants.{AttrSyntax}
 use Rattle.dm_stream.specs.declared.error.Refusal.{Refusal}
 use Rattle.dm_ast.specs.declared.plain.Attribute.{Attribute}
@@ -10,8 +12,9 @@ use Rattle.dm_ast.specs.Declarations.{Declaration, FieldTree, ShapeTree, struct_
 use Rattle.dm_output.specs.Values.{Text, Case, cases, field_list}
 use Rattle.dm_attr.specs.Skips.{Skipping, no, yes, bad, reads_skip, is_examined, skip_among, skip, or_else, is_skipped}
 use Rattle.dm_attr.specs.SkipRefusals.{refusal_at, repeated, refusal_among, or_those, place_refusal}
-use Rattle.dm_cmp_ops.specs.Checks.{attrs_of, places, first_refusal, refusal_of_shape, refusal, IsGood, IsGoodCase, IsNoUnion, IsValid}
-use Rattle.dm_cmp_ops.proofs.CheckSteps.{or_none, first-append}
+use Rattle.dm_operands.specs.Places.{attrs_of, places, first_refusal, refusal_of_shape, refusal, IsWalked}
+use Rattle.dm_operands.proofs.PlaceLaws.{or_none, first-append}
+use Rattle.dm_cmp_ops.specs.Checks.{IsGood, IsGoodCase, IsNoUnion, IsValid, IsRefusedIfInvalid}
 
 -- ---- what is refused of a place, and what its attributes say
 
@@ -127,6 +130,8 @@ unrefused d =
     let s = unrefused-shape d.shape (cases d) in
     (λ e. record { no_union = (s.0 e).0; good = (s.0 e).1 }, λ v. s.1 (v.no_union, v.good))
 
--- what is found is nothing exactly where the declaration is valid
-pub valid : (d : Declaration) (o : Option Refusal) → o ≡ refusal d → (o ≡ None) ↔ IsValid d
-valid d o is = (λ e. (unrefused d).0 (sym is ∙ e), λ v. is ∙ (unrefused d).1 v)
+-- what is answered by the first refusal is refused exactly where the declaration isn't valid
+pub valid : {A : Type 0} (d : Declaration) (Made : A → Type 0) (r : Result A Error) → IsWalked (refusal d) Made r → IsRefusedIfInvalid d r
+valid d Made (Ok x) h = (unrefused d).0 h.0
+valid d Made (Err NoMemory) h = tt
+valid d Made (Err (Refused r)) h = λ v. let e : refusal d ≡ None = (unrefused d).1 v in cc

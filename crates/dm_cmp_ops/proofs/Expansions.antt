@@ -3,9 +3,9 @@ use Rattle.std.proofs.Common.{◌≡◌, ℕ, List, [], ◌∷◌, map, true, fa
 use Rattle.std.specs.Prelude.{IfOk, String, string_bytes}
 use Rattle.std.specs.declared.alloc.Global.{Global}
 use Rattle.dm_ast.specs.Declarations.{Declaration}
-use Rattle.dm_print.specs.declared.expansion.Expansion.{Expansion}
-use Rattle.dm_output.specs.Output.{ItemTree, item_view}
-use Rattle.dm_output.specs.Values.{cases}
+use Rattle.dm_expansion.specs.declared.expansion.Expansion.{Expansion}
+use Rattle.dm_output.specs.Output.{ItemTree}
+use Rattle.dm_output.specs.Views.{item_view}
 use Rattle.dm_output.specs.Tokens.{printed}
 use Rattle.dm_cmp_ops.specs.declared.comparing.Comparing.{Comparing}
 use Rattle.dm_cmp_ops.specs.declared.comparing.Comparing.TheVariants.{Equal, Unequal}
@@ -15,23 +15,23 @@ use Rattle.dm_operands.specs.Kept.{some_compared}
 use Rattle.dm_cmp_ops.specs.Emitted.{item, method, method_name, methods}
 use Rattle.dm_operands.specs.Named.{AreNamed}
 use Rattle.dm_cmp_ops.specs.Expanded.{IsExpanded, IsReadable, IsText}
-use Rattle.dm_cmp_ops.proofs.PartialEqLaws.{eq-gives, ne-gives}
+use Rattle.dm_cmp_ops.proofs.PartialEqLaws.{marked_cases, eq-gives, ne-gives}
 use Rattle.dm_cmp_ops.proofs.ReadNames.{readable-named}
 
 -- ---- the implementation
 
-is-method : (c : Comparing) (d : Declaration) → IsComparison (method_name c) (method c d)
+is-method : (c : Comparing) (d : Declaration) → IsComparison (method_name c) (method c d (marked_cases d))
 is-method c d = record { attrs = refl; is_const = refl; name_is = refl; receiver = refl; param = refl; output = refl }
 
-eq-method : (d : Declaration) → AreNamed d → IsComparison (codes "eq") (method Equal d) × Gives d (method Equal d) direct_eq
-eq-method d names = (is-method Equal d, eq-gives d names (method Equal d) (is-method Equal d) refl)
+eq-method : (d : Declaration) → AreNamed d → IsComparison (codes "eq") (method Equal d (marked_cases d)) × Gives d (method Equal d (marked_cases d)) direct_eq
+eq-method d names = (is-method Equal d, eq-gives d names (method Equal d (marked_cases d)) (is-method Equal d) refl)
 
-ne-method : (d : Declaration) → AreNamed d → IsComparison (codes "ne") (method Unequal d) × Gives d (method Unequal d) direct_ne
-ne-method d names = (is-method Unequal d, ne-gives d names (method Unequal d) (is-method Unequal d) refl)
+ne-method : (d : Declaration) → AreNamed d → IsComparison (codes "ne") (method Unequal d (marked_cases d)) × Gives d (method Unequal d (marked_cases d)) direct_ne
+ne-method d names = (is-method Unequal d, ne-gives d names (method Unequal d (marked_cases d)) (is-method Unequal d) refl)
 
-are-methods : (d : Declaration) → AreNamed d → AreMethods d (some_compared (cases d)) (methods d)
+are-methods : (d : Declaration) → AreNamed d → AreMethods d (some_compared (marked_cases d)) (methods d (marked_cases d))
 are-methods d names =
-    elim (some_compared (cases d)) as (λ b. AreMethods d b (cond b (method Equal d ∷ method Unequal d ∷ []) (method Equal d ∷ []))) [
+    elim (some_compared (marked_cases d)) as (λ b. AreMethods d b (cond b (method Equal d (marked_cases d) ∷ method Unequal d (marked_cases d) ∷ []) (method Equal d (marked_cases d) ∷ []))) [
       | true ↦ (eq-method d names, ne-method d names)
       | false ↦ eq-method d names
     ]

@@ -2,7 +2,7 @@ pub mod ChainLaws
 pub mod PartialEqLaws
 pub mod CheckLaws
 mod Builders
+mod ArmSteps
 mod PrintLaws
-mod CheckSteps
 mod ReadNames
 pub mod Expansions

@@ -4,17 +4,16 @@ use Rattle.std.specs.Prelude.{not, ◌&&◌, ◌||◌}
 use Rattle.dm_stream.specs.declared.tokens.Delim.TheVariants.{Brace}
 use Rattle.dm_stream.specs.Trees.{no_trees}
 use Rattle.dm_stream.specs.Layout.{Laid}
-use Rattle.dm_ast.specs.Declarations.{Declaration, FieldTree}
-use Rattle.dm_print.specs.Laying.{lay, begun, done}
+use Rattle.dm_ast.specs.Declarations.{Declaration}
+use Rattle.dm_print_types.specs.Laying.{lay, begun, done}
 use Rattle.dm_output.specs.Output.{ExprTree}
 use Rattle.dm_output.specs.Tokens.{expr_trees, word, enclosed, in_turn, method_trees, head_trees, item_trees}
-use Rattle.dm_output.specs.Values.{Case, field_list}
-use Rattle.dm_print.proofs.Laying.{lay-join}
+use Rattle.dm_print_types.proofs.Laying.{lay-join}
 use Rattle.dm_cmp_ops.specs.declared.comparing.Comparing.{Comparing}
 use Rattle.dm_cmp_ops.specs.declared.comparing.Comparing.TheVariants.{Equal, Unequal}
-use Rattle.dm_attr.specs.Skips.{is_skipped}
+use Rattle.dm_operands.specs.Marked.{MarkedField, MarkedCase}
 use Rattle.dm_operands.specs.Kept.{keeps_some, is_compared}
-use Rattle.dm_cmp_ops.specs.Emitted.{test, tests, chain, methods, item}
+use Rattle.dm_cmp_ops.specs.Emitted.{test, tests, chain, methods, item_for}
 use Rattle.dm_operands.specs.declared.sides.Operand.TheVariants.{Mine, Theirs}
 use Rattle.dm_operands.specs.CaseViews.{naming}
 use Rattle.dm_cmp_ops.specs.Printed.{sign_trees, joined}
@@ -36,7 +35,7 @@ chain-laid s c e [] = lay-join s (expr_trees e) no_trees
 chain-laid s Equal e (f ∷ es) = refl
 chain-laid s Unequal e (f ∷ es) = refl
 
-tests-step : (s : Laid) (c : Comparing) (n : ℕ) (fs : List FieldTree) (skip : Bool) →
+tests-step : (s : Laid) (c : Comparing) (n : ℕ) (fs : List MarkedField) (skip : Bool) →
     (keeps_some fs ≡ true → lay s (joined c true (tests c (n + 1) fs)) ≡ lay s (expr_trees (chain c (tests c (n + 1) fs)))) →
     (not skip || keeps_some fs) ≡ true →
     lay s (joined c true (cond skip (tests c (n + 1) fs) (test c n ∷ tests c (n + 1) fs))) ≡
@@ -45,22 +44,22 @@ tests-step s c n fs true rest some = rest some
 tests-step s c n fs false rest some = chain-laid s c (test c n) (tests c (n + 1) fs)
 
 -- the tests of fields of which one is kept are a chain
-pub tests-laid : (s : Laid) (c : Comparing) (n : ℕ) (fs : List FieldTree) → keeps_some fs ≡ true →
+pub tests-laid : (s : Laid) (c : Comparing) (n : ℕ) (fs : List MarkedField) → keeps_some fs ≡ true →
     lay s (joined c true (tests c n fs)) ≡ lay s (expr_trees (chain c (tests c n fs)))
 tests-laid s c n [] some = cc
-tests-laid s c n (f ∷ fs) some = tests-step s c n fs (is_skipped f.attrs) (tests-laid s c (n + 1) fs) some
+tests-laid s c n (f ∷ fs) some = tests-step s c n fs f.left_out (tests-laid s c (n + 1) fs) some
 
 both : (a b : Bool) → (a && b) ≡ true → b ≡ true
 both true b h = h
 both false b h = cc
 
--- a variant that is compared keeps some field
-pub keeps : (v : Case) → is_compared v ≡ true → keeps_some (field_list v.fields) ≡ true
-keeps v h = both (not (is_skipped v.attrs)) (keeps_some (field_list v.fields)) h
+-- a case that is compared keeps some field
+pub keeps : (v : MarkedCase) → is_compared v ≡ true → keeps_some v.fields ≡ true
+keeps v h = both (not v.left_out) (keeps_some v.fields) h
 
 -- ---- the implementation
 
 -- the head, and the methods in braces
-pub item-laid : (s : Laid) (d : Declaration) →
-    done (lay (begun (lay s (head_trees (item d))) Brace) (in_turn (map method_trees (methods d)))) Brace ≡ lay s (item_trees (item d))
-item-laid s d = sym (lay-join s (head_trees (item d)) (enclosed Brace (in_turn (map method_trees (methods d)))))
+pub item-laid : (s : Laid) (d : Declaration) (vs : List MarkedCase) →
+    done (lay (begun (lay s (head_trees (item_for d vs))) Brace) (in_turn (map method_trees (methods d vs)))) Brace ≡ lay s (item_trees (item_for d vs))
+item-laid s d vs = sym (lay-join s (head_trees (item_for d vs)) (enclosed Brace (in_turn (map method_trees (methods d vs)))))

@@ -1,6 +1,7 @@
 -- The names of a declaration that is read, and whose names may be declared, tell things apart.
-use Rattle.std.proofs.Common.{◌≡◌, ℕ, zero, suc, ◌+◌, List, [], ◌∷◌, ◌++◌, Bool, true, false, ◌&&◌, Option, Some, None, map, slice_get, refl, sym, ap, subst, ◌∙◌, arith}
-use Rattle.std.specs.Prelude.{All, AllPairs, flat_map}
+use Rattle.std.proofs.Common.{◌≡◌, ℕ, zero, suc, ◌+◌, List, [], ◌∷◌, ◌++◌, Bool, true, false, ◌&&◌, ◌||◌, codes, Option, Some, None, map, slice_get, refl, sym, ap, subst, ◌∙◌, arith}
+use Rattle.std.specs.Prelude.{All, AllPairs, flat_map, nat_eq}
+use Rattle.std.specs.List.{starts_with}
 use Rattle.std.specs.Str.{bytes_eq}
 use Rattle.std.proofs.lemmas.Slice.Eq.{bytes_eq-Decides}
 use Rattle.dm_stream.specs.declared.tokens.Ident.{Ident}
@@ -11,12 +12,13 @@ use Rattle.dm_ast.specs.Declarations.{Declaration, Listed, FieldTree, FieldsTree
 use Rattle.dm_ast.specs.Spelling.{Where, Marks, Spelling, items, items_left}
 use Rattle.dm_ast.specs.DeclarationGrammar as grammar
 use Rattle.dm_ast.specs.Runs.{run}
-use Rattle.dm_ast.specs.Names.{Found, name_at, variants, fields, declared, is_again, in_some, in_type, in_param, in_where, in_field, in_fields, in_variants, in_shape, found}
+use Rattle.dm_ast.specs.Names.{Found, name_at, types, variants, fields, declared, is_again, is_reserved, in_some, in_type, in_param, in_where, in_field, in_fields, in_variants, in_shape, found}
 use Rattle.dm_output.specs.Values.{Text, Case, case_of_variant, cases_of_shape}
-use Rattle.dm_output.specs.Run.{brace_fields}
+use Rattle.dm_output.specs.Fits.{names_type, brace_fields}
 use Rattle.dm_operands.specs.Sides.{field_ident}
 use Rattle.dm_operands.specs.Named.{AreDistinct, HasName, case_name, field_name, AreFieldsNamed, AreNamed}
 use Rattle.dm_cmp_ops.specs.Expanded.{IsReadable}
+use Rattle.dm_operands.proofs.NameLaws.{bytes_differ}
 use Rattle.dm_operands.proofs.BindingLaws.{eqb-same}
 
 -- ---- what holds of each item
@@ -164,6 +166,18 @@ distinct-cons name_of x xs first more (suc i) zero y z ay az e =
     absurd (not-same (name_of x) (name_of y) (first i y ay) (ap name_of here ∙ sym e))
 distinct-cons name_of x xs first more (suc i) (suc j) y z ay az e = ap suc (more i j y z ay az e)
 
+-- ---- the type's own name, which isn't reserved
+
+or-behind : (a b : Bool) → (a || b) ≡ false → b ≡ false
+or-behind true b h = cc
+or-behind false b h = h
+
+foreign-type : (d : Declaration) → is_reserved (declared types d.ident) ≡ false → names_type d (codes "derive_more") ≡ false
+foreign-type d h =
+    let other : bytes_eq d.ident.name (codes "derive_more") ≡ false =
+    or-behind (starts_with nat_eq d.ident.name (codes "__")) (bytes_eq d.ident.name (codes "derive_more")) h in
+    bytes_differ (codes "derive_more") d.ident.name (λ e. not-same d.ident.name (codes "derive_more") other (sym e))
+
 -- ---- variants
 
 other-variants : (x : Text) (r : Span) (n : ℕ) (vs : List VariantTree) → Later (IsOther (name_at variants x r)) (in_variants n vs) →
@@ -262,4 +276,8 @@ readable-named d h =
     let params : List Found = flat_map in_param d.generics.params.items in
     let inside : Apart (in_shape d.shape d.generics.where_clause) = apart-back params (in_shape d.shape d.generics.where_clause) apart.1 in
     let named = are-cases d.attrs d.ident d.shape d.generics.where_clause has inside in
-    record { distinct = named.0; fields = λ n c fs at braces. named.1 n c at fs braces }
+    record {
+      foreign = foreign-type d (h.named.none_reserved zero (declared types d.ident) (omega arith));
+      distinct = named.0;
+      fields = λ n c fs at braces. named.1 n c at fs braces;
+    }

@@ -2,7 +2,7 @@
 use Rattle.std.specs.Prelude.{◌≡◌, List, [], ◌∷◌, length, Bool, true, not, ◌&&◌, ◌||◌, eqb, Option, Some, None, slice_get}
 use Rattle.dm_ast.specs.Declarations.{Declaration, FieldTree}
 use Rattle.dm_output.specs.Output.{MethodTree}
-use Rattle.dm_output.specs.Values.{Value, Case, cases, field_list, truth, IsValue}
+use Rattle.dm_output.specs.Values.{Value, Case, cases, field_list, truth, IsValue, value_input}
 use Rattle.dm_output.specs.Run.{run_method}
 use Rattle.dm_attr.specs.Skips.{is_skipped}
 
@@ -26,4 +26,4 @@ direct_ne d x y os = not (direct_eq d x y os)
 -- a method gives this truth for every value, right side and list of outcomes, one for each field of self
 pub record Gives (d : Declaration) (m : MethodTree) (direct : Declaration → Value → Value → List Bool → Bool) : Type 0 where
   pub gives : (x y : Value) (os : List Bool) → IsValue d x → IsValue d y → length os ≡ length x.fields →
-      run_method (record { decl = d; outcomes = os }) m x y ≡ Some (truth (direct d x y os))
+      run_method d os m x (value_input y) ≡ Some (truth (direct d x y os))

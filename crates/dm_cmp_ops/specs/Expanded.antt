@@ -8,8 +8,9 @@ use Rattle.dm_ast.specs.Declarations.{Declaration}
 use Rattle.dm_ast.specs.Spelling.{Marks}
 use Rattle.dm_ast.specs.Parsed.{SpelledBy}
 use Rattle.dm_ast.specs.Names.{Named}
-use Rattle.dm_print.specs.declared.expansion.Expansion.{Expansion}
-use Rattle.dm_output.specs.Output.{ItemTree, item_view}
+use Rattle.dm_expansion.specs.declared.expansion.Expansion.{Expansion}
+use Rattle.dm_output.specs.Output.{ItemTree}
+use Rattle.dm_output.specs.Views.{item_view}
 use Rattle.dm_output.specs.Tokens.{printed}
 use Rattle.dm_cmp_ops.specs.Heads.{IsPartialEq}
 use Rattle.dm_cmp_ops.specs.Emitted as emitted

@@ -4,10 +4,12 @@ use Rattle.dm_ast.specs.Tree.{PathTree}
 use Rattle.dm_ast.specs.Declarations.{PredicateTree, Declaration}
 use Rattle.dm_ast.specs.Implementors.{plain_path, name_type, params_of, predicates_of, implementor}
 use Rattle.dm_output.specs.Output.{ItemTree, MethodTree}
-use Rattle.dm_output.specs.Values.{Text, cases}
+use Rattle.dm_output.specs.Values.{Text}
 use Rattle.dm_output.specs.declared.item.ItemAttr.TheVariants.{AllowPrivateBounds, AutomaticallyDerived, Inline}
 use Rattle.dm_output.specs.declared.item.Receiver.TheVariants.{Ref}
-use Rattle.dm_operands.specs.Heads.{word, words, ref_self}
+use Rattle.dm_generics.specs.Words.{word, words, ref_self}
+use Rattle.dm_attr.specs.Skips.{is_skipped}
+use Rattle.dm_operands.specs.Marked.{marked}
 use Rattle.dm_operands.specs.Kept.{some_compared}
 use Rattle.dm_bounds.specs.Needed.{needed}
 use Rattle.dm_cmp_ops.specs.Direct.{Gives, direct_eq, direct_ne}
@@ -43,4 +45,4 @@ pub record IsPartialEq (d : Declaration) (item : ItemTree) : Type 0 where
   pub ty : item.ty ≡ implementor d
   pub predicates : item.predicates ≡ all_predicates d
   pub assocs : item.assocs ≡ []
-  pub methods : AreMethods d (some_compared (cases d)) item.methods
+  pub methods : AreMethods d (some_compared (marked is_skipped d)) item.methods

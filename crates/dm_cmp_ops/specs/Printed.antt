@@ -7,6 +7,7 @@ use Rattle.dm_output.specs.Output.{ExprTree, exprs_of}
 use Rattle.dm_output.specs.Tokens.{joint, each_expr, expr_trees}
 use Rattle.dm_cmp_ops.specs.declared.comparing.Comparing.{Comparing}
 use Rattle.dm_cmp_ops.specs.declared.comparing.Comparing.TheVariants.{Equal, Unequal}
+use Rattle.dm_operands.specs.Marked.{MarkedCase}
 use Rattle.dm_cmp_ops.specs.Emitted.{discriminants, matching, needs_discriminants}
 
 -- `==`, or `!=`
@@ -27,6 +28,6 @@ joined c first es = spaced (join_trees c) first (each_expr (exprs_of es))
 abbrev pub discriminants_trees : Comparing → Bool → Trees
 discriminants_trees c wanted = cond wanted (join (expr_trees (discriminants c)) (join_trees c)) no_trees
 
--- the body where some variant is compared
-abbrev pub compared_trees : Comparing → Declaration → Trees
-compared_trees c d = join (discriminants_trees c (needs_discriminants d)) (expr_trees (matching c d))
+-- the body where some case is compared
+abbrev pub compared_trees : Comparing → Declaration → List MarkedCase → Trees
+compared_trees c d vs = join (discriminants_trees c (needs_discriminants d vs)) (expr_trees (matching c d vs))

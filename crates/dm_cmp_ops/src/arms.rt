@@ -1,18 +1,17 @@
-//! The arms in which two values of one variant are compared.
+//! The arms in which two values of one case are compared.
 #![tactic(auto, using(crate::proofs::Builders::builder_steps))]
 
 ghost use Rattle.std.specs.Prelude.{◌≡◌, ◌∷◌, ◌++◌, [], cond, map, IfOk, OnOk};
-ghost use Rattle.dm_ast.specs.Declarations.{declaration_view, field_view};
-ghost use Rattle.dm_output.specs.Output.{expr_view, arm_view};
-ghost use Rattle.dm_output.specs.Values as values;
+ghost use Rattle.dm_ast.specs.Declarations.{declaration_view};
+ghost use Rattle.dm_output.specs.Views.{expr_view, arm_view};
 ghost use Rattle.dm_cmp_ops.specs.Emitted as spec;
-ghost use Rattle.dm_operands.specs.CaseViews.{case_view, fields_ref_view};
+ghost use Rattle.dm_operands.specs.CaseViews.{case_view, field_ref_view};
+ghost use Rattle.dm_operands.specs.Kept as kept;
 
 use crate::comparing::Comparing;
-use dm_ast::{DeriveInput, Field};
-use dm_attr::skips::is_skipped;
+use dm_ast::DeriveInput;
 use dm_operands::arms::{block_arm, otherwise};
-use dm_operands::cases::{CaseRef, FieldsRef, all_compared, is_compared};
+use dm_operands::cases::{CaseRef, FieldRef, all_compared, is_compared};
 use dm_operands::exprs::{numbered_name, unreachable_expr};
 use dm_operands::names::boxed;
 use dm_operands::sides::{Operand, side};
@@ -49,30 +48,15 @@ fn add_test<'a>(
 fn tests<'a>(
     alloc: Global,
     comparing: Comparing,
-    fields: &[Field<'_>],
+    fields: &[FieldRef<'_, '_>],
 ) -> Result<Seq<Expr<'a>>, AllocError>
-    ensures { IfOk result (λ es. map expr_view es ≡ spec.tests comparing 0 (map field_view fields.now)) }
+    ensures { IfOk result (λ es. map expr_view es ≡ spec.tests comparing 0 (map field_ref_view fields.now)) }
 {
     let mut out = Seq::with_capacity(alloc, fields.len())?;
     for (i, field) in fields.iter().enumerate() {
-        let skip = is_skipped(field.attrs.as_slice());
-        add_test(alloc, comparing, i, skip, &mut out)?;
+        add_test(alloc, comparing, i, field.left_out, &mut out)?;
     }
     Ok(out)
-}
-
-fn tests_of<'a>(
-    alloc: Global,
-    comparing: Comparing,
-    fields: FieldsRef<'_, '_>,
-) -> Result<Seq<Expr<'a>>, AllocError>
-    ensures { IfOk result (λ es. map expr_view es ≡ spec.tests comparing 0 (values.field_list (fields_ref_view fields.entry))) }
-{
-    match fields {
-        FieldsRef::Named(all) => tests(alloc, comparing, all.items.as_slice()),
-        FieldsRef::Unnamed(all) => tests(alloc, comparing, all.items.as_slice()),
-        FieldsRef::Unit => Ok(Seq::new(alloc)),
-    }
 }
 
 /// A chain of the parts: the neutral truth where there is none, and a lone part as it is.
@@ -91,11 +75,11 @@ pub(crate) fn chain<'a>(comparing: Comparing, mut parts: Seq<Expr<'a>>) -> Expr<
 fn tested<'a>(
     alloc: Global,
     comparing: Comparing,
-    fields: FieldsRef<'_, '_>,
+    fields: &[FieldRef<'_, '_>],
 ) -> Result<Box<Expr<'a>>, AllocError>
-    ensures { IfOk result (λ e. expr_view e.value ≡ spec.chain comparing (spec.tests comparing 0 (values.field_list (fields_ref_view fields.entry)))) }
+    ensures { IfOk result (λ e. expr_view e.value ≡ spec.chain comparing (spec.tests comparing 0 (map field_ref_view fields.now))) }
 {
-    let parts = tests_of(alloc, comparing, fields)?;
+    let parts = tests(alloc, comparing, fields)?;
     boxed(alloc, chain(comparing, parts))
 }
 
@@ -109,7 +93,7 @@ fn arm<'a>(
 {
     let mine = side(alloc, Operand::Mine, input, case)?;
     let theirs = side(alloc, Operand::Theirs, input, case)?;
-    let body = tested(alloc, comparing, case.fields)?;
+    let body = tested(alloc, comparing, case.fields.as_slice())?;
     block_arm(alloc, Pattern::Pair(mine, theirs), body)
 }
 
@@ -130,7 +114,24 @@ pub(crate) fn add_rest<'a>(
     Ok(())
 }
 
-/// An arm for each variant that is compared, and perhaps one for every other pair.
+/// Adds the arm of a case that is compared.
+fn add_arm<'a>(
+    alloc: Global,
+    comparing: Comparing,
+    input: &DeriveInput<'a>,
+    case: &CaseRef<'_, 'a>,
+    out: &mut Seq<Arm<'a>>,
+) -> Result<(), AllocError>
+    ensures { OnOk result (map arm_view out.new ≡ map arm_view out.old ++ cond (kept.is_compared (case_view case.now)) (spec.arm comparing (declaration_view input.now) (case_view case.now) ∷ []) []) }
+{
+    if !is_compared(case) {
+        return Ok(());
+    }
+    let next = arm(alloc, comparing, input, case)?;
+    out.add(next)
+}
+
+/// An arm for each case that is compared, and perhaps one for every other pair.
 pub(crate) fn arms<'a>(
     alloc: Global,
     comparing: Comparing,
@@ -141,10 +142,7 @@ pub(crate) fn arms<'a>(
 {
     let mut out = Seq::with_capacity(alloc, cases.len().saturating_add(1))?;
     for case in cases {
-        if is_compared(case) {
-            let next = arm(alloc, comparing, input, case)?;
-            out.add(next)?;
-        }
+        add_arm(alloc, comparing, input, case, &mut out)?;
     }
     add_rest(alloc, comparing, cases, &mut out)?;
     Ok(out)

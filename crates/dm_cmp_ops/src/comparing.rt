@@ -2,16 +2,17 @@
 #![tactic(auto, using(crate::proofs::Builders::builder_steps))]
 
 ghost use Rattle.std.specs.Prelude.{◌≡◌, [], map, OnOk};
-ghost use Rattle.dm_output.specs.Output.{expr_view, exprs_of};
-ghost use Rattle.dm_print.specs.Laying.{lay};
-ghost use Rattle.dm_operands.specs.Heads as heads;
+ghost use Rattle.dm_output.specs.Output.{exprs_of};
+ghost use Rattle.dm_output.specs.Views.{expr_view};
+ghost use Rattle.dm_print_types.specs.Laying.{lay};
+ghost use Rattle.dm_generics.specs.Words as heads;
 ghost use Rattle.dm_cmp_ops.specs.Emitted as spec;
 ghost use Rattle.dm_cmp_ops.specs.Printed as printed;
 
+use dm_generics::names::word;
 use dm_layout::Layout;
-use dm_operands::names::word;
 use dm_output::Expr;
-use dm_print::token::joint;
+use dm_print_types::token::joint;
 use dm_stream::{Ident, Seq};
 use std::alloc::AllocError;
 

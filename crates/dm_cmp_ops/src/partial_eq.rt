@@ -4,29 +4,31 @@
 ghost use Rattle.std.specs.Prelude.{◌≡◌, ◌∷◌, [], map, ◌++◌, IfOk, OnOk, string_bytes};
 ghost use Rattle.dm_ast.specs.Tree.{path_view};
 ghost use Rattle.dm_ast.specs.Declarations.{declaration_view, predicate_view};
-ghost use Rattle.dm_output.specs.Output.{expr_view, block_view, method_view, item_view};
-ghost use Rattle.dm_output.specs.Values as values;
+ghost use Rattle.dm_output.specs.Views.{expr_view, block_view, method_view, item_view};
 ghost use Rattle.dm_output.specs.Tokens.{printed};
-ghost use Rattle.dm_cmp_ops.specs.Heads.{partial_eq_path, all_predicates};
-ghost use Rattle.dm_operands.specs.Kept as kept;
+ghost use Rattle.dm_cmp_ops.specs.Heads.{partial_eq_path};
 ghost use Rattle.dm_cmp_ops.specs.Emitted as spec;
-ghost use Rattle.dm_operands.specs.CaseViews.{IsCasesOf};
+ghost use Rattle.dm_operands.specs.CaseViews.{case_view};
+ghost use Rattle.dm_operands.specs.Places.{AreCases};
 ghost use Rattle.dm_cmp_ops.specs.Expanded.{IsAnswer, IsExpanded, IsPrinted, IsReadable, IsText};
 
 use crate::arms::{arms, chain};
-use crate::checks::refusal;
+use crate::checks::checked;
 use crate::comparing::Comparing;
 use crate::printing::printed_item;
 use dm_ast::{DeriveInput, Path, WherePredicate};
 use dm_bounds::needed::add_needed;
+use dm_expansion::{Expansion, with_text};
+use dm_generics::implementors::{implementor, params, predicates};
+use dm_generics::lists::{one, two};
+use dm_generics::names::path_of;
+use dm_generics::types::word_type;
 use dm_operands::arms::block_of;
-use dm_operands::cases::{CaseRef, cases_of, is_enum, some_compared, some_skipped_case};
+use dm_operands::cases::{CaseRef, is_enum, some_case_left_out, some_compared};
 use dm_operands::exprs::{call_of, no_match, pair_of, word_name};
-use dm_operands::generics::{implementor, params, predicates};
-use dm_operands::heads::{other_param, word_type};
-use dm_operands::names::{boxed, one, path_of, two};
+use dm_operands::heads::other_param;
+use dm_operands::names::boxed;
 use dm_output::{Block, Expr, Item, ItemAttr, Method, Receiver};
-use dm_print::{Expansion, with_text};
 use dm_stream::{Error, Seq};
 use std::alloc::{AllocError, Global};
 
@@ -55,8 +57,7 @@ fn matching<'a>(
     input: &DeriveInput<'a>,
     cases: &[CaseRef<'_, 'a>],
 ) -> Result<Expr<'a>, AllocError>
-    requires { IsCasesOf input.now cases.now }
-    ensures { IfOk result (λ e. expr_view e ≡ spec.matching comparing (declaration_view input.now)) }
+    ensures { IfOk result (λ e. expr_view e ≡ spec.matching comparing (declaration_view input.now) (map case_view cases.now)) }
 {
     let operands = both(alloc)?;
     let all = arms(alloc, comparing, input, cases)?;
@@ -89,10 +90,9 @@ pub(crate) fn discriminants<'a>(alloc: Global, comparing: Comparing) -> Result<E
 
 /// Whether values of two variants have to be told apart.
 pub(crate) fn needs_discriminants(input: &DeriveInput<'_>, cases: &[CaseRef<'_, '_>]) -> bool
-    requires { IsCasesOf input.now cases.now }
-    ensures { result ≡ spec.needs_discriminants (declaration_view input.now) }
+    ensures { result ≡ spec.needs_discriminants (declaration_view input.now) (map case_view cases.now) }
 {
-    is_enum(input) && (some_skipped_case(cases) || cases.len() > 1)
+    is_enum(input) && (some_case_left_out(cases) || cases.len() > 1)
 }
 
 fn match_part<'a>(
@@ -102,8 +102,7 @@ fn match_part<'a>(
     cases: &[CaseRef<'_, 'a>],
     parts: &mut Seq<Expr<'a>>,
 ) -> Result<(), AllocError>
-    requires { IsCasesOf input.now cases.now }
-    ensures { OnOk result (map expr_view parts.new ≡ map expr_view parts.old ++ spec.match_part comparing (declaration_view input.now) (kept.some_compared (values.cases (declaration_view input.now)))) }
+    ensures { OnOk result (map expr_view parts.new ≡ map expr_view parts.old ++ spec.match_part comparing (declaration_view input.now) (map case_view cases.now)) }
 {
     if some_compared(cases) {
         let next = matching(alloc, comparing, input, cases)?;
@@ -133,8 +132,7 @@ fn parts<'a>(
     input: &DeriveInput<'a>,
     cases: &[CaseRef<'_, 'a>],
 ) -> Result<Seq<Expr<'a>>, AllocError>
-    requires { IsCasesOf input.now cases.now }
-    ensures { IfOk result (λ es. map expr_view es ≡ spec.parts comparing (declaration_view input.now)) }
+    ensures { IfOk result (λ es. map expr_view es ≡ spec.parts comparing (declaration_view input.now) (map case_view cases.now)) }
 {
     let wanted = needs_discriminants(input, cases);
     let mut made = discriminants_part(alloc, comparing, wanted)?;
@@ -148,8 +146,7 @@ pub(crate) fn body_expr<'a>(
     input: &DeriveInput<'a>,
     cases: &[CaseRef<'_, 'a>],
 ) -> Result<Expr<'a>, AllocError>
-    requires { IsCasesOf input.now cases.now }
-    ensures { IfOk result (λ e. expr_view e ≡ spec.body_expr comparing (declaration_view input.now)) }
+    ensures { IfOk result (λ e. expr_view e ≡ spec.body_expr comparing (declaration_view input.now) (map case_view cases.now)) }
 {
     if cases.len() == 0 {
         return no_match(alloc);
@@ -164,8 +161,7 @@ fn body<'a>(
     input: &DeriveInput<'a>,
     cases: &[CaseRef<'_, 'a>],
 ) -> Result<Block<'a>, AllocError>
-    requires { IsCasesOf input.now cases.now }
-    ensures { IfOk result (λ b. block_view b ≡ spec.body comparing (declaration_view input.now)) }
+    ensures { IfOk result (λ b. block_view b ≡ spec.body comparing (declaration_view input.now) (map case_view cases.now)) }
 {
     let e = boxed(alloc, body_expr(alloc, comparing, input, cases)?)?;
     Ok(block_of(alloc, e))
@@ -196,8 +192,7 @@ fn method<'a>(
     input: &DeriveInput<'a>,
     cases: &[CaseRef<'_, 'a>],
 ) -> Result<Method<'a>, AllocError>
-    requires { IsCasesOf input.now cases.now }
-    ensures { IfOk result (λ m. method_view m ≡ spec.method comparing (declaration_view input.now)) }
+    ensures { IfOk result (λ m. method_view m ≡ spec.method comparing (declaration_view input.now) (map case_view cases.now)) }
 {
     let body = body(alloc, comparing, input, cases)?;
     method_with(alloc, comparing, body)
@@ -209,8 +204,7 @@ fn methods<'a>(
     input: &DeriveInput<'a>,
     cases: &[CaseRef<'_, 'a>],
 ) -> Result<Seq<Method<'a>>, AllocError>
-    requires { IsCasesOf input.now cases.now }
-    ensures { IfOk result (λ ms. map method_view ms ≡ spec.methods (declaration_view input.now)) }
+    ensures { IfOk result (λ ms. map method_view ms ≡ spec.methods (declaration_view input.now) (map case_view cases.now)) }
 {
     let equal = method(alloc, Comparing::Equal, input, cases)?;
     if some_compared(cases) {
@@ -230,11 +224,12 @@ fn trait_path<'a>(alloc: Global) -> Result<Path<'a>, AllocError>
 fn all_predicates<'a>(
     alloc: Global,
     input: &DeriveInput<'a>,
+    cases: &[CaseRef<'_, 'a>],
 ) -> Result<Seq<WherePredicate<'a>>, AllocError>
-    ensures { IfOk result (λ ps. map predicate_view ps ≡ all_predicates (declaration_view input.now)) }
+    ensures { IfOk result (λ ps. map predicate_view ps ≡ spec.predicates_for (declaration_view input.now) (map case_view cases.now)) }
 {
     let mut all = predicates(alloc, input)?;
-    add_needed(input, &PARTIAL_EQ, alloc, &mut all)?;
+    add_needed(cases, input, &PARTIAL_EQ, alloc, &mut all)?;
     Ok(all)
 }
 
@@ -242,15 +237,16 @@ fn all_predicates<'a>(
 pub(crate) fn with_methods<'a>(
     alloc: Global,
     input: &DeriveInput<'a>,
+    cases: &[CaseRef<'_, 'a>],
     methods: Seq<Method<'a>>,
 ) -> Result<Item<'a>, AllocError>
-    ensures { IfOk result (λ i. item_view i ≡ spec.with_methods (declaration_view input.now) (map method_view methods.entry)) }
+    ensures { IfOk result (λ i. item_view i ≡ spec.with_methods (declaration_view input.now) (map case_view cases.now) (map method_view methods.entry)) }
 {
     let private = ItemAttr::AllowPrivateBounds;
     let attrs = two(alloc, private, ItemAttr::AutomaticallyDerived)?;
     let params = params(alloc, input)?;
     let path = trait_path(alloc)?;
-    let predicates = all_predicates(alloc, input)?;
+    let predicates = all_predicates(alloc, input, cases)?;
     let ty = implementor(alloc, input, params.as_slice())?;
     Ok(Item {
         attrs,
@@ -264,12 +260,15 @@ pub(crate) fn with_methods<'a>(
 }
 
 /// The implementation.
-pub(crate) fn item<'a>(alloc: Global, input: &DeriveInput<'a>) -> Result<Item<'a>, AllocError>
-    ensures { IfOk result (λ i. item_view i ≡ spec.item (declaration_view input.now)) }
+pub(crate) fn item<'a>(
+    alloc: Global,
+    input: &DeriveInput<'a>,
+    cases: &[CaseRef<'_, 'a>],
+) -> Result<Item<'a>, AllocError>
+    ensures { IfOk result (λ i. item_view i ≡ spec.item_for (declaration_view input.now) (map case_view cases.now)) }
 {
-    let cases = cases_of(alloc, input)?;
-    let methods = methods(alloc, input, cases.as_slice())?;
-    with_methods(alloc, input, methods)
+    let methods = methods(alloc, input, cases)?;
+    with_methods(alloc, input, cases, methods)
 }
 
 fn expansion_of<'a>(alloc: Global, item: Item<'a>) -> Result<Expansion<'a>, AllocError>
@@ -279,11 +278,16 @@ fn expansion_of<'a>(alloc: Global, item: Item<'a>) -> Result<Expansion<'a>, Allo
     with_text(alloc, items)
 }
 
-fn expanded<'a>(alloc: Global, input: &DeriveInput<'a>) -> Result<Expansion<'a>, AllocError>
-    requires { IsReadable (declaration_view input.now) }
+fn expanded<'a>(
+    alloc: Global,
+    input: &DeriveInput<'a>,
+    cases: &[CaseRef<'_, 'a>],
+) -> Result<Expansion<'a>, AllocError>
+    requires readable { IsReadable (declaration_view input.now) }
+    requires cases { AreCases (declaration_view input.now) cases.now }
     ensures { IfOk result (λ x. IsExpanded (declaration_view input.now) (map item_view x.items) x.text) }
 {
-    let made = item(alloc, input)?;
+    let made = item(alloc, input, cases)?;
     expansion_of(alloc, made)
 }
 
@@ -308,17 +312,20 @@ pub fn expand<'a>(
     requires { IsReadable (declaration_view input.now) }
     ensures { IsAnswer (declaration_view input.now) result }
 {
-    match refusal(input) {
-        Some(first) => Err(Error::Refused(first)),
-        None => Ok(expanded(alloc, input)?),
-    }
+    let cases = checked(alloc, input)?;
+    Ok(expanded(alloc, input, cases.as_slice())?)
 }
 
-fn printed<'a>(alloc: Global, input: &DeriveInput<'a>) -> Result<String, AllocError>
-    requires { IsReadable (declaration_view input.now) }
+fn printed<'a>(
+    alloc: Global,
+    input: &DeriveInput<'a>,
+    cases: &[CaseRef<'_, 'a>],
+) -> Result<String, AllocError>
+    requires readable { IsReadable (declaration_view input.now) }
+    requires cases { AreCases (declaration_view input.now) cases.now }
     ensures { IfOk result (λ text. IsText (declaration_view input.now) (string_bytes text)) }
 {
-    printed_item(alloc, input)
+    printed_item(alloc, input, cases)
 }
 
 /// The text of what [expand] gives, with the same refusals.
@@ -326,8 +333,6 @@ pub fn print<'a>(alloc: Global, input: &DeriveInput<'a>, _trait_name: &str) -> R
     requires { IsReadable (declaration_view input.now) }
     ensures { IsPrinted (declaration_view input.now) result }
 {
-    match refusal(input) {
-        Some(first) => Err(Error::Refused(first)),
-        None => Ok(printed(alloc, input)?),
-    }
+    let cases = checked(alloc, input)?;
+    Ok(printed(alloc, input, cases.as_slice())?)
 }

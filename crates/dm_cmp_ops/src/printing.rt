@@ -7,10 +7,10 @@ ghost use Rattle.std.specs.Prelude.{◌≡◌, ◌∷◌, [], map, IfOk, OnOk, s
 ghost use Rattle.dm_ast.specs.Declarations.{declaration_view};
 ghost use Rattle.dm_output.specs.Output.{last_expr, no_expr};
 ghost use Rattle.dm_output.specs.Tokens as tokens;
-ghost use Rattle.dm_print.specs.Laying.{lay};
+ghost use Rattle.dm_print_types.specs.Laying.{lay};
 ghost use Rattle.dm_cmp_ops.specs.Emitted as spec;
 ghost use Rattle.dm_cmp_ops.specs.Printed as printed;
-ghost use Rattle.dm_operands.specs.CaseViews.{IsCasesOf};
+ghost use Rattle.dm_operands.specs.CaseViews.{case_view};
 
 mod arms;
 
@@ -21,11 +21,11 @@ use crate::partial_eq::{
 use arms::arms;
 use dm_ast::DeriveInput;
 use dm_layout::Layout;
-use dm_operands::cases::{CaseRef, cases_of, some_compared};
+use dm_operands::cases::{CaseRef, some_compared};
 use dm_output::Block;
 use dm_print::expr::expr;
 use dm_print::item::{head, signature};
-use dm_print::token::{close, open, word};
+use dm_print_types::token::{close, open, word};
 use dm_stream::{Delim, Seq};
 use std::alloc::{AllocError, Global};
 
@@ -34,7 +34,7 @@ fn subject(alloc: Global, out: &mut Layout) -> Result<(), AllocError>
     ensures { OnOk result (out.new ≡ lay out.old (tokens.expr_trees spec.both)) }
 {
     let operands = both_expr(alloc)?;
-    expr(alloc, out, &operands)
+    expr(&operands, alloc, out)
 }
 
 fn matching<'a>(
@@ -44,8 +44,7 @@ fn matching<'a>(
     input: &DeriveInput<'a>,
     cases: &[CaseRef<'_, 'a>],
 ) -> Result<(), AllocError>
-    requires { IsCasesOf input.now cases.now }
-    ensures { OnOk result (out.new ≡ lay out.old (tokens.expr_trees (spec.matching comparing (declaration_view input.now)))) }
+    ensures { OnOk result (out.new ≡ lay out.old (tokens.expr_trees (spec.matching comparing (declaration_view input.now) (map case_view cases.now)))) }
 {
     word(out, "match")?;
     subject(alloc, out)?;
@@ -62,7 +61,7 @@ fn discriminant_tests(
     ensures { OnOk result (out.new ≡ lay out.old (tokens.expr_trees (spec.discriminants comparing))) }
 {
     let tests = discriminants(alloc, comparing)?;
-    expr(alloc, out, &tests)
+    expr(&tests, alloc, out)
 }
 
 /// Adds the tests of the discriminants, where they are wanted, and what joins them to the match.
@@ -88,8 +87,7 @@ fn compared<'a>(
     input: &DeriveInput<'a>,
     cases: &[CaseRef<'_, 'a>],
 ) -> Result<(), AllocError>
-    requires { IsCasesOf input.now cases.now }
-    ensures { OnOk result (out.new ≡ lay out.old (printed.compared_trees comparing (declaration_view input.now))) }
+    ensures { OnOk result (out.new ≡ lay out.old (printed.compared_trees comparing (declaration_view input.now) (map case_view cases.now))) }
 {
     discriminants_part(alloc, out, comparing, needs_discriminants(input, cases))?;
     matching(alloc, out, comparing, input, cases)
@@ -102,14 +100,13 @@ fn body<'a>(
     input: &DeriveInput<'a>,
     cases: &[CaseRef<'_, 'a>],
 ) -> Result<(), AllocError>
-    requires { IsCasesOf input.now cases.now }
-    ensures { OnOk result (out.new ≡ lay out.old (tokens.expr_trees (spec.body_expr comparing (declaration_view input.now)))) }
+    ensures { OnOk result (out.new ≡ lay out.old (tokens.expr_trees (spec.body_expr comparing (declaration_view input.now) (map case_view cases.now)))) }
 {
     if some_compared(cases) {
         return compared(alloc, out, comparing, input, cases);
     }
     let small = body_expr(alloc, comparing, input, cases)?;
-    expr(alloc, out, &small)
+    expr(&small, alloc, out)
 }
 
 /// Adds what stands in front of a method's body.
@@ -121,7 +118,7 @@ fn method_head(alloc: Global, out: &mut Layout, comparing: Comparing) -> Result<
         last: None,
     };
     let bodiless = method_with(alloc, comparing, empty)?;
-    signature(alloc, out, &bodiless)
+    signature(&bodiless, alloc, out)
 }
 
 fn method<'a>(
@@ -131,8 +128,7 @@ fn method<'a>(
     input: &DeriveInput<'a>,
     cases: &[CaseRef<'_, 'a>],
 ) -> Result<(), AllocError>
-    requires { IsCasesOf input.now cases.now }
-    ensures { OnOk result (out.new ≡ lay out.old (tokens.method_trees (spec.method comparing (declaration_view input.now)))) }
+    ensures { OnOk result (out.new ≡ lay out.old (tokens.method_trees (spec.method comparing (declaration_view input.now) (map case_view cases.now)))) }
 {
     method_head(alloc, out, comparing)?;
     open(out, Delim::Brace)?;
@@ -146,8 +142,7 @@ fn methods<'a>(
     input: &DeriveInput<'a>,
     cases: &[CaseRef<'_, 'a>],
 ) -> Result<(), AllocError>
-    requires { IsCasesOf input.now cases.now }
-    ensures { OnOk result (out.new ≡ lay out.old (tokens.in_turn (map tokens.method_trees (spec.methods (declaration_view input.now))))) }
+    ensures { OnOk result (out.new ≡ lay out.old (tokens.in_turn (map tokens.method_trees (spec.methods (declaration_view input.now) (map case_view cases.now))))) }
 {
     method(alloc, out, Comparing::Equal, input, cases)?;
     if some_compared(cases) {
@@ -157,11 +152,16 @@ fn methods<'a>(
 }
 
 /// Adds what stands in front of the implementation's methods.
-fn item_head(alloc: Global, out: &mut Layout, input: &DeriveInput<'_>) -> Result<(), AllocError>
-    ensures { OnOk result (out.new ≡ lay out.old (tokens.head_trees (spec.with_methods (declaration_view input.now) []))) }
+fn item_head<'a>(
+    alloc: Global,
+    out: &mut Layout,
+    input: &DeriveInput<'a>,
+    cases: &[CaseRef<'_, 'a>],
+) -> Result<(), AllocError>
+    ensures { OnOk result (out.new ≡ lay out.old (tokens.head_trees (spec.with_methods (declaration_view input.now) (map case_view cases.now) []))) }
 {
-    let empty = with_methods(alloc, input, Seq::new(alloc))?;
-    head(alloc, out, &empty)
+    let empty = with_methods(alloc, input, cases, Seq::new(alloc))?;
+    head(&empty, alloc, out)
 }
 
 fn item<'a>(
@@ -170,22 +170,24 @@ fn item<'a>(
     input: &DeriveInput<'a>,
     cases: &[CaseRef<'_, 'a>],
 ) -> Result<(), AllocError>
-    requires { IsCasesOf input.now cases.now }
-    ensures { OnOk result (out.new ≡ lay out.old (tokens.item_trees (spec.item (declaration_view input.now)))) }
+    ensures { OnOk result (out.new ≡ lay out.old (tokens.item_trees (spec.item_for (declaration_view input.now) (map case_view cases.now)))) }
 {
-    item_head(alloc, out, input)?;
+    item_head(alloc, out, input, cases)?;
     open(out, Delim::Brace)?;
     methods(alloc, out, input, cases)?;
     close(out, Delim::Brace)
 }
 
 /// The text of the implementation.
-pub(crate) fn printed_item<'a>(alloc: Global, input: &DeriveInput<'a>) -> Result<String, AllocError>
-    ensures { IfOk result (λ s. string_bytes s ≡ tokens.printed (spec.item (declaration_view input.now) ∷ [])) }
+pub(crate) fn printed_item<'a>(
+    alloc: Global,
+    input: &DeriveInput<'a>,
+    cases: &[CaseRef<'_, 'a>],
+) -> Result<String, AllocError>
+    ensures { IfOk result (λ s. string_bytes s ≡ tokens.printed (spec.item_for (declaration_view input.now) (map case_view cases.now) ∷ [])) }
 {
-    let cases = cases_of(alloc, input)?;
     let mut out = Layout::new(alloc);
-    item(alloc, &mut out, input, cases.as_slice())?;
+    item(alloc, &mut out, input, cases)?;
     out.line_end()?;
     Ok(out.into_string())
 }

@@ -19,8 +19,8 @@ use Rattle.dm_ast.specs.Spelling.{Marks, first_too_deep}
 use Rattle.dm_ast.specs.Parsed.{SpelledBy, IsTheDeclaration, IsUnread, IsRefusal}
 use Rattle.dm_ast.specs.Names.{names_refusal, IsNamesError}
 use Rattle.dm_names.proofs.NameRefusals.{refused_not_named}
-use Rattle.dm_print.specs.declared.expansion.Expansion.{Expansion}
-use Rattle.dm_output.specs.Output.{item_view}
+use Rattle.dm_expansion.specs.declared.expansion.Expansion.{Expansion}
+use Rattle.dm_output.specs.Views.{item_view}
 use Rattle.dm_cmp_ops.specs.Checks.{refusal, IsValid}
 use Rattle.dm_cmp_ops.specs.Expanded.{IsAnswer, IsPrinted, IsReadable, IsText}
 use Rattle.dm_cmp_ops.proofs.CheckLaws.{unrefused}

@@ -12,8 +12,9 @@ use Rattle.dm_ast.specs.Declarations.{Declaration, declaration_view}
 use Rattle.dm_ast.specs.Spelling.{Marks, first_too_deep}
 use Rattle.dm_ast.specs.Parsed.{SpelledBy, IsTheDeclaration, IsUnread}
 use Rattle.dm_ast.specs.Names.{Named, names_refusal}
-use Rattle.dm_print.specs.declared.expansion.Expansion.{Expansion}
-use Rattle.dm_output.specs.Output.{ItemTree, item_view}
+use Rattle.dm_expansion.specs.declared.expansion.Expansion.{Expansion}
+use Rattle.dm_output.specs.Output.{ItemTree}
+use Rattle.dm_output.specs.Views.{item_view}
 use Rattle.dm_cmp_ops.specs.Checks.{refusal, IsValid}
 use Rattle.dm_cmp_ops.specs.Expanded.{IsExpanded, IsText}
 

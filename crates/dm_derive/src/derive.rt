@@ -8,9 +8,9 @@ ghost use Rattle.dm_derive.specs.Derived.{Answers, Derives, IsDerivable, IsKnown
 
 use dm_ast::DeriveInput;
 use dm_cmp_ops::partial_eq;
+use dm_expansion::Expansion;
 use dm_lexer::lex;
 use dm_names::check_names_in;
-use dm_print::Expansion;
 use dm_read_decl::parse_decl;
 use dm_stream::{Error, Kind, Refusal, Span};
 use std::alloc::Global;

@@ -1,5 +1,5 @@
 use dm_derive::derive_text;
-use dm_emit::{CloneIn, print_items};
+use dm_emit::{CloneEmitted, print_items};
 use dm_tokens::{Error, Kind};
 use std::alloc::{AllocError, Global};
 

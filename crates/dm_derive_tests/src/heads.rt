@@ -273,6 +273,22 @@ const PLACES: &[Row] = &[
         "< T > derive_more :: core :: cmp :: PartialEq for E < T > where T : derive_more :: core :: cmp :: PartialEq",
     ),
     (
+        "struct S<T, const N: usize>([T; N], [u8; N], Option<[T; 2]>);",
+        "< T , const N : usize > derive_more :: core :: cmp :: PartialEq for S < T , N > where [T ; N] : derive_more :: core :: cmp :: PartialEq , [u8 ; N] : derive_more :: core :: cmp :: PartialEq , Option < [T ; 2] > : derive_more :: core :: cmp :: PartialEq",
+    ),
+    (
+        "struct S<T: ?Sized> { len: usize, data: Box<T>, }",
+        "< T : ? Sized > derive_more :: core :: cmp :: PartialEq for S < T > where Box < T > : derive_more :: core :: cmp :: PartialEq",
+    ),
+    (
+        "enum E<'a, T: 'a> { A { r: &'a T }, B(Option<&'a [T]>), C }",
+        "< 'a , T : 'a > derive_more :: core :: cmp :: PartialEq for E < 'a , T > where & 'a T : derive_more :: core :: cmp :: PartialEq , Option < & 'a [T] > : derive_more :: core :: cmp :: PartialEq",
+    ),
+    (
+        "enum E<T> where T: A, { #[eq(skip)] A(Vec<T>), B(Box<Self>, [T; 2]) }",
+        "< T > derive_more :: core :: cmp :: PartialEq for E < T > where T : A , [T ; 2] : derive_more :: core :: cmp :: PartialEq",
+    ),
+    (
         "struct S { a: Vec<Self>, b: Box<S> }",
         "derive_more :: core :: cmp :: PartialEq for S",
     ),

@@ -1,9 +1,9 @@
 //! The output language and its text, gathered from the crates that have them.
 #![tactic(auto)]
 
-pub use dm_copy::CloneIn;
+pub use dm_expansion::{Expansion, print_items, with_text};
 pub use dm_output::{
-    Arm, ArmBody, Assoc, Binding, Block, Expr, Item, ItemAttr, Method, MethodParam, NamedPattern,
-    PathExpr, Pattern, Receiver, Stmt,
+    Arm, ArmBody, Assoc, Binding, Block, Expr, FmtArg, FmtArgs, Item, ItemAttr, Member, Method,
+    MethodParam, NamedExpr, NamedPattern, PathExpr, Pattern, Receiver, Stmt,
 };
-pub use dm_print::{Expansion, print_items, with_text};
+pub use dm_output_copy::CloneEmitted;

@@ -1,6 +1,5 @@
-pub mod NumeralLaws
 pub mod NameLaws
 pub mod BindingLaws
 pub mod ArmLaws
+pub mod PlaceLaws
 pub mod Builders
-pub mod Parameters

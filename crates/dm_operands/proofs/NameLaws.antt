@@ -1,17 +1,17 @@
 -- The names that emitted code binds differ, and paths and field names lead where they were written for.
-use Rattle.std.proofs.Common.{◌≡◌, ◌≢◌, ℕ, zero, suc, ◌+◌, ◌<◌, ◌^◌, List, [], ◌∷◌, Bool, true, false, cond, Option, Some, None, codes, slice_get, refl, sym, ap, ◌∙◌, arith}
+use Rattle.std.proofs.Common.{◌≡◌, ◌≢◌, ℕ, zero, suc, ◌+◌, List, [], ◌∷◌, Bool, true, false, cond, Option, Some, None, codes, slice_get, refl, sym, ap, ◌∙◌, arith}
 use Rattle.std.specs.Str.{bytes_eq}
 use Rattle.std.proofs.lemmas.Slice.Eq.{bytes_eq-Decides}
 use Rattle.dm_stream.specs.declared.tokens.Ident.{Ident}
 use Rattle.dm_ast.specs.Declarations.{Declaration, FieldTree, ShapeTree, struct_shape, enum_shape, union_shape}
 use Rattle.dm_ast.specs.Implementors.{plain_path}
 use Rattle.dm_output.specs.Values.{Text, Case, cases, cases_of_shape, is_enum, is_enum_shape}
-use Rattle.dm_output.specs.Run.{case_named, path_case, field_named, same_name}
-use Rattle.dm_operands.specs.Heads.{word}
+use Rattle.dm_output.specs.Fits.{case_named, path_case, field_named, same_name}
+use Rattle.dm_generics.specs.Words.{word}
 use Rattle.dm_operands.specs.Sides.{case_path, field_ident}
-use Rattle.dm_operands.specs.Numerals.{numeral}
+use Rattle.dm_generics.specs.Numerals.{numeral}
 use Rattle.dm_operands.specs.Numbered.{self_name, other_name}
-use Rattle.dm_operands.proofs.NumeralLaws.{numeral_injective}
+use Rattle.dm_generics.proofs.NumeralLaws.{numeral_injective}
 use Rattle.dm_operands.specs.Named.{AreDistinct, HasName, case_name, field_name, AreFieldsNamed, AreNamed}
 
 pub bytes_same : (xs : Text) → bytes_eq xs xs ≡ true
@@ -72,7 +72,7 @@ only-case d n c =
     ]
 
 -- the path of a variant leads to it
-pub path-found : (d : Declaration) (n : ℕ) (c : Case) → AreNamed d → slice_get (cases d) n ≡ Some c → path_case d (case_path d c) ≡ Some n
+pub path-found : (d : Declaration) (n : ℕ) (c : Case) → AreNamed d → slice_get (cases d) n ≡ Some c → path_case d (case_path d c.ident) ≡ Some n
 path-found d n c names at =
     (elim (is_enum d) as (λ e. is_enum d ≡ e →
     path_case d (cond e (plain_path (word (codes "Self") ∷ c.ident ∷ [])) (plain_path (word (codes "Self") ∷ []))) ≡ Some n) [

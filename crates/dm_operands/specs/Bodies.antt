@@ -4,7 +4,7 @@ use Rattle.dm_ast.specs.Tree.{no_self}
 use Rattle.dm_ast.specs.Implementors.{plain_path}
 use Rattle.dm_output.specs.Output.{wild, patterns_of, ExprTree, deref, path_expr, call, match_expr, no_exprs, no_expr, ArmTree, no_arms, expr_body}
 use Rattle.dm_output.specs.Values.{Text}
-use Rattle.dm_operands.specs.Heads.{word, words}
+use Rattle.dm_generics.specs.Words.{word, words}
 
 -- a name as an expression
 abbrev pub name : Text → ExprTree

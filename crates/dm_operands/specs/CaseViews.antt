@@ -1,28 +1,21 @@
--- The variants of a declaration as the program lends them, and which operand a name belongs to.
-use Rattle.std.specs.Prelude.{◌≡◌, ℕ, List, map}
-use Rattle.dm_ast.specs.Declarations.{FieldsTree, named, unnamed, unit, listed, field_view, declaration_view}
-use Rattle.dm_ast.specs.declared.decl.DeriveInput.{DeriveInput}
-use Rattle.dm_output.specs.Values.{Text, Case, cases}
-use Rattle.dm_operands.specs.declared.cases.FieldsRef.{FieldsRef}
-use Rattle.dm_operands.specs.declared.cases.FieldsRef.TheVariants as fields
+-- The cases of a declaration as the program lends them, and which operand a name belongs to.
+use Rattle.std.specs.Prelude.{ℕ, map}
+use Rattle.dm_ast.specs.Declarations.{field_view}
+use Rattle.dm_output.specs.Values.{Text}
+use Rattle.dm_operands.specs.declared.cases.FieldRef.{FieldRef}
 use Rattle.dm_operands.specs.declared.cases.CaseRef.{CaseRef}
 use Rattle.dm_operands.specs.declared.sides.Operand.{Operand}
 use Rattle.dm_operands.specs.declared.sides.Operand.TheVariants.{Mine, Theirs}
+use Rattle.dm_operands.specs.Marked.{MarkedField, MarkedCase}
 use Rattle.dm_operands.specs.Numbered.{self_name, other_name}
 
-abbrev pub fields_ref_view : FieldsRef → FieldsTree
-fields_ref_view (fields.Named fs) = named (listed field_view fs.now)
-fields_ref_view (fields.Unnamed fs) = unnamed (listed field_view fs.now)
-fields_ref_view fields.Unit = unit
+abbrev pub field_ref_view : FieldRef → MarkedField
+field_ref_view f = record { field = field_view f.field.now; left_out = f.left_out }
 
-abbrev pub case_view : CaseRef → Case
-case_view c = record { attrs = c.attrs.now; ident = c.ident.now; fields = fields_ref_view c.fields }
+abbrev pub case_view : CaseRef → MarkedCase
+case_view c = record { ident = c.ident.now; form = c.form; left_out = c.left_out; fields = map field_ref_view c.fields.items }
 
 -- the names of an operand's fields, by their numbers
 abbrev pub naming : Operand → ℕ → Text
 naming Mine n = self_name n
 naming Theirs n = other_name n
-
--- these are the variants of the declaration
-abbrev pub IsCasesOf : DeriveInput → List CaseRef → Type 0
-IsCasesOf d cs = map case_view cs ≡ cases (declaration_view d)

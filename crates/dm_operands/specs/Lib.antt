@@ -1,9 +1,8 @@
-pub mod Heads
 pub mod Bodies
+pub mod Marked
 pub mod Kept
 pub mod Sides
-pub mod Numerals
 pub mod Numbered
 pub mod CaseViews
+pub mod Places
 pub mod Named
-pub mod Parameters

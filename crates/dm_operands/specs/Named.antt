@@ -1,9 +1,9 @@
 -- Names that tell things apart: what holds of a declaration that the compiler accepts.
-use Rattle.std.specs.Prelude.{◌≡◌, ℕ, List, Option, Some, None, slice_get}
+use Rattle.std.specs.Prelude.{◌≡◌, ℕ, List, false, Option, Some, None, codes, slice_get}
 use Rattle.dm_stream.specs.declared.tokens.Ident.{Ident}
 use Rattle.dm_ast.specs.Declarations.{Declaration, FieldTree}
 use Rattle.dm_output.specs.Values.{Text, Case, cases}
-use Rattle.dm_output.specs.Run.{brace_fields}
+use Rattle.dm_output.specs.Fits.{names_type, brace_fields}
 use Rattle.dm_operands.specs.Sides.{field_ident}
 
 -- items of one name stand at one place
@@ -25,7 +25,8 @@ pub record AreFieldsNamed (fs : List FieldTree) : Type 0 where
   pub named : (i : ℕ) (f : FieldTree) → slice_get fs i ≡ Some f → HasName f.ident
   pub distinct : AreDistinct field_name fs
 
--- the variants differ by name, and so do the fields between the braces of each
+-- no path of the crate `derive_more` begins with the type; the variants differ by name, and so do the fields between the braces of each
 pub record AreNamed (d : Declaration) : Type 0 where
+  pub foreign : names_type d (codes "derive_more") ≡ false
   pub distinct : AreDistinct case_name (cases d)
   pub fields : (n : ℕ) (c : Case) (fs : List FieldTree) → slice_get (cases d) n ≡ Some c → brace_fields c.fields ≡ Some fs → AreFieldsNamed fs

@@ -2,11 +2,12 @@
 #![tactic(auto, using(crate::proofs::Builders::builder_steps))]
 
 ghost use Rattle.std.specs.Prelude.{◌≡◌, [], ◌∷◌, IfOk};
-ghost use Rattle.dm_output.specs.Output.{expr_view, arm_view, block_view, pattern_view, body_view, last_expr, some_expr, no_expr, block_body, patterns_of};
+ghost use Rattle.dm_output.specs.Output.{last_expr, some_expr, no_expr, block_body, patterns_of};
+ghost use Rattle.dm_output.specs.Views.{expr_view, arm_view, block_view, pattern_view, body_view};
 ghost use Rattle.dm_operands.specs.Bodies as spec;
 ghost use Rattle.dm_operands.specs.Sides as sides;
 
-use crate::names::one;
+use dm_generics::lists::one;
 use dm_output::{Arm, ArmBody, Block, Expr, Pattern};
 use dm_stream::Seq;
 use std::alloc::{AllocError, Global};

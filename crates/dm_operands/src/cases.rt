@@ -1,106 +1,37 @@
-//! The variants of a declaration, in one form for structs, enums and unions.
+//! The cases of a declaration, in one form for structs and enums, each with its fields and the truth whether it is left out.
 
-ghost use Rattle.std.specs.Prelude.{◌≡◌, [], ◌∷◌, map, IfOk};
-ghost use Rattle.dm_ast.specs.Declarations.{declaration_view, variant_view, fields_view, field_view};
+ghost use Rattle.std.specs.Prelude.{◌≡◌, map};
+ghost use Rattle.dm_ast.specs.Declarations.{declaration_view};
 ghost use Rattle.dm_output.specs.Values as values;
-ghost use Rattle.dm_attr.specs.Skips.{skips_field};
 ghost use Rattle.dm_operands.specs.Sides as sides;
 ghost use Rattle.dm_operands.specs.Kept as spec;
-ghost use Rattle.dm_operands.specs.CaseViews.{case_view, fields_ref_view};
+ghost use Rattle.dm_operands.specs.CaseViews.{case_view, field_ref_view};
 
-use dm_ast::{Attribute, Data, DeriveInput, Field, Fields, Variant};
-use dm_attr::skips::is_skipped;
-use dm_stream::{Ident, Punctuated};
-use std::alloc::{AllocError, Global};
+use dm_ast::{Data, DeriveInput, Field};
+use dm_stream::Ident;
 
-/// The fields of a variant.
-#[derive(Clone, Copy)]
-pub enum FieldsRef<'x, 'a> {
-    Named(&'x Punctuated<Field<'a>>),
-    Unnamed(&'x Punctuated<Field<'a>>),
+/// What stands around the fields of a case: braces, parentheses, or nothing.
+#[derive(Clone, Copy, Debug, PartialEq, Eq)]
+pub enum Form {
+    Named,
+    Unnamed,
     Unit,
 }
 
-/// A variant, or a struct or union as its only one.
+/// A field, and whether it is left out.
 #[derive(Clone, Copy)]
+pub struct FieldRef<'x, 'a> {
+    pub field: &'x Field<'a>,
+    pub left_out: bool,
+}
+
+/// A variant, or a struct as the only case. It has no fields where it is left out.
+#[derive(Drop)]
 pub struct CaseRef<'x, 'a> {
-    pub attrs: &'x [Attribute<'a>],
     pub ident: &'x Ident<'a>,
-    pub fields: FieldsRef<'x, 'a>,
-}
-
-fn fields_ref<'x, 'a>(fields: &'x Fields<'a>) -> FieldsRef<'x, 'a>
-    ensures { fields_ref_view result ≡ fields_view fields.now }
-{
-    match fields {
-        Fields::Named(all) => FieldsRef::Named(all),
-        Fields::Unnamed(all) => FieldsRef::Unnamed(all),
-        Fields::Unit => FieldsRef::Unit,
-    }
-}
-
-pub fn case_of_variant<'x, 'a>(variant: &'x Variant<'a>) -> CaseRef<'x, 'a>
-    ensures { case_view result ≡ values.case_of_variant (variant_view variant.now) }
-{
-    CaseRef {
-        attrs: variant.attrs.as_slice(),
-        ident: &variant.ident,
-        fields: fields_ref(&variant.fields),
-    }
-}
-
-/// A struct with these fields as its only variant.
-pub fn case_of_struct<'x, 'a>(input: &'x DeriveInput<'a>, fields: &'x Fields<'a>) -> CaseRef<'x, 'a>
-    ensures { case_view result ≡ record { attrs = input.now.attrs; ident = input.now.ident; fields = fields_view fields.now } }
-{
-    CaseRef {
-        attrs: input.attrs.as_slice(),
-        ident: &input.ident,
-        fields: fields_ref(fields),
-    }
-}
-
-fn cases_of_variants<'x, 'a>(
-    alloc: Global,
-    variants: &'x [Variant<'a>],
-) -> Result<Vec<CaseRef<'x, 'a>>, AllocError>
-    ensures { IfOk result (λ cs. map case_view cs.items ≡ map values.case_of_variant (map variant_view variants.now)) }
-{
-    let mut out = Vec::with_capacity(alloc, variants.len())?;
-    for variant in variants {
-        out.push(case_of_variant(variant))?;
-    }
-    Ok(out)
-}
-
-fn only_case<'x, 'a>(
-    alloc: Global,
-    input: &'x DeriveInput<'a>,
-    fields: FieldsRef<'x, 'a>,
-) -> Result<Vec<CaseRef<'x, 'a>>, AllocError>
-    ensures { IfOk result (λ cs. map case_view cs.items ≡ record { attrs = input.now.attrs; ident = input.now.ident; fields = fields_ref_view fields.entry } ∷ []) }
-{
-    let mut out = Vec::new(alloc);
-    out.push(CaseRef {
-        attrs: input.attrs.as_slice(),
-        ident: &input.ident,
-        fields,
-    })?;
-    Ok(out)
-}
-
-/// The variants of an enum; a struct or a union as one.
-pub fn cases_of<'x, 'a>(
-    alloc: Global,
-    input: &'x DeriveInput<'a>,
-) -> Result<Vec<CaseRef<'x, 'a>>, AllocError>
-    ensures { IfOk result (λ cs. map case_view cs.items ≡ values.cases (declaration_view input.now)) }
-{
-    match &input.shape {
-        Data::Struct(shape) => only_case(alloc, input, fields_ref(&shape.fields)),
-        Data::Enum(shape) => cases_of_variants(alloc, shape.variants.items.as_slice()),
-        Data::Union(_) => only_case(alloc, input, FieldsRef::Unit),
-    }
+    pub form: Form,
+    pub left_out: bool,
+    pub fields: Vec<FieldRef<'x, 'a>>,
 }
 
 pub fn is_enum(input: &DeriveInput<'_>) -> bool
@@ -113,43 +44,33 @@ pub fn is_enum(input: &DeriveInput<'_>) -> bool
     }
 }
 
-fn keeps_some(fields: &[Field<'_>]) -> bool
-    ensures { result ≡ spec.keeps_some (map field_view fields.now) }
+fn keeps_some(fields: &[FieldRef<'_, '_>]) -> bool
+    ensures { result ≡ spec.keeps_some (map field_ref_view fields.now) }
 {
     for field in fields {
-        if !is_skipped(field.attrs.as_slice()) {
+        if !field.left_out {
             return true;
         }
     }
     false
 }
 
-fn keeps_some_in(fields: FieldsRef<'_, '_>) -> bool
-    ensures { result ≡ spec.keeps_some (values.field_list (fields_ref_view fields.entry)) }
-{
-    match fields {
-        FieldsRef::Named(all) => keeps_some(all.items.as_slice()),
-        FieldsRef::Unnamed(all) => keeps_some(all.items.as_slice()),
-        FieldsRef::Unit => false,
-    }
-}
-
-pub fn some_skipped_field(fields: &[Field<'_>]) -> bool
-    ensures { result ≡ sides.some_left_out skips_field (map field_view fields.now) }
+pub fn some_left_out(fields: &[FieldRef<'_, '_>]) -> bool
+    ensures { result ≡ sides.some_left_out (map field_ref_view fields.now) }
 {
     for field in fields {
-        if is_skipped(field.attrs.as_slice()) {
+        if field.left_out {
             return true;
         }
     }
     false
 }
 
-/// Whether a variant has an arm.
+/// Whether a case has an arm.
 pub fn is_compared(case: &CaseRef<'_, '_>) -> bool
     ensures { result ≡ spec.is_compared (case_view case.now) }
 {
-    !is_skipped(case.attrs) && keeps_some_in(case.fields)
+    !case.left_out && keeps_some(case.fields.as_slice())
 }
 
 pub fn some_compared(cases: &[CaseRef<'_, '_>]) -> bool
@@ -174,11 +95,11 @@ pub fn all_compared(cases: &[CaseRef<'_, '_>]) -> bool
     true
 }
 
-pub fn some_skipped_case(cases: &[CaseRef<'_, '_>]) -> bool
-    ensures { result ≡ spec.some_skipped_case (map case_view cases.now) }
+pub fn some_case_left_out(cases: &[CaseRef<'_, '_>]) -> bool
+    ensures { result ≡ spec.some_case_left_out (map case_view cases.now) }
 {
     for case in cases {
-        if is_skipped(case.attrs) {
+        if case.left_out {
             return true;
         }
     }

@@ -3,13 +3,16 @@
 
 ghost use Rattle.std.specs.Prelude.{◌≡◌, map, codes, IfOk};
 ghost use Rattle.dm_ast.specs.Tree.{path_view, no_self};
-ghost use Rattle.dm_output.specs.Output.{expr_view, deref, call, tuple, expr_then, no_exprs, exprs_of, unsafe_expr};
+ghost use Rattle.dm_output.specs.Output.{deref, call, tuple, expr_then, no_exprs, exprs_of, unsafe_expr};
+ghost use Rattle.dm_output.specs.Views.{expr_view};
 ghost use Rattle.dm_operands.specs.Bodies as spec;
 ghost use Rattle.dm_operands.specs.CaseViews.{naming};
 
-use crate::names::{boxed, name, path_of, two, word};
+use crate::names::{boxed, name};
 use crate::sides::{Operand, numbered};
 use dm_ast::Path;
+use dm_generics::lists::two;
+use dm_generics::names::{path_of, word};
 use dm_output::{Expr, PathExpr};
 use dm_stream::Seq;
 use std::alloc::{AllocError, Global};

@@ -1,68 +1,14 @@
-//! Types of names, and the parameter `__other`.
+//! The parameter `__other`.
 #![tactic(auto, using(crate::proofs::Builders::builder_steps))]
 
-ghost use Rattle.std.specs.Prelude.{◌≡◌, codes, None, false, IfOk};
-ghost use Rattle.dm_ast.specs.Tree.{ty_view, path_view, type_tree, path as tree_path, reference, no_self};
-ghost use Rattle.dm_ast.specs.Declarations.{declaration_view};
-ghost use Rattle.dm_output.specs.Output.{method_param_view};
-ghost use Rattle.dm_stream.specs.Layout.{nowhere};
-ghost use Rattle.dm_ast.specs.Implementors as implementors;
-ghost use Rattle.dm_operands.specs.Heads as spec;
+ghost use Rattle.std.specs.Prelude.{◌≡◌, codes, IfOk};
+ghost use Rattle.dm_output.specs.Views.{method_param_view};
+ghost use Rattle.dm_generics.specs.Words as spec;
 
-use crate::names::{path_of_one, word};
-use dm_ast::{DeriveInput, Path, Ty, TyNode};
+use dm_generics::names::word;
+use dm_generics::types::ref_self;
 use dm_output::MethodParam;
-use dm_stream::{Ident, Span};
 use std::alloc::{AllocError, Global};
-
-#[tactic(auto, using(crate::proofs::Builders::type_steps))]
-pub fn plain_type(path: Path<'_>) -> Ty<'_>
-    ensures { ty_view result ≡ type_tree (tree_path no_self (path_view path.entry)) nowhere }
-{
-    Ty {
-        node: TyNode::Path(None, path),
-        span: Span::nowhere(),
-    }
-}
-
-pub fn name_type(alloc: Global, ident: Ident<'_>) -> Result<Ty<'_>, AllocError>
-    ensures { IfOk result (λ t. ty_view t ≡ implementors.name_type ident.entry) }
-{
-    let path = path_of_one(alloc, ident)?;
-    Ok(plain_type(path))
-}
-
-/// The type of that name.
-pub fn word_type<'a>(alloc: Global, name: &'a str) -> Result<Ty<'a>, AllocError>
-    ensures { IfOk result (λ t. ty_view t ≡ implementors.name_type (spec.word name.now)) }
-{
-    name_type(alloc, word(name))
-}
-
-#[tactic(auto, using(crate::proofs::Builders::type_steps))]
-fn reference_to<'a>(target: Box<Ty<'a>>) -> Ty<'a>
-    ensures { ty_view result ≡ type_tree (reference None false (ty_view target.entry.value)) nowhere }
-{
-    Ty {
-        node: TyNode::Reference(None, false, target),
-        span: Span::nowhere(),
-    }
-}
-
-fn self_type<'a>(alloc: Global) -> Result<Box<Ty<'a>>, AllocError>
-    ensures { IfOk result (λ t. ty_view t.value ≡ spec.self_type) }
-{
-    let this = word_type(alloc, "Self")?;
-    Ok(Box::new(alloc, this)?)
-}
-
-/// `&Self`.
-fn ref_self<'a>(alloc: Global) -> Result<Ty<'a>, AllocError>
-    ensures { IfOk result (λ t. ty_view t ≡ spec.ref_self) }
-{
-    let target = self_type(alloc)?;
-    Ok(reference_to(target))
-}
 
 /// `__other: &Self`.
 pub fn other_param<'a>(alloc: Global) -> Result<MethodParam<'a>, AllocError>

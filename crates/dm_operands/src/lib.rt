@@ -1,10 +1,10 @@
-//! The operands of emitted methods: the variants of a declaration, the patterns that bind their fields, and what a head takes over.
+//! The operands of emitted methods: the variants of a declaration, and the patterns that bind their fields.
 #![tactic(auto)]
 
 pub mod arms;
 pub mod cases;
 pub mod exprs;
-pub mod generics;
 pub mod heads;
 pub mod names;
+pub mod places;
 pub mod sides;

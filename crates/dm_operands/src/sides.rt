@@ -1,20 +1,20 @@
-//! The patterns by which a variant's fields are bound, for each operand.
+//! The patterns by which a case's fields are bound, for each operand.
 #![tactic(auto, using(crate::proofs::Builders::builder_steps))]
 
 ghost use Rattle.std.specs.Prelude.{◌≡◌, map, IfOk, IfSome, string_bytes};
 ghost use Rattle.dm_ast.specs.Tree.{path_view};
-ghost use Rattle.dm_ast.specs.Declarations.{declaration_view, field_view};
-ghost use Rattle.dm_output.specs.Output.{pattern_view, named_view, bind};
+ghost use Rattle.dm_ast.specs.Declarations.{declaration_view};
+ghost use Rattle.dm_output.specs.Output.{bind};
+ghost use Rattle.dm_output.specs.Views.{pattern_view, named_view};
 ghost use Rattle.dm_output.specs.declared.pattern.Binding.TheVariants.{Plain};
-ghost use Rattle.dm_operands.specs.Heads as heads;
+ghost use Rattle.dm_generics.specs.Words as heads;
 ghost use Rattle.dm_operands.specs.Sides as spec;
-ghost use Rattle.dm_operands.specs.Numbered.{self_name, other_name, binds};
-ghost use Rattle.dm_operands.specs.CaseViews.{case_view, fields_ref_view, naming};
+ghost use Rattle.dm_operands.specs.Numbered.{self_name, other_name};
+ghost use Rattle.dm_operands.specs.CaseViews.{case_view, field_ref_view, naming};
 
-use crate::cases::{CaseRef, FieldsRef, is_enum, some_skipped_field};
-use crate::names::{emitted, path_of_one, path_of_two, word};
+use crate::cases::{CaseRef, FieldRef, Form, is_enum, some_left_out};
 use dm_ast::{DeriveInput, Field, Path};
-use dm_attr::skips::is_skipped;
+use dm_generics::names::{emitted, path_of_one, path_of_two, word};
 use dm_output::{Binding, NamedPattern, Pattern};
 use dm_stream::{Ident, Seq, Text};
 use std::alloc::{AllocError, Global};
@@ -111,14 +111,13 @@ fn binding<'a>(
 fn bindings<'a>(
     alloc: Global,
     operand: Operand,
-    fields: &[Field<'_>],
+    fields: &[FieldRef<'_, '_>],
 ) -> Result<Seq<Pattern<'a>>, AllocError>
-    ensures { IfOk result (λ ps. map pattern_view ps ≡ spec.bindings (binds (naming operand)) 0 (map field_view fields.now)) }
+    ensures { IfOk result (λ ps. map pattern_view ps ≡ spec.bindings (naming operand) 0 (map field_ref_view fields.now)) }
 {
     let mut out = Seq::with_capacity(alloc, fields.len())?;
     for (i, field) in fields.iter().enumerate() {
-        let skip = is_skipped(field.attrs.as_slice());
-        let pattern = binding(alloc, operand, i, skip)?;
+        let pattern = binding(alloc, operand, i, field.left_out)?;
         out.add(pattern)?;
     }
     Ok(out)
@@ -150,14 +149,14 @@ fn named_binding<'a>(
 fn named_bindings<'a>(
     alloc: Global,
     operand: Operand,
-    fields: &[Field<'a>],
+    fields: &[FieldRef<'_, 'a>],
 ) -> Result<Seq<NamedPattern<'a>>, AllocError>
-    ensures { IfOk result (λ ps. map named_view ps ≡ spec.named_bindings (binds (naming operand)) 0 (map field_view fields.now)) }
+    ensures { IfOk result (λ ps. map named_view ps ≡ spec.named_bindings (naming operand) 0 (map field_ref_view fields.now)) }
 {
     let mut out = Seq::with_capacity(alloc, fields.len())?;
     for (i, field) in fields.iter().enumerate() {
-        if !is_skipped(field.attrs.as_slice()) {
-            let pattern = named_binding(alloc, operand, i, field)?;
+        if !field.left_out {
+            let pattern = named_binding(alloc, operand, i, field.field)?;
             out.add(pattern)?;
         }
     }
@@ -168,48 +167,45 @@ fn named_bindings<'a>(
 fn case_path<'a>(
     alloc: Global,
     input: &DeriveInput<'a>,
-    case: &CaseRef<'_, 'a>,
+    ident: &Ident<'a>,
 ) -> Result<Path<'a>, AllocError>
-    ensures { IfOk result (λ p. path_view p ≡ spec.case_path (declaration_view input.now) (case_view case.now)) }
+    ensures { IfOk result (λ p. path_view p ≡ spec.case_path (declaration_view input.now) ident.now) }
 {
     if is_enum(input) {
-        return path_of_two(alloc, word("Self"), case.ident.clone_in(alloc)?);
+        return path_of_two(alloc, word("Self"), ident.clone_in(alloc)?);
     }
     path_of_one(alloc, word("Self"))
 }
 
-fn side_of_fields<'a>(
+fn side_pattern<'a>(
     alloc: Global,
     operand: Operand,
     path: Path<'a>,
-    fields: FieldsRef<'_, 'a>,
+    case: &CaseRef<'_, 'a>,
 ) -> Result<Pattern<'a>, AllocError>
-    ensures { IfOk result (λ p. pattern_view p ≡ spec.side (binds (naming operand)) (path_view path.entry) (fields_ref_view fields.entry)) }
+    ensures { IfOk result (λ p. pattern_view p ≡ spec.side_pattern (naming operand) (path_view path.entry) (case_view case.now).form (case_view case.now).fields) }
 {
-    match fields {
-        FieldsRef::Named(all) => {
-            let items = all.items.as_slice();
-            let rest = some_skipped_field(items);
-            Ok(Pattern::Named(path, named_bindings(alloc, operand, items)?, rest))
+    let fields = case.fields.as_slice();
+    match case.form {
+        Form::Named => {
+            let rest = some_left_out(fields);
+            Ok(Pattern::Named(path, named_bindings(alloc, operand, fields)?, rest))
         }
-        FieldsRef::Unnamed(all) => Ok(Pattern::Tuple(
-            path,
-            bindings(alloc, operand, all.items.as_slice())?,
-        )),
-        FieldsRef::Unit => Ok(Pattern::Tuple(path, Seq::new(alloc))),
+        Form::Unnamed => Ok(Pattern::Tuple(path, bindings(alloc, operand, fields)?)),
+        Form::Unit => Ok(Pattern::Path(path)),
     }
 }
 
-/// The pattern of an operand that is of this variant.
+/// The pattern of an operand that is of this case.
 pub fn side<'a>(
     alloc: Global,
     operand: Operand,
     input: &DeriveInput<'a>,
     case: &CaseRef<'_, 'a>,
 ) -> Result<Box<Pattern<'a>>, AllocError>
-    ensures { IfOk result (λ p. pattern_view p.value ≡ spec.side (binds (naming operand)) (spec.case_path (declaration_view input.now) (case_view case.now)) (case_view case.now).fields) }
+    ensures { IfOk result (λ p. pattern_view p.value ≡ spec.side (naming operand) (declaration_view input.now) (case_view case.now)) }
 {
-    let path = case_path(alloc, input, case)?;
-    let pattern = side_of_fields(alloc, operand, path, case.fields)?;
+    let path = case_path(alloc, input, case.ident)?;
+    let pattern = side_pattern(alloc, operand, path, case)?;
     Ok(Box::new(alloc, pattern)?)
 }

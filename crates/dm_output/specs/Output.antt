@@ -1,33 +1,34 @@
--- The output language, as plain data: trees of the program without what their memory adds.
-use Rattle.std.specs.Prelude.{List, [], ◌∷◌, map, Bool, Option, Some, None, option_map}
+-- The output language, as plain data: trees of the program without what their memory adds. Parts that are not read are the trees of
+-- their tokens.
+use Rattle.std.specs.Prelude.{List, [], ◌∷◌, Bool, Option, Some, None}
 use Rattle.std.specs.declared.boxed.Box.{Box}
 use Rattle.std.specs.declared.alloc.Global.{Global}
 use Rattle.dm_stream.specs.declared.tokens.Ident.{Ident}
-use Rattle.dm_ast.specs.Tree.{TypeTree, PathTree, MaybeSelf, ty_view, path_view, maybe_self_view}
-use Rattle.dm_ast.specs.Declarations.{ParamTree, PredicateTree, param_view, predicate_view}
+use Rattle.dm_stream.specs.declared.tokens.Literal.{Literal}
+use Rattle.dm_stream.specs.Trees.{Trees}
+use Rattle.dm_ast.specs.Tree.{TypeTree, PathTree, MaybeSelf}
+use Rattle.dm_ast.specs.Declarations.{ParamTree, PredicateTree}
 use Rattle.dm_output.specs.declared.pattern.Binding.{Binding}
-use Rattle.dm_output.specs.declared.pattern.Pattern.{Pattern}
-use Rattle.dm_output.specs.declared.pattern.NamedPattern.{NamedPattern}
-use Rattle.dm_output.specs.declared.pattern.Pattern.TheOpen.{Pattern-F, NamedPattern-F}
-use Rattle.dm_output.specs.declared.pattern.Pattern.TheFolds.{fold-Pattern, fold-NamedPattern}
-use Rattle.dm_output.specs.declared.expr.Expr.{Expr}
-use Rattle.dm_output.specs.declared.expr.Block.{Block}
-use Rattle.dm_output.specs.declared.expr.Stmt.{Stmt}
-use Rattle.dm_output.specs.declared.expr.Arm.{Arm}
-use Rattle.dm_output.specs.declared.expr.ArmBody.{ArmBody}
-use Rattle.dm_output.specs.declared.expr.ArmBody.TheOpen.{Expr-F, Block-F, Stmt-F, Arm-F, ArmBody-F}
-use Rattle.dm_output.specs.declared.expr.ArmBody.TheFolds.{fold-Expr, fold-Block, fold-Stmt, fold-Arm, fold-ArmBody}
+use Rattle.dm_output.specs.declared.expr.Member.{Member}
 use Rattle.dm_output.specs.declared.item.ItemAttr.{ItemAttr}
 use Rattle.dm_output.specs.declared.item.Receiver.{Receiver}
-use Rattle.dm_output.specs.declared.item.Assoc.{Assoc}
-use Rattle.dm_output.specs.declared.item.MethodParam.{MethodParam}
-use Rattle.dm_output.specs.declared.item.Method.{Method}
-use Rattle.dm_output.specs.declared.item.Item.{Item}
+
+-- an argument of a format: its name, where it has one, and its tokens
+pub record FmtArgTree : Type 0 where
+  pub alias : Option Ident
+  pub value : Trees
+
+-- a format and its arguments
+pub record FmtTree : Type 0 where
+  pub lit : Literal
+  pub args : List FmtArgTree
 
 mutual
   pub data PatternTree : Type 0 where
     wild : PatternTree
     bind : Binding → Ident → PatternTree
+    str_pattern : Literal → PatternTree
+    path_pattern : PathTree → PatternTree
     tuple_pattern : PathTree → PatternTrees → PatternTree
     named_pattern : PathTree → NamedPatterns → Bool → PatternTree
     pair_pattern : PatternTree → PatternTree → PatternTree
@@ -42,21 +43,40 @@ mutual
 
 mutual
   pub data ExprTree : Type 0 where
+    return_expr : ExprTree → ExprTree
     or_expr : ExprTrees → ExprTree
     and_expr : ExprTrees → ExprTree
     equal : ExprTree → ExprTree → ExprTree
     unequal : ExprTree → ExprTree → ExprTree
+    ref_opaque : Trees → ExprTree
+    ref_expr : Bool → ExprTree → ExprTree
     deref : ExprTree → ExprTree
+    member : ExprTree → Member → ExprTree
+    method_call : ExprTree → Ident → ExprTrees → ExprTree
+    map_expr : ExprTree → ExprTree → ExprTree
+    map_err : ExprTree → Trees → ExprTree
+    question : ExprTree → ExprTree
     path_expr : MaybeSelf → PathTree → ExprTree
     call : MaybeSelf → PathTree → ExprTrees → ExprTree
+    build : MaybeSelf → PathTree → ExprTrees → ExprTree
+    build_named : MaybeSelf → PathTree → NamedExprs → ExprTree
+    paren : ExprTree → ExprTree
     tuple : ExprTrees → ExprTree
+    opaque_call : Trees → ExprTree → ExprTree
+    str_expr : Literal → ExprTree
     bool : Bool → ExprTree
     match_expr : ExprTree → ArmTrees → ExprTree
     unsafe_expr : ExprTree → ExprTree
+    write_expr : Ident → FmtTree → ExprTree
+    format_args : FmtTree → ExprTree
 
   pub data ExprTrees : Type 0 where
     no_exprs : ExprTrees
     expr_then : ExprTree → ExprTrees → ExprTrees
+
+  pub data NamedExprs : Type 0 where
+    no_named_exprs : NamedExprs
+    named_expr_then : Ident → ExprTree → NamedExprs → NamedExprs
 
   pub data MaybeExpr : Type 0 where
     no_expr : MaybeExpr
@@ -71,11 +91,20 @@ mutual
     block_body : BlockTree → ArmBodyTree
     expr_body : ExprTree → ArmBodyTree
 
+  pub data StmtTree : Type 0 where
+    let_stmt : Ident → ExprTree → StmtTree
+    check_stmt : TypeTree → StmtTree
+    import_stmt : PathTree → StmtTree
+    do_stmt : ExprTree → StmtTree
+    const_stmt : Ident → TypeTree → Option Trees → Literal → StmtTree
+
+  pub data StmtTrees : Type 0 where
+    no_stmts : StmtTrees
+    stmt_then : StmtTree → StmtTrees → StmtTrees
+
   -- statements, and a last expression
   pub data BlockTree : Type 0 where
-    last_expr : MaybeExpr → BlockTree
-    let_then : Ident → ExprTree → BlockTree → BlockTree
-    do_then : ExprTree → BlockTree → BlockTree
+    block : StmtTrees → MaybeExpr → BlockTree
 
 pub record ArmTree : Type 0 where
   pub patterns : PatternTrees
@@ -122,6 +151,10 @@ abbrev pub exprs_of : List ExprTree → ExprTrees
 exprs_of [] = no_exprs
 exprs_of (e ∷ es) = expr_then e (exprs_of es)
 
+abbrev pub named_exprs_of : List (Ident × ExprTree) → NamedExprs
+named_exprs_of [] = no_named_exprs
+named_exprs_of (e ∷ es) = named_expr_then e.0 e.1 (named_exprs_of es)
+
 abbrev pub maybe_expr : Option ExprTree → MaybeExpr
 maybe_expr None = no_expr
 maybe_expr (Some e) = some_expr e
@@ -134,98 +167,10 @@ abbrev pub arms_of : List ArmTree → ArmTrees
 arms_of [] = no_arms
 arms_of (a ∷ as') = arm_then a.patterns a.guard a.body (arms_of as')
 
-abbrev pub statements : List (BlockTree → BlockTree) → BlockTree → BlockTree
-statements [] b = b
-statements (s ∷ ss) b = s (statements ss b)
+abbrev pub stmts_of : List StmtTree → StmtTrees
+stmts_of [] = no_stmts
+stmts_of (s ∷ ss) = stmt_then s (stmts_of ss)
 
--- ---- one step of the view for each type. A `Box` gives its value alone.
-
-abbrev pub pattern_step : Pattern-F PatternTree (Ident × PatternTree) → PatternTree
-pattern_step Pattern-F.Wild = wild
-pattern_step (Pattern-F.Bind how name) = bind how name
-pattern_step (Pattern-F.Tuple p ps) = tuple_pattern (path_view p) (patterns_of ps)
-pattern_step (Pattern-F.Named p ps rest) = named_pattern (path_view p) (named_of ps) rest
-pattern_step (Pattern-F.Pair a b) = pair_pattern a.value b.value
-
-abbrev pub named_step : NamedPattern-F PatternTree (Ident × PatternTree) → Ident × PatternTree
-named_step p = (p.name, p.pattern)
-
-abbrev pub expr_step : Expr-F ArmBodyTree ExprTree (BlockTree → BlockTree) ArmTree BlockTree → ExprTree
-expr_step (Expr-F.Or es) = or_expr (exprs_of es)
-expr_step (Expr-F.And es) = and_expr (exprs_of es)
-expr_step (Expr-F.Equal a b) = equal a.value b.value
-expr_step (Expr-F.Unequal a b) = unequal a.value b.value
-expr_step (Expr-F.Deref a) = deref a.value
-expr_step (Expr-F.Path p) = path_expr (maybe_self_view p.qself) (path_view p.path)
-expr_step (Expr-F.Call p es) = call (maybe_self_view p.qself) (path_view p.path) (exprs_of es)
-expr_step (Expr-F.Tuple es) = tuple (exprs_of es)
-expr_step (Expr-F.Bool b) = bool b
-expr_step (Expr-F.Match a as') = match_expr a.value (arms_of as')
-expr_step (Expr-F.Unsafe a) = unsafe_expr a.value
-
-abbrev pub body_step : ArmBody-F ArmBodyTree ExprTree (BlockTree → BlockTree) ArmTree BlockTree → ArmBodyTree
-body_step (ArmBody-F.Block b) = block_body b
-body_step (ArmBody-F.«ArmBody::Expr» e) = expr_body e
-
-abbrev pub stmt_step : Stmt-F ArmBodyTree ExprTree (BlockTree → BlockTree) ArmTree BlockTree → BlockTree → BlockTree
-stmt_step (Stmt-F.Let name e) b = let_then name e b
-stmt_step (Stmt-F.«Stmt::Expr» e) b = do_then e b
-
-unfoldable pub pattern_view : Pattern → PatternTree
-pattern_view = fold-Pattern PatternTree (Ident × PatternTree) pattern_step named_step
-
-unfoldable pub named_view : NamedPattern → Ident × PatternTree
-named_view = fold-NamedPattern PatternTree (Ident × PatternTree) pattern_step named_step
-
-abbrev pub arm_step : Arm-F ArmBodyTree ExprTree (BlockTree → BlockTree) ArmTree BlockTree → ArmTree
-arm_step a = record { patterns = patterns_of (map pattern_view a.patterns); guard = maybe_expr a.guard; body = a.body }
-
-abbrev pub block_step : Block-F ArmBodyTree ExprTree (BlockTree → BlockTree) ArmTree BlockTree → BlockTree
-block_step b = statements b.stmts (last_expr (boxed_expr b.last))
-
--- ---- the views
-
-unfoldable pub expr_view : Expr → ExprTree
-expr_view = fold-Expr ArmBodyTree ExprTree (BlockTree → BlockTree) ArmTree BlockTree body_step expr_step stmt_step arm_step block_step
-
-unfoldable pub block_view : Block → BlockTree
-block_view = fold-Block ArmBodyTree ExprTree (BlockTree → BlockTree) ArmTree BlockTree body_step expr_step stmt_step arm_step block_step
-
-unfoldable pub arm_view : Arm → ArmTree
-arm_view = fold-Arm ArmBodyTree ExprTree (BlockTree → BlockTree) ArmTree BlockTree body_step expr_step stmt_step arm_step block_step
-
-unfoldable pub body_view : ArmBody → ArmBodyTree
-body_view = fold-ArmBody ArmBodyTree ExprTree (BlockTree → BlockTree) ArmTree BlockTree body_step expr_step stmt_step arm_step block_step
-
-unfoldable pub stmt_view : Stmt → BlockTree → BlockTree
-stmt_view = fold-Stmt ArmBodyTree ExprTree (BlockTree → BlockTree) ArmTree BlockTree body_step expr_step stmt_step arm_step block_step
-
-abbrev pub assoc_view : Assoc → AssocTree
-assoc_view a = record { name = a.name; ty = ty_view a.ty }
-
-abbrev pub method_param_view : MethodParam → ParamOfMethod
-method_param_view p = record { name = p.name; ty = ty_view p.ty }
-
-abbrev pub method_view : Method → MethodTree
-method_view m =
-    record {
-      attrs = m.attrs;
-      is_const = m.is_const;
-      name = m.name;
-      receiver = m.receiver;
-      param = option_map method_param_view m.param;
-      output = option_map ty_view m.output;
-      body = block_view m.body;
-    }
-
-abbrev pub item_view : Item → ItemTree
-item_view i =
-    record {
-      attrs = i.attrs;
-      params = map param_view i.params;
-      trait_path = option_map path_view i.trait_path;
-      ty = ty_view i.ty;
-      predicates = map predicate_view i.predicates;
-      assocs = map assoc_view i.assocs;
-      methods = map method_view i.methods;
-    }
+-- a block of an expression alone, or of nothing
+abbrev pub last_expr : MaybeExpr → BlockTree
+last_expr e = block no_stmts e

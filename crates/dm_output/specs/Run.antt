@@ -1,279 +1,185 @@
 -- What a method of an implementation gives. References, dereferences, parentheses and `unsafe` are transparent; a field of self or of the
--- right side is a place, a side and a number.
-use Rattle.std.specs.Prelude.{ℕ, suc, ◌+◌, List, [], ◌∷◌, length, Bool, true, false, not, cond, ◌&&◌, ◌||◌, eqb, Option, Some, None, codes, slice_get, option_and_then, option_map}
-use Rattle.std.specs.Str.{bytes_eq}
-use Rattle.dm_stream.specs.declared.tokens.Ident.{Ident}
-use Rattle.dm_ast.specs.Tree.{PathTree, path_tree, segment, SegmentTrees, no_segments, segment_then, absent, MaybeSelf, no_self, some_self}
-use Rattle.dm_ast.specs.Declarations.{Declaration, FieldTree, FieldsTree, named, unnamed, unit}
-use Rattle.dm_output.specs.Output.{PatternTree, wild, bind, tuple_pattern, named_pattern, pair_pattern, PatternTrees, no_patterns, pattern_then, NamedPatterns, no_named, named_then, ExprTree, or_expr, and_expr, equal, unequal, deref, path_expr, call, tuple, bool, match_expr, unsafe_expr, ExprTrees, no_exprs, expr_then, MaybeExpr, no_expr, some_expr, ArmTrees, no_arms, arm_then, ArmBodyTree, block_body, expr_body, BlockTree, last_expr, let_then, do_then, MethodTree, ParamOfMethod}
+-- right side is a place, which stands for that field.
+use Rattle.std.specs.Prelude.{ℕ, ℤ, List, [], ◌∷◌, Bool, true, false, cond, Option, Some, None, codes, option_map}
+use Rattle.dm_lexer.specs.Values.{str_value}
+use Rattle.dm_ast.specs.Declarations.{Declaration}
+use Rattle.dm_ast.specs.Tree.{TypeTree}
+use Rattle.dm_output.specs.Output.{ExprTree, return_expr, or_expr, and_expr, equal, unequal, ref_opaque, ref_expr, deref, member, method_call, map_expr, map_err, question, path_expr, call, build, build_named, paren, tuple, opaque_call, str_expr, bool, match_expr, unsafe_expr, write_expr, format_args, ExprTrees, no_exprs, expr_then, NamedExprs, no_named_exprs, named_expr_then, MaybeExpr, no_expr, some_expr, ArmTrees, no_arms, arm_then, ArmBodyTree, block_body, expr_body, StmtTree, let_stmt, check_stmt, import_stmt, do_stmt, const_stmt, StmtTrees, no_stmts, stmt_then, BlockTree, block, MethodTree, ParamOfMethod}
 use Rattle.dm_output.specs.declared.item.Receiver.{Receiver}
-use Rattle.dm_output.specs.Values.{Text, Value, Side, mine, theirs, Thing, truth, value, pair, place, discriminant, term, Case, cases, is_enum}
-
--- what the names are bound to, the last bound first
-abbrev pub Env : Type 0
-Env = List (Text × Thing)
-
-abbrev pub bound : Env → Text → Option Thing
-bound [] name = None
-bound (b ∷ rest) name = cond (bytes_eq name b.0) (Some b.1) (bound rest name)
-
--- the declaration, and the outcomes of the comparisons of fields
-pub record Setting : Type 0 where
-  pub decl : Declaration
-  pub outcomes : List Bool
-
--- ---- paths
-
--- the names of a path without `::` in front and without arguments
-abbrev pub segment_names : SegmentTrees → Option (List Text)
-segment_names no_segments = Some []
-segment_names (segment_then (segment i absent) ss) = option_map (λ names. i.name ∷ names) (segment_names ss)
-segment_names (segment_then (segment i _) ss) = None
-
-abbrev pub path_names : PathTree → Option (List Text)
-path_names (path_tree true ss) = None
-path_names (path_tree false ss) = segment_names ss
-
-abbrev pub expr_names : MaybeSelf → PathTree → Option (List Text)
-expr_names no_self p = path_names p
-expr_names (some_self t n) p = None
-
-abbrev pub case_named : List Case → ℕ → Text → Option ℕ
-case_named [] n name = None
-case_named (c ∷ cs) n name = cond (bytes_eq name c.ident.name) (Some n) (case_named cs (n + 1) name)
-
--- `Self`, or the name of the type
-abbrev pub names_type : Declaration → Text → Bool
-names_type d a = bytes_eq a (codes "Self") || bytes_eq a d.ident.name
-
--- the number of the struct, or of the variant, that these names are
-abbrev pub constructor : Declaration → List Text → Option ℕ
-constructor d [] = None
-constructor d (a ∷ []) = cond (names_type d a && not (is_enum d)) (Some 0) None
-constructor d (a ∷ b ∷ []) = cond (names_type d a && is_enum d) (case_named (cases d) 0 b) None
-constructor d (a ∷ b ∷ c ∷ more) = None
-
-abbrev pub path_case : Declaration → PathTree → Option ℕ
-path_case d p = option_and_then (constructor d) (path_names p)
-
-abbrev pub names_eq : List Text → List Text → Bool
-names_eq [] [] = true
-names_eq [] (b ∷ bs) = false
-names_eq (a ∷ as') [] = false
-names_eq (a ∷ as') (b ∷ bs) = bytes_eq a b && names_eq as' bs
-
--- ---- patterns
-
-abbrev pub as_value : Thing → Option (Side × Value)
-as_value (value s v) = Some (s, v)
-as_value (pair _ _) = None
-as_value (truth _) = None
-as_value (place _ _) = None
-as_value (discriminant _) = None
-as_value (term _) = None
-
-abbrev pub as_pair : Thing → Option (Thing × Thing)
-as_pair (pair x y) = Some (x, y)
-as_pair (value s v) = None
-as_pair (truth _) = None
-as_pair (place _ _) = None
-as_pair (discriminant _) = None
-as_pair (term _) = None
-
--- the side of a value of the variant n
-abbrev pub side_of : Option ℕ → Option (Side × Value) → Option Side
-side_of None v = None
-side_of (Some n) None = None
-side_of (Some n) (Some v) = cond (eqb n v.1.variant) (Some v.0) None
-
--- the declared fields of a variant, between parentheses or between braces
-abbrev pub paren_fields : FieldsTree → Option (List FieldTree)
-paren_fields (unnamed fs) = Some fs.items
-paren_fields (named fs) = None
-paren_fields unit = None
-
-abbrev pub brace_fields : FieldsTree → Option (List FieldTree)
-brace_fields (named fs) = Some fs.items
-brace_fields (unnamed fs) = None
-brace_fields unit = None
-
-abbrev pub fields_of_case : (FieldsTree → Option (List FieldTree)) → Declaration → Option ℕ → Option (List FieldTree)
-fields_of_case kind d None = None
-fields_of_case kind d (Some n) = option_and_then (λ (c : Case). kind c.fields) (slice_get (cases d) n)
-
-abbrev pub count_patterns : PatternTrees → ℕ
-count_patterns no_patterns = 0
-count_patterns (pattern_then p ps) = suc (count_patterns ps)
-
-abbrev pub count_named : NamedPatterns → ℕ
-count_named no_named = 0
-count_named (named_then i p ps) = suc (count_named ps)
-
--- a list with so many items, or none
-abbrev pub of_length : ℕ → Option (List FieldTree) → Option (List FieldTree)
-of_length n None = None
-of_length n (Some fs) = cond (eqb n (length fs)) (Some fs) None
-
--- the number of the field of that name
-abbrev pub same_name : Text → Option Ident → Bool
-same_name name None = false
-same_name name (Some i) = bytes_eq name i.name
-
-abbrev pub field_named : List FieldTree → ℕ → Text → Option ℕ
-field_named [] n name = None
-field_named (f ∷ fs) n name = cond (same_name name f.ident) (Some n) (field_named fs (n + 1) name)
-
--- what a pattern binds, or none where it doesn't fit
-abbrev mutual
-  pub fits : Declaration → PatternTree → Thing → Env → Option Env
-  fits d wild x env = Some env
-  fits d (bind how name) x env = Some ((name.name, x) ∷ env)
-  fits d (tuple_pattern p ps) x env =
-      option_and_then
-      (λ side. option_and_then (λ fs. fits_fields d ps side 0 env) (of_length (count_patterns ps) (fields_of_case paren_fields d (path_case d p))))
-      (side_of (path_case d p) (as_value x))
-  fits d (named_pattern p ps rest) x env =
-      option_and_then
-      (λ side. option_and_then (λ fs. fits_named d ps fs side env) (cond rest (fields_of_case brace_fields d (path_case d p)) (of_length (count_named ps) (fields_of_case brace_fields d (path_case d p)))))
-      (side_of (path_case d p) (as_value x))
-  fits d (pair_pattern a b) x env = option_and_then (λ p. option_and_then (fits d b p.1) (fits d a p.0 env)) (as_pair x)
-
-  -- the fields of a side, from field n on
-  pub fits_fields : Declaration → PatternTrees → Side → ℕ → Env → Option Env
-  fits_fields d no_patterns side n env = Some env
-  fits_fields d (pattern_then p ps) side n env = option_and_then (fits_fields d ps side (n + 1)) (fits d p (place side n) env)
-
-  -- the fields of a side, by name
-  pub fits_named : Declaration → NamedPatterns → List FieldTree → Side → Env → Option Env
-  fits_named d no_named fs side env = Some env
-  fits_named d (named_then i p ps) fs side env =
-      option_and_then (λ n. option_and_then (fits_named d ps fs side) (fits d p (place side n) env)) (field_named fs 0 i.name)
-
-abbrev pub or_else : Option Env → Option Env → Option Env
-or_else None o = o
-or_else (Some e) o = Some e
-
-abbrev pub first_fits : Declaration → PatternTrees → Thing → Env → Option Env
-first_fits d no_patterns x env = None
-first_fits d (pattern_then p ps) x env = or_else (fits d p x env) (first_fits d ps x env)
-
--- ---- expressions
-
-abbrev pub as_truth : Thing → Option Bool
-as_truth (truth t) = Some t
-as_truth (value _ _) = None
-as_truth (pair _ _) = None
-as_truth (place _ _) = None
-as_truth (discriminant _) = None
-as_truth (term _) = None
+use Rattle.dm_output.specs.declared.item.Receiver.TheVariants as receiver
+use Rattle.dm_output.specs.Values.{Text, mine, theirs, another, asking, mapping, tokens, in_closure, Thing, apply, truth, number, text, input_text, value, tuple_of, written, done, no_things, things_of, Value, value_of, Input, no_input, value_input, term_input, tuple_input, text_input, number_input}
+use Rattle.dm_output.specs.Fits.{Env, plain, with_name, with_constant, bound, expr_names, first_fits}
+use Rattle.dm_output.specs.Written.{pieces}
+use Rattle.dm_output.specs.Calls.{Setting, State, Flow, goes, ends, then, as_term, term, compare, negated, member_of, called, built, built_named, path_gives, method_gives, error_mapped, going}
 
 -- goes on with a truth
-abbrev pub if_truth : Option Thing → Option Thing → Option Thing → Option Thing
-if_truth o a b = option_and_then (λ t. cond t a b) (option_and_then as_truth o)
+abbrev pub chosen : Thing → Option (Flow Thing) → Option (Flow Thing) → Option (Flow Thing)
+chosen (truth b) good other = cond b good other
+chosen _ good other = None
 
-abbrev pub outcome : Option Bool → Option Thing
-outcome None = None
-outcome (Some b) = Some (truth b)
+abbrev pub if_truth : Option (Flow Thing) → (State → Option (Flow Thing)) → (State → Option (Flow Thing)) → Option (Flow Thing)
+if_truth o good other = then o (λ x st. chosen x (good st) (other st))
 
--- field i of self with field i of the right side, or two discriminants
-abbrev pub compare : List Bool → Thing → Thing → Option Thing
-compare outcomes (place mine n) (place theirs m) = cond (eqb n m) (outcome (slice_get outcomes n)) None
-compare outcomes (discriminant n) (discriminant m) = Some (truth (eqb n m))
-compare outcomes _ _ = None
-
-abbrev pub negated : Option Thing → Option Thing
-negated o = if_truth o (Some (truth false)) (Some (truth true))
-
-abbrev pub discriminant_of : Option (Side × Value) → Option Thing
-discriminant_of None = None
-discriminant_of (Some v) = Some (discriminant v.1.variant)
-
--- derive_more::core::mem::discriminant
-abbrev pub discriminant_names : List Text
-discriminant_names = codes "derive_more" ∷ codes "core" ∷ codes "mem" ∷ codes "discriminant" ∷ []
-
--- a call of the discriminant; no other call of this language has an answer yet
-abbrev pub called : Option (List Text) → List Thing → Option Thing
-called None xs = None
-called (Some names) [] = None
-called (Some names) (x ∷ []) = cond (names_eq names discriminant_names) (discriminant_of (as_value x)) None
-called (Some names) (x ∷ y ∷ more) = None
-
-abbrev pub name_alone : Option (List Text) → Env → Option Thing
-name_alone None env = None
-name_alone (Some []) env = None
-name_alone (Some (a ∷ [])) env = bound env a
-name_alone (Some (a ∷ b ∷ more)) env = None
-
-abbrev pub tuple_thing : List Thing → Option Thing
-tuple_thing [] = None
-tuple_thing (x ∷ []) = None
-tuple_thing (x ∷ y ∷ []) = Some (pair x y)
-tuple_thing (x ∷ y ∷ z ∷ more) = None
-
-abbrev pub with_env : Option Env → (Env → Option Thing) → Option Thing → Option Thing
+abbrev pub with_env : Option Env → (Env → Option (Flow Thing)) → Option (Flow Thing) → Option (Flow Thing)
 with_env None go other = other
 with_env (Some env) go other = go env
 
+-- the number of the next constant
+abbrev pub next_constant : Text → Env → State → List ℤ → Option (Flow Env)
+next_constant name env st [] = None
+next_constant name env st (n ∷ more) = Some (goes (with_constant name n env) (record { fields = st.fields; numbers = more }))
+
+-- what a formatter's name must be, for a text to be written
+abbrev pub if_bound : Option Thing → Thing → State → Option (Flow Thing)
+if_bound None x st = None
+if_bound (Some f) x st = Some (goes x st)
+
+-- a term of its own, for the parameter of a closure
+abbrev pub closure_parameter : Thing
+closure_parameter = apply in_closure no_things
+
+-- what a name in a format stands for
+abbrev pub named_in : Setting → State → Env → Text → Option Thing
+named_in s st env name = option_map (as_term s st) (bound env name)
+
 abbrev mutual
-  pub run : Setting → ExprTree → Env → Option Thing
-  run s (or_expr es) env = run_any s es env
-  run s (and_expr es) env = run_all s es env
-  run s (equal a b) env = option_and_then (λ x. option_and_then (λ y. compare s.outcomes x y) (run s b env)) (run s a env)
-  run s (unequal a b) env = negated (option_and_then (λ x. option_and_then (λ y. compare s.outcomes x y) (run s b env)) (run s a env))
-  run s (deref a) env = run s a env
-  run s (path_expr q p) env = name_alone (expr_names q p) env
-  run s (call q p es) env = option_and_then (called (expr_names q p)) (run_each s es env)
-  run s (tuple es) env = option_and_then tuple_thing (run_each s es env)
-  run s (bool b) env = Some (truth b)
-  run s (match_expr a arms) env = option_and_then (λ x. run_arms s arms x env) (run s a env)
-  run s (unsafe_expr a) env = run s a env
+  pub run : Setting → ExprTree → Env → State → Option (Flow Thing)
+  run s (return_expr e) env st = then (run s e env st) (λ x st. Some (ends x st))
+  run s (or_expr es) env st = run_any s es env st
+  run s (and_expr es) env st = run_all s es env st
+  run s (equal a b) env st = then (run s a env st) (λ x st. then (run s b env st) (λ y st. going (compare s.outcomes x y) st))
+  run s (unequal a b) env st = then (run s a env st) (λ x st. then (run s b env st) (λ y st. going (negated (compare s.outcomes x y)) st))
+  run s (ref_opaque o) env st = Some (goes (term s st (tokens o) []) st)
+  run s (ref_expr m a) env st = run s a env st
+  run s (deref a) env st = run s a env st
+  run s (member a m) env st = then (run s a env st) (λ x st. going (member_of s.decl m x) st)
+  run s (method_call a i es) env st =
+      then (run s a env st) (λ x st. then (run_each s es env st) (λ xs st. Some (goes (method_gives s st i.name (x ∷ xs)) st)))
+  run s (map_expr a e) env st =
+      then (run s a env st) (λ x st. then (run s e (with_name (codes "v") closure_parameter env) st) (λ y st. Some (goes (term s st mapping (x ∷ y ∷ [])) st)))
+  run s (map_err a p) env st = then (run s a env st) (λ x st. Some (goes (error_mapped s st p x) st))
+  run s (question a) env st = then (run s a env st) (λ x st. Some (goes (term s st asking (x ∷ [])) st))
+  run s (path_expr q p) env st = path_gives s st q p (expr_names q p) env
+  run s (call q p es) env st = then (run_each s es env st) (λ xs st. called s st q p (expr_names q p) xs)
+  run s (build q p es) env st = then (run_each s es env st) (λ xs st. built s st q p (expr_names q p) xs)
+  run s (build_named q p es) env st = then (run_named s es env st) (λ xs st. built_named s st (expr_names q p) xs)
+  run s (paren a) env st = run s a env st
+  run s (tuple es) env st = then (run_each s es env st) (λ xs st. Some (goes (tuple_of (things_of xs)) st))
+  run s (opaque_call o a) env st = then (run s a env st) (λ x st. Some (goes (term s st (tokens o) (x ∷ [])) st))
+  run s (str_expr l) env st = going (option_map text (str_value l.kind l.text)) st
+  run s (bool b) env st = Some (goes (truth b) st)
+  run s (match_expr a arms) env st = then (run s a env st) (λ x st. run_arms s arms x env st)
+  run s (unsafe_expr a) env st = run s a env st
+  run s (write_expr i f) env st = if_bound (bound env i.name) (written (pieces f (named_in s st env))) st
+  run s (format_args f) env st = Some (goes (written (pieces f (named_in s st env))) st)
 
-  pub run_any : Setting → ExprTrees → Env → Option Thing
-  run_any s no_exprs env = Some (truth false)
-  run_any s (expr_then e es) env = if_truth (run s e env) (Some (truth true)) (run_any s es env)
+  pub run_any : Setting → ExprTrees → Env → State → Option (Flow Thing)
+  run_any s no_exprs env st = Some (goes (truth false) st)
+  run_any s (expr_then e es) env st = if_truth (run s e env st) (λ st. Some (goes (truth true) st)) (run_any s es env)
 
-  pub run_all : Setting → ExprTrees → Env → Option Thing
-  run_all s no_exprs env = Some (truth true)
-  run_all s (expr_then e es) env = if_truth (run s e env) (run_all s es env) (Some (truth false))
+  pub run_all : Setting → ExprTrees → Env → State → Option (Flow Thing)
+  run_all s no_exprs env st = Some (goes (truth true) st)
+  run_all s (expr_then e es) env st = if_truth (run s e env st) (run_all s es env) (λ st. Some (goes (truth false) st))
 
-  pub run_each : Setting → ExprTrees → Env → Option (List Thing)
-  run_each s no_exprs env = Some []
-  run_each s (expr_then e es) env = option_and_then (λ x. option_and_then (λ xs. Some (x ∷ xs)) (run_each s es env)) (run s e env)
+  pub run_each : Setting → ExprTrees → Env → State → Option (Flow (List Thing))
+  run_each s no_exprs env st = Some (goes [] st)
+  run_each s (expr_then e es) env st = then (run s e env st) (λ x st. then (run_each s es env st) (λ xs st. Some (goes (x ∷ xs) st)))
+
+  -- the terms given for fields
+  pub run_named : Setting → NamedExprs → Env → State → Option (Flow (List (Text × Thing)))
+  run_named s no_named_exprs env st = Some (goes [] st)
+  run_named s (named_expr_then i e es) env st =
+      then (run s e env st) (λ x st. then (run_named s es env st) (λ xs st'. Some (goes ((i.name, as_term s st x) ∷ xs) st')))
 
   -- the first arm with a fitting pattern and a true guard
-  pub run_arms : Setting → ArmTrees → Thing → Env → Option Thing
-  run_arms s no_arms x env = None
-  run_arms s (arm_then ps guard body more) x env =
-      with_env (first_fits s.decl ps x env) (λ env'. if_truth (run_guard s guard env') (run_body s body env') (run_arms s more x env)) (run_arms s more x env)
+  pub run_arms : Setting → ArmTrees → Thing → Env → State → Option (Flow Thing)
+  run_arms s no_arms x env st = None
+  run_arms s (arm_then ps guard body more) x env st =
+      with_env (first_fits s.decl ps x env) (λ env'. if_truth (run_guard s guard env' st) (run_body s body env') (run_arms s more x env)) (run_arms s more x env st)
 
-  pub run_guard : Setting → MaybeExpr → Env → Option Thing
-  run_guard s no_expr env = Some (truth true)
-  run_guard s (some_expr g) env = run s g env
+  pub run_guard : Setting → MaybeExpr → Env → State → Option (Flow Thing)
+  run_guard s no_expr env st = Some (goes (truth true) st)
+  run_guard s (some_expr g) env st = run s g env st
 
-  pub run_body : Setting → ArmBodyTree → Env → Option Thing
-  run_body s (block_body b) env = run_block s b env
-  run_body s (expr_body e) env = run s e env
+  pub run_body : Setting → ArmBodyTree → Env → State → Option (Flow Thing)
+  run_body s (block_body b) env st = run_block s b env st
+  run_body s (expr_body e) env st = run s e env st
 
-  pub run_block : Setting → BlockTree → Env → Option Thing
-  run_block s (last_expr e) env = run_maybe s e env
-  run_block s (let_then name e b) env = option_and_then (λ x. run_block s b ((name.name, x) ∷ env)) (run s e env)
-  run_block s (do_then e b) env = option_and_then (λ x. run_block s b env) (run s e env)
+  pub run_block : Setting → BlockTree → Env → State → Option (Flow Thing)
+  run_block s (block ss e) env st = then (run_stmts s ss env st) (λ env' st. run_maybe s e env' st)
 
-  pub run_maybe : Setting → MaybeExpr → Env → Option Thing
-  run_maybe s no_expr env = None
-  run_maybe s (some_expr e) env = run s e env
+  -- a block without a last expression is done
+  pub run_maybe : Setting → MaybeExpr → Env → State → Option (Flow Thing)
+  run_maybe s no_expr env st = Some (goes done st)
+  run_maybe s (some_expr e) env st = run s e env st
 
--- ---- methods: self stands for the receiver, the right side for the parameter
+  pub run_stmts : Setting → StmtTrees → Env → State → Option (Flow Env)
+  run_stmts s no_stmts env st = Some (goes env st)
+  run_stmts s (stmt_then t ts) env st = then (run_stmt s t env st) (λ env' st. run_stmts s ts env' st)
 
-abbrev pub with_receiver : Option Receiver → Value → Env → Env
+  pub run_stmt : Setting → StmtTree → Env → State → Option (Flow Env)
+  run_stmt s (let_stmt name e) env st = then (run s e env st) (λ x st. Some (goes (with_name name.name x env) st))
+  run_stmt s (check_stmt t) env st = Some (goes env st)
+  run_stmt s (import_stmt p) env st = Some (goes env st)
+  run_stmt s (do_stmt e) env st = then (run s e env st) (λ x st. Some (goes env st))
+  run_stmt s (const_stmt name t base l) env st = next_constant name.name env st st.numbers
+
+-- ---- methods: self stands for the receiver, the input for the parameter
+
+abbrev pub with_receiver : Option Receiver → Value → List (Text × Thing) → List (Text × Thing)
 with_receiver None x env = env
-with_receiver (Some r) x env = (codes "self", value mine x) ∷ env
+with_receiver (Some r) x env = (codes "self", value_of mine x) ∷ env
 
-abbrev pub with_param : Option ParamOfMethod → Value → Env → Env
-with_param None y env = env
-with_param (Some p) y env = (p.name.name, value theirs y) ∷ env
+-- a value beside a receiver is the right side, and else another one
+abbrev pub input_value : Option Receiver → Value → Thing
+input_value None y = value another y.variant (things_of y.fields)
+input_value (Some r) y = value_of theirs y
 
--- what a method gives at a value, a right side and the outcomes of the comparisons
-abbrev pub run_method : Setting → MethodTree → Value → Value → Option Thing
-run_method s m x y = run_block s m.body (with_receiver m.receiver x (with_param m.param y []))
+abbrev pub input_thing : Option Receiver → Input → Option Thing
+input_thing r no_input = None
+input_thing r (value_input y) = Some (input_value r y)
+input_thing r (term_input t) = Some t
+input_thing r (tuple_input ts) = Some (tuple_of (things_of ts))
+input_thing r (text_input t lower) = Some (input_text t lower)
+input_thing r (number_input n constants) = Some (number n)
+
+abbrev pub with_param : Option ParamOfMethod → Option Thing → List (Text × Thing)
+with_param (Some p) (Some x) = (p.name.name, x) ∷ []
+with_param _ _ = []
+
+abbrev pub right_fields : Input → List Thing
+right_fields (value_input y) = y.fields
+right_fields _ = []
+
+abbrev pub constants_of : Input → List ℤ
+constants_of (number_input n constants) = constants
+constants_of _ = []
+
+abbrev pub is_changing : Option Receiver → Bool
+is_changing (Some receiver.RefMut) = true
+is_changing _ = false
+
+abbrev pub setting_of : Declaration → List Bool → Option Receiver → Input → Setting
+setting_of d outcomes r y = record { decl = d; outcomes = outcomes; right = right_fields y; may_assign = is_changing r }
+
+-- self afterwards, or done where there is no receiver
+abbrev pub afterwards : Option Receiver → ℕ → State → Thing
+afterwards None n st = done
+afterwards (Some r) n st = value another n (things_of st.fields)
+
+-- a method with a return type answers what it gives, another one self afterwards
+abbrev pub answer : Setting → MethodTree → ℕ → Option TypeTree → Thing → State → Thing
+answer s m n None x st = afterwards m.receiver n st
+answer s m n (Some t) x st = as_term s st x
+
+abbrev pub answered : Setting → MethodTree → ℕ → Option (Flow Thing) → Option Thing
+answered s m n None = None
+answered s m n (Some (goes x st)) = Some (answer s m n m.output x st)
+answered s m n (Some (ends x st)) = Some (answer s m n m.output x st)
+
+-- what a method gives at a value of self, an input and the outcomes of the comparisons
+abbrev pub run_method : Declaration → List Bool → MethodTree → Value → Input → Option Thing
+run_method d outcomes m x y =
+    answered (setting_of d outcomes m.receiver y) m x.variant
+    (run_block (setting_of d outcomes m.receiver y) m.body (plain (with_receiver m.receiver x (with_param m.param (input_thing m.receiver y))))
+    (record { fields = x.fields; numbers = constants_of y }))

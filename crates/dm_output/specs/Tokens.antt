@@ -1,11 +1,12 @@
 -- The tokens of implementations, and their text. Puncts, words and delimiters that no part brings along stand at the range 0..0.
 -- `::`, `->`, `=>`, `==`, `!=`, `&&`, `||` and `..` are joint, other puncts alone.
-use Rattle.std.specs.Prelude.{ℕ, List, [], ◌∷◌, ◌++◌, map, true, cond, codes, Option, Some, None}
+use Rattle.std.specs.Prelude.{ℕ, List, [], ◌∷◌, ◌++◌, map, true, false, cond, codes, Option, Some, None}
 use Rattle.dm_stream.specs.declared.seq.Punctuated.{Punctuated}
-use Rattle.dm_stream.specs.declared.tokens.Span.{Span}
 use Rattle.dm_stream.specs.declared.tokens.Delim.{Delim}
 use Rattle.dm_stream.specs.declared.tokens.Delim.TheVariants.{Paren, Bracket, Brace}
+use Rattle.dm_stream.specs.declared.tokens.Ident.{Ident}
 use Rattle.dm_stream.specs.declared.tokens.Lifetime.{Lifetime}
+use Rattle.dm_stream.specs.declared.tokens.LitKind.TheVariants.{Int}
 use Rattle.dm_stream.specs.Trees.{Trees, no_trees, join}
 use Rattle.dm_stream.specs.Layout.{layout, nowhere}
 use Rattle.dm_ast.specs.declared.plain.ConstArg.{ConstArg}
@@ -13,9 +14,11 @@ use Rattle.dm_ast.specs.Tree.{TypeTree, path, PathTree, MaybeSelf, BoundTree, bo
 use Rattle.dm_ast.specs.Declarations.{Listed, ParamTree, lifetime_param, type_param, const_param, PredicateTree, lifetime_predicate, type_predicate}
 use Rattle.dm_ast.specs.TypeTokens as syntax
 use Rattle.dm_ast.specs.TypeTokens.{given, name, spaced, type_trees, path_trees, node_trees, for_trees, const_trees, attributes_trees, each_bound, listed, lifetime}
-use Rattle.dm_output.specs.Output.{PatternTree, wild, bind, tuple_pattern, named_pattern, pair_pattern, PatternTrees, no_patterns, pattern_then, NamedPatterns, no_named, named_then, ExprTree, or_expr, and_expr, equal, unequal, deref, path_expr, call, tuple, bool, match_expr, unsafe_expr, ExprTrees, no_exprs, expr_then, MaybeExpr, no_expr, some_expr, ArmTree, ArmTrees, no_arms, arm_then, ArmBodyTree, block_body, expr_body, BlockTree, last_expr, let_then, do_then, AssocTree, ParamOfMethod, MethodTree, ItemTree}
+use Rattle.dm_output.specs.Output.{FmtArgTree, FmtTree, PatternTree, wild, bind, str_pattern, path_pattern, tuple_pattern, named_pattern, pair_pattern, PatternTrees, no_patterns, pattern_then, NamedPatterns, no_named, named_then, ExprTree, return_expr, or_expr, and_expr, equal, unequal, ref_opaque, ref_expr, deref, member, method_call, map_expr, map_err, question, path_expr, call, build, build_named, paren, tuple, opaque_call, str_expr, bool, match_expr, unsafe_expr, write_expr, format_args, ExprTrees, no_exprs, expr_then, NamedExprs, no_named_exprs, named_expr_then, MaybeExpr, no_expr, some_expr, ArmTree, ArmTrees, no_arms, arm_then, ArmBodyTree, block_body, expr_body, StmtTree, let_stmt, check_stmt, import_stmt, do_stmt, const_stmt, StmtTrees, no_stmts, stmt_then, BlockTree, block, AssocTree, ParamOfMethod, MethodTree, ItemTree}
 use Rattle.dm_output.specs.declared.pattern.Binding.{Binding}
 use Rattle.dm_output.specs.declared.pattern.Binding.TheVariants as binding
+use Rattle.dm_output.specs.declared.expr.Member.{Member}
+use Rattle.dm_output.specs.declared.expr.Member.TheVariants as m
 use Rattle.dm_output.specs.declared.item.ItemAttr.{ItemAttr}
 use Rattle.dm_output.specs.declared.item.ItemAttr.TheVariants as attr
 use Rattle.dm_output.specs.declared.item.Receiver.{Receiver}
@@ -69,6 +72,8 @@ abbrev mutual
   pub pattern_trees : PatternTree → Trees
   pattern_trees wild = word (codes "_")
   pattern_trees (bind how i) = join (binding_trees how) (name i)
+  pattern_trees (str_pattern l) = syntax.literal l
+  pattern_trees (path_pattern p) = path_trees nowhere p
   pattern_trees (tuple_pattern p ps) = join (path_trees nowhere p) (enclosed Paren (ended (each_pattern ps)))
   pattern_trees (named_pattern p ps rest) =
       join (path_trees nowhere p) (enclosed Brace (join (ended (each_named ps)) (given rest (joint 46 46))))
@@ -91,23 +96,68 @@ path_expr_trees q p = node_trees nowhere (path q p)
 abbrev pub arm_of : List Trees → Trees → Trees → Trees
 arm_of patterns guard body = join (spaced (punct 124) true patterns) (join guard (join (joint 61 62) (join body comma)))
 
+-- formats: the literal, and a comma before each argument
+abbrev pub alias_trees : Option Ident → Trees
+alias_trees None = no_trees
+alias_trees (Some i) = join (name i) assigns
+
+abbrev pub fmt_arg_trees : FmtArgTree → Trees
+fmt_arg_trees a = join (alias_trees a.alias) a.value
+
+abbrev pub fmt_trees : FmtTree → Trees
+fmt_trees f = join (syntax.literal f.lit) (spaced comma false (map fmt_arg_trees f.args))
+
+-- the call of a macro of `derive_more::core`
+abbrev pub macro_trees : List ℕ → Trees → Trees
+macro_trees called inside =
+    join (word (codes "derive_more")) (join (joint 58 58) (join (word (codes "core")) (join (joint 58 58) (join (word called) (join (punct 33) (enclosed Paren inside))))))
+
+abbrev pub member_trees : Member → Trees
+member_trees (m.Named i) = name i
+member_trees (m.Index l) = syntax.literal l
+
+-- what a constant begins with: a group of tokens, or 0
+abbrev pub base_trees : Option Trees → Trees
+base_trees None = syntax.literal (record { kind = Int; text = codes "0"; span = nowhere })
+base_trees (Some o) = enclosed Paren o
+
 abbrev mutual
   pub expr_trees : ExprTree → Trees
+  expr_trees (return_expr a) = join (word (codes "return")) (expr_trees a)
   expr_trees (or_expr es) = spaced (joint 124 124) true (each_expr es)
   expr_trees (and_expr es) = spaced (joint 38 38) true (each_expr es)
   expr_trees (equal a b) = join (expr_trees a) (join (joint 61 61) (expr_trees b))
   expr_trees (unequal a b) = join (expr_trees a) (join (joint 33 61) (expr_trees b))
+  expr_trees (ref_opaque o) = join (punct 38) (enclosed Paren o)
+  expr_trees (ref_expr m a) = join (punct 38) (join (given m (word (codes "mut"))) (expr_trees a))
   expr_trees (deref a) = join (punct 42) (expr_trees a)
+  expr_trees (member a m) = join (expr_trees a) (join (punct 46) (member_trees m))
+  expr_trees (method_call a i es) = join (expr_trees a) (join (punct 46) (join (name i) (enclosed Paren (spaced comma true (each_expr es)))))
+  expr_trees (map_expr a e) =
+      join (expr_trees a) (join (punct 46) (join (word (codes "map")) (enclosed Paren (join (punct 124) (join (word (codes "v")) (join (punct 124) (expr_trees e)))))))
+  expr_trees (map_err a o) = join (expr_trees a) (join (punct 46) (join (word (codes "map_err")) (enclosed Paren o)))
+  expr_trees (question a) = join (expr_trees a) (punct 63)
   expr_trees (path_expr q p) = path_expr_trees q p
   expr_trees (call q p es) = join (path_expr_trees q p) (enclosed Paren (spaced comma true (each_expr es)))
+  expr_trees (build q p es) = join (path_expr_trees q p) (enclosed Paren (ended (each_expr es)))
+  expr_trees (build_named q p es) = join (path_expr_trees q p) (enclosed Brace (ended (each_named_expr es)))
+  expr_trees (paren a) = enclosed Paren (expr_trees a)
   expr_trees (tuple es) = enclosed Paren (spaced comma true (each_expr es))
+  expr_trees (opaque_call o a) = join (enclosed Paren o) (enclosed Paren (expr_trees a))
+  expr_trees (str_expr l) = syntax.literal l
   expr_trees (bool b) = word (cond b (codes "true") (codes "false"))
   expr_trees (match_expr a arms) = join (word (codes "match")) (join (expr_trees a) (enclosed Brace (arms_trees arms)))
   expr_trees (unsafe_expr a) = join (word (codes "unsafe")) (enclosed Brace (expr_trees a))
+  expr_trees (write_expr i f) = macro_trees (codes "write") (join (name i) (join comma (fmt_trees f)))
+  expr_trees (format_args f) = macro_trees (codes "format_args") (fmt_trees f)
 
   pub each_expr : ExprTrees → List Trees
   each_expr no_exprs = []
   each_expr (expr_then e es) = expr_trees e ∷ each_expr es
+
+  pub each_named_expr : NamedExprs → List Trees
+  each_named_expr no_named_exprs = []
+  each_named_expr (named_expr_then i e es) = join (name i) (join colon (expr_trees e)) ∷ each_named_expr es
 
   pub maybe_trees : MaybeExpr → Trees
   maybe_trees no_expr = no_trees
@@ -127,12 +177,21 @@ abbrev mutual
   body_trees (block_body b) = enclosed Brace (inside_trees b)
   body_trees (expr_body e) = expr_trees e
 
+  pub stmt_trees : StmtTree → Trees
+  stmt_trees (let_stmt i e) = join (word (codes "let")) (join (name i) (join assigns (join (expr_trees e) semicolon)))
+  stmt_trees (check_stmt t) = join (word (codes "let")) (join (word (codes "_")) (join colon (join (type_trees t) semicolon)))
+  stmt_trees (import_stmt p) = join (word (codes "use")) (join (path_trees nowhere p) (join (word (codes "as")) (join (word (codes "_")) semicolon)))
+  stmt_trees (do_stmt e) = join (expr_trees e) semicolon
+  stmt_trees (const_stmt i t base l) =
+      join (word (codes "const")) (join (name i) (join colon (join (type_trees t) (join assigns (join (base_trees base) (join (punct 43) (join (syntax.literal l) semicolon)))))))
+
+  pub stmts_trees : StmtTrees → Trees
+  stmts_trees no_stmts = no_trees
+  stmts_trees (stmt_then s ss) = join (stmt_trees s) (stmts_trees ss)
+
   -- the statements of a block, and its last expression
   pub inside_trees : BlockTree → Trees
-  inside_trees (last_expr e) = maybe_trees e
-  inside_trees (let_then i e b) =
-      join (word (codes "let")) (join (name i) (join assigns (join (expr_trees e) (join semicolon (inside_trees b)))))
-  inside_trees (do_then e b) = join (expr_trees e) (join semicolon (inside_trees b))
+  inside_trees (block ss e) = join (stmts_trees ss) (maybe_trees e)
 
 abbrev pub block_trees : BlockTree → Trees
 block_trees b = enclosed Brace (inside_trees b)
@@ -174,13 +233,41 @@ predicate_trees (type_predicate ls t bs) = join (for_trees nowhere ls) (join (ty
 unfoldable pub private_bounds : Trees
 private_bounds = word (codes "private_bounds")
 
+unfoldable pub dead_code : Trees
+dead_code = word (codes "dead_code")
+
+unfoldable pub deprecated : Trees
+deprecated = word (codes "deprecated")
+
+unfoldable pub unreachable_code : Trees
+unreachable_code = word (codes "unreachable_code")
+
+unfoldable pub non_upper_case_globals : Trees
+non_upper_case_globals = word (codes "non_upper_case_globals")
+
+unfoldable pub unused_unit : Trees
+unused_unit = join (word (codes "clippy")) (join (joint 58 58) (word (codes "unused_unit")))
+
 unfoldable pub automatically_derived : Trees
 automatically_derived = word (codes "automatically_derived")
 
+unfoldable pub track_caller : Trees
+track_caller = word (codes "track_caller")
+
+abbrev pub allowing : Trees → Trees
+allowing lint = join (word (codes "allow")) (enclosed Paren lint)
+
 abbrev pub attr_inside : ItemAttr → Trees
-attr_inside attr.AllowPrivateBounds = join (word (codes "allow")) (enclosed Paren private_bounds)
+attr_inside attr.AllowPrivateBounds = allowing private_bounds
+attr_inside attr.AllowDeadCodePrivateBounds = allowing (join dead_code (join comma private_bounds))
+attr_inside attr.AllowDeprecated = allowing deprecated
+attr_inside attr.AllowUnreachableCode = allowing unreachable_code
+attr_inside attr.AllowNonUpperCaseGlobals = allowing non_upper_case_globals
+attr_inside attr.AllowUnusedUnit = allowing unused_unit
 attr_inside attr.AutomaticallyDerived = automatically_derived
+attr_inside attr.DocHidden = join (word (codes "doc")) (enclosed Paren (word (codes "hidden")))
 attr_inside attr.Inline = word (codes "inline")
+attr_inside attr.TrackCaller = track_caller
 
 abbrev pub attr_trees : ItemAttr → Trees
 attr_trees a = join (punct 35) (enclosed Bracket (attr_inside a))

@@ -9,10 +9,24 @@ use dm_stream::{Ident, Seq};
 pub enum ItemAttr {
     /// `allow(private_bounds)`
     AllowPrivateBounds,
+    /// `allow(dead_code, private_bounds)`
+    AllowDeadCodePrivateBounds,
+    /// `allow(deprecated)`
+    AllowDeprecated,
+    /// `allow(unreachable_code)`
+    AllowUnreachableCode,
+    /// `allow(non_upper_case_globals)`
+    AllowNonUpperCaseGlobals,
+    /// `allow(clippy::unused_unit)`
+    AllowUnusedUnit,
     /// `automatically_derived`
     AutomaticallyDerived,
+    /// `doc(hidden)`
+    DocHidden,
     /// `inline`
     Inline,
+    /// `track_caller`
+    TrackCaller,
 }
 
 /// An implementation of a trait, or an inherent one where there is no trait's path.

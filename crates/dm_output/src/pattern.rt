@@ -1,7 +1,7 @@
 //! Patterns.
 
 use dm_ast::Path;
-use dm_stream::{Ident, Seq};
+use dm_stream::{Ident, Literal, Seq};
 
 /// How a name in a pattern binds: `x`, `ref x` or `ref mut x`.
 #[derive(Clone, Copy, Debug, PartialEq, Eq)]
@@ -19,7 +19,11 @@ pub enum Pattern<'a> {
     Wild,
     /// `x`
     Bind(Binding, Ident<'a>),
-    /// `P(a, b)`
+    /// `"text"`
+    Str(Literal<'a>),
+    /// `P`, of two segments or more
+    Path(Path<'a>),
+    /// `P(a, b,)`
     Tuple(Path<'a>, Seq<Pattern<'a>>),
     /// `P { x: a, y: b, .. }`
     Named(Path<'a>, Seq<NamedPattern<'a>>, bool),

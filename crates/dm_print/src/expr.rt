@@ -1,185 +1,418 @@
 //! Expressions, blocks and arms.
-#![tactic(auto, using(crate::proofs::Laying::print_steps))]
+#![tactic(auto, using(dm_print_types::proofs::Laying::print_steps))]
 
-ghost use Rattle.std.specs.Prelude.{◌≡◌, map, codes, OnOk, true, option_map};
+ghost use Rattle.std.specs.Prelude.{◌≡◌, map, codes, cond, OnOk, true};
 ghost use Rattle.dm_stream.specs.Trees.{join};
 ghost use Rattle.dm_stream.specs.declared.tokens.Delim.TheVariants.{Paren, Brace};
+ghost use Rattle.dm_ast.specs.Tree.{path_view, maybe_self_view};
 ghost use Rattle.dm_ast.specs.TypeTokens as syntax;
-ghost use Rattle.dm_output.specs.Output.{expr_view, arm_view, body_view, block_view, stmt_view, statements, exprs_of, arms_of, maybe_expr};
+ghost use Rattle.dm_output.specs.Output.{ref_expr, map_err, call, build, build_named, opaque_call, unsafe_expr, exprs_of, named_exprs_of, arms_of, stmts_of};
 ghost use Rattle.dm_output.specs.Tokens as spec;
-ghost use Rattle.dm_print.specs.Laying.{lay, LaysStatement};
+ghost use Rattle.dm_output.specs.Views.{opaque_view, expr_view, named_expr_view, arm_view, body_view, block_view, stmt_view};
+ghost use Rattle.dm_print_types.specs.Laying.{lay};
 
-use crate::path::path_expr;
+use crate::format::{format_call, write_call};
 use crate::pattern::patterns;
-use crate::token::{close, joint, name, open, punct, word};
+use crate::stmt::{check, constant, import};
+use dm_ast::Opaque;
 use dm_layout::Layout;
-use dm_output::{Arm, ArmBody, Block, Expr, Stmt};
-use dm_stream::Delim;
+use dm_output::{Arm, ArmBody, Block, Expr, Member, NamedExpr, PathExpr, Stmt};
+use dm_print_types::path::path_expr;
+use dm_print_types::token::{
+    close, fixed, joint, literal, name, opaque, open, punct, word, word_if,
+};
+use dm_stream::{Delim, Ident, Seq};
 use std::alloc::{AllocError, Global};
 
 /// Adds an expression.
 #[cycle(print)]
-pub fn expr(alloc: Global, out: &mut Layout, tree: &Expr<'_>) -> Result<(), AllocError>
+pub fn expr(tree: &Expr<'_>, alloc: Global, out: &mut Layout) -> Result<(), AllocError>
     ensures { OnOk result (out.new ≡ lay out.old (spec.expr_trees (expr_view tree.now))) }
 {
     match tree {
-        Expr::Or(parts) => chain(alloc, out, '|', parts.as_slice()),
-        Expr::And(parts) => chain(alloc, out, '&', parts.as_slice()),
+        Expr::Return(inner) => {
+            word(out, "return")?;
+            expr(inner, alloc, out)
+        }
+        Expr::Or(parts) => chain(parts, '|', alloc, out),
+        Expr::And(parts) => chain(parts, '&', alloc, out),
         Expr::Equal(left, right) => {
-            expr(alloc, out, left)?;
-            joint(out, '=', '=')?;
-            expr(alloc, out, right)
+            expr(left, alloc, out)?;
+            compared(right, '=', alloc, out)
         }
         Expr::Unequal(left, right) => {
-            expr(alloc, out, left)?;
-            joint(out, '!', '=')?;
-            expr(alloc, out, right)
+            expr(left, alloc, out)?;
+            compared(right, '!', alloc, out)
         }
+        Expr::RefOpaque(tokens) => {
+            punct(out, '&')?;
+            opaque(out, tokens)
+        }
+        Expr::Ref(is_mut, inner) => reference(inner, *is_mut, alloc, out),
         Expr::Deref(inner) => {
             punct(out, '*')?;
-            expr(alloc, out, inner)
+            expr(inner, alloc, out)
         }
-        Expr::Path(path) => path_expr(alloc, out, path),
-        Expr::Call(path, arguments) => {
-            path_expr(alloc, out, path)?;
-            in_parens(alloc, out, arguments.as_slice())
+        Expr::Member(inner, field) => {
+            expr(inner, alloc, out)?;
+            member(field, out)
         }
-        Expr::Tuple(parts) => in_parens(alloc, out, parts.as_slice()),
-        Expr::Bool(true) => word(out, "true"),
-        Expr::Bool(false) => word(out, "false"),
+        Expr::MethodCall(inner, method, arguments) => {
+            expr(inner, alloc, out)?;
+            method_call(arguments, method, alloc, out)
+        }
+        Expr::Map(inner, body) => {
+            expr(inner, alloc, out)?;
+            mapped(body, alloc, out)
+        }
+        Expr::MapErr(inner, function) => map_err(inner, function, alloc, out),
+        Expr::Question(inner) => {
+            expr(inner, alloc, out)?;
+            punct(out, '?')
+        }
+        Expr::Path(path) => path_expr(path, alloc, out),
+        Expr::Call(path, arguments) => call(path, arguments, alloc, out),
+        Expr::Build(path, arguments) => build(path, arguments, alloc, out),
+        Expr::BuildNamed(path, fields) => build_named(path, fields, alloc, out),
+        Expr::Paren(inner) => enclosed(inner, Delim::Paren, alloc, out),
+        Expr::Tuple(parts) => in_parens(parts, alloc, out),
+        Expr::OpaqueCall(function, argument) => opaque_call(argument, function, alloc, out),
+        Expr::Str(text) => literal(out, text),
+        Expr::Bool(value) => truth(out, *value),
         Expr::Match(subject, all) => {
             word(out, "match")?;
-            expr(alloc, out, subject)?;
-            open(out, Delim::Brace)?;
-            arms(alloc, out, all.as_slice())?;
-            close(out, Delim::Brace)
+            expr(subject, alloc, out)?;
+            in_braces(all, alloc, out)
         }
-        Expr::Unsafe(inner) => unsafe_block(alloc, out, inner),
+        Expr::Unsafe(inner) => unsafe_block(inner, alloc, out),
+        Expr::Write(formatter, format) => write_call(format, formatter, out),
+        Expr::FormatArgs(format) => format_call(format, out),
     }
+}
+
+/// Adds `&a` or `&mut a`.
+#[cycle(print)]
+fn reference(
+    inner: &Box<Expr<'_>>,
+    is_mut: bool,
+    alloc: Global,
+    out: &mut Layout,
+) -> Result<(), AllocError>
+    ensures { OnOk result (out.new ≡ lay out.old (spec.expr_trees (ref_expr is_mut (expr_view inner.now.value)))) }
+{
+    punct(out, '&')?;
+    word_if(out, is_mut, "mut")?;
+    expr(inner, alloc, out)
+}
+
+/// Adds `.x`.
+fn member(field: &Member<'_>, out: &mut Layout) -> Result<(), AllocError>
+    ensures { OnOk result (out.new ≡ lay out.old (join (spec.punct 46) (spec.member_trees field.now))) }
+{
+    punct(out, '.')?;
+    match field {
+        Member::Named(ident) => name(out, ident),
+        Member::Index(number) => literal(out, number),
+    }
+}
+
+/// Adds `a.map_err(tokens)`.
+#[cycle(print)]
+fn map_err<'a>(
+    inner: &Box<Expr<'a>>,
+    function: &Opaque<'a>,
+    alloc: Global,
+    out: &mut Layout,
+) -> Result<(), AllocError>
+    ensures { OnOk result (out.new ≡ lay out.old (spec.expr_trees (map_err (expr_view inner.now.value) (opaque_view function.now)))) }
+{
+    expr(inner, alloc, out)?;
+    fixed(out, ". map_err")?;
+    opaque(out, function)
+}
+
+fn truth(out: &mut Layout, value: bool) -> Result<(), AllocError>
+    ensures { OnOk result (out.new ≡ lay out.old (spec.word (cond value (codes "true") (codes "false")))) }
+{
+    if value {
+        return word(out, "true");
+    }
+    word(out, "false")
 }
 
 /// Expressions with an operator of two equal puncts between them.
 #[cycle(print)]
-fn chain(alloc: Global, out: &mut Layout, ch: char, all: &[Expr<'_>]) -> Result<(), AllocError>
+fn chain(all: &Seq<Expr<'_>>, ch: char, alloc: Global, out: &mut Layout) -> Result<(), AllocError>
     ensures { OnOk result (out.new ≡ lay out.old (syntax.spaced (spec.joint ch ch) true (spec.each_expr (exprs_of (map expr_view all.now))))) }
 {
-    for (i, one) in all.iter().enumerate() {
+    for (i, one) in all.as_slice().iter().enumerate() {
         if i > 0 {
             joint(out, ch, ch)?;
         }
-        expr(alloc, out, one)?;
+        expr(one, alloc, out)?;
     }
     Ok(())
 }
 
+/// Adds the punct with `=` behind it, and the right side.
+#[cycle(print)]
+fn compared(
+    right: &Box<Expr<'_>>,
+    ch: char,
+    alloc: Global,
+    out: &mut Layout,
+) -> Result<(), AllocError>
+    ensures { OnOk result (out.new ≡ lay out.old (join (spec.joint ch 61) (spec.expr_trees (expr_view right.now.value)))) }
+{
+    joint(out, ch, '=')?;
+    expr(right, alloc, out)
+}
+
+/// Adds `.f(a, b)`.
+#[cycle(print)]
+fn method_call<'a>(
+    arguments: &Seq<Expr<'a>>,
+    method: &Ident<'a>,
+    alloc: Global,
+    out: &mut Layout,
+) -> Result<(), AllocError>
+    ensures { OnOk result (out.new ≡ lay out.old (join (spec.punct 46) (join (syntax.name method.now) (spec.enclosed Paren (syntax.spaced spec.comma true (spec.each_expr (exprs_of (map expr_view arguments.now)))))))) }
+{
+    punct(out, '.')?;
+    name(out, method)?;
+    in_parens(arguments, alloc, out)
+}
+
+/// Adds `.map(|v| body)`.
+#[cycle(print)]
+fn mapped(body: &Box<Expr<'_>>, alloc: Global, out: &mut Layout) -> Result<(), AllocError>
+    ensures { OnOk result (out.new ≡ lay out.old (join (spec.punct 46) (join (spec.word (codes "map")) (spec.enclosed Paren (join (spec.punct 124) (join (spec.word (codes "v")) (join (spec.punct 124) (spec.expr_trees (expr_view body.now.value))))))))) }
+{
+    fixed(out, ". map (| v |")?;
+    expr(body, alloc, out)?;
+    close(out, Delim::Paren)
+}
+
 /// Expressions with commas between them.
 #[cycle(print)]
-fn list(alloc: Global, out: &mut Layout, all: &[Expr<'_>]) -> Result<(), AllocError>
+fn list(all: &[Expr<'_>], alloc: Global, out: &mut Layout) -> Result<(), AllocError>
     ensures { OnOk result (out.new ≡ lay out.old (syntax.spaced spec.comma true (spec.each_expr (exprs_of (map expr_view all.now))))) }
 {
     for (i, one) in all.iter().enumerate() {
         if i > 0 {
             punct(out, ',')?;
         }
-        expr(alloc, out, one)?;
+        expr(one, alloc, out)?;
     }
     Ok(())
 }
 
 /// The same in parentheses.
 #[cycle(print)]
-fn in_parens(alloc: Global, out: &mut Layout, all: &[Expr<'_>]) -> Result<(), AllocError>
+fn in_parens(all: &Seq<Expr<'_>>, alloc: Global, out: &mut Layout) -> Result<(), AllocError>
     ensures { OnOk result (out.new ≡ lay out.old (spec.enclosed Paren (syntax.spaced spec.comma true (spec.each_expr (exprs_of (map expr_view all.now)))))) }
 {
     open(out, Delim::Paren)?;
-    list(alloc, out, all)?;
+    list(all.as_slice(), alloc, out)?;
     close(out, Delim::Paren)
 }
 
-/// Adds `unsafe`, and the expression in braces.
+/// Adds `f(a, b)`.
 #[cycle(print)]
-fn unsafe_block(alloc: Global, out: &mut Layout, inner: &Expr<'_>) -> Result<(), AllocError>
-    ensures { OnOk result (out.new ≡ lay out.old (join (spec.word (codes "unsafe")) (spec.enclosed Brace (spec.expr_trees (expr_view inner.now))))) }
+fn call<'a>(
+    path: &PathExpr<'a>,
+    arguments: &Seq<Expr<'a>>,
+    alloc: Global,
+    out: &mut Layout,
+) -> Result<(), AllocError>
+    ensures { OnOk result (out.new ≡ lay out.old (spec.expr_trees (call (maybe_self_view path.now.qself) (path_view path.now.path) (exprs_of (map expr_view arguments.now))))) }
 {
-    word(out, "unsafe")?;
-    open(out, Delim::Brace)?;
-    expr(alloc, out, inner)?;
-    close(out, Delim::Brace)
+    path_expr(path, alloc, out)?;
+    in_parens(arguments, alloc, out)
 }
 
-/// Adds the arms of a match.
+/// Expressions, each with a comma behind it.
 #[cycle(print)]
-pub fn arms(alloc: Global, out: &mut Layout, all: &[Arm<'_>]) -> Result<(), AllocError>
-    ensures { OnOk result (out.new ≡ lay out.old (spec.arms_trees (arms_of (map arm_view all.now)))) }
+fn ended(all: &[Expr<'_>], alloc: Global, out: &mut Layout) -> Result<(), AllocError>
+    ensures { OnOk result (out.new ≡ lay out.old (spec.ended (spec.each_expr (exprs_of (map expr_view all.now))))) }
 {
     for one in all {
-        arm(alloc, out, one)?;
+        expr(one, alloc, out)?;
+        punct(out, ',')?;
     }
     Ok(())
 }
 
+/// Adds `f(a, b,)`.
 #[cycle(print)]
-fn arm(alloc: Global, out: &mut Layout, tree: &Arm<'_>) -> Result<(), AllocError>
+fn build<'a>(
+    path: &PathExpr<'a>,
+    arguments: &Seq<Expr<'a>>,
+    alloc: Global,
+    out: &mut Layout,
+) -> Result<(), AllocError>
+    ensures { OnOk result (out.new ≡ lay out.old (spec.expr_trees (build (maybe_self_view path.now.qself) (path_view path.now.path) (exprs_of (map expr_view arguments.now))))) }
+{
+    path_expr(path, alloc, out)?;
+    open(out, Delim::Paren)?;
+    ended(arguments.as_slice(), alloc, out)?;
+    close(out, Delim::Paren)
+}
+
+/// Fields with their values, each with a comma behind it.
+#[cycle(print)]
+fn named(all: &[NamedExpr<'_>], alloc: Global, out: &mut Layout) -> Result<(), AllocError>
+    ensures { OnOk result (out.new ≡ lay out.old (spec.ended (spec.each_named_expr (named_exprs_of (map named_expr_view all.now))))) }
+{
+    for one in all {
+        name(out, &one.name)?;
+        punct(out, ':')?;
+        expr(&one.value, alloc, out)?;
+        punct(out, ',')?;
+    }
+    Ok(())
+}
+
+/// Adds `f { x: a, y: b, }`.
+#[cycle(print)]
+fn build_named<'a>(
+    path: &PathExpr<'a>,
+    fields: &Seq<NamedExpr<'a>>,
+    alloc: Global,
+    out: &mut Layout,
+) -> Result<(), AllocError>
+    ensures { OnOk result (out.new ≡ lay out.old (spec.expr_trees (build_named (maybe_self_view path.now.qself) (path_view path.now.path) (named_exprs_of (map named_expr_view fields.now))))) }
+{
+    path_expr(path, alloc, out)?;
+    open(out, Delim::Brace)?;
+    named(fields.as_slice(), alloc, out)?;
+    close(out, Delim::Brace)
+}
+
+/// Adds an expression in a group.
+#[cycle(print)]
+fn enclosed(
+    inner: &Box<Expr<'_>>,
+    delim: Delim,
+    alloc: Global,
+    out: &mut Layout,
+) -> Result<(), AllocError>
+    ensures { OnOk result (out.new ≡ lay out.old (spec.enclosed delim (spec.expr_trees (expr_view inner.now.value)))) }
+{
+    open(out, delim)?;
+    expr(inner, alloc, out)?;
+    close(out, delim)
+}
+
+/// Adds `(tokens)(a)`.
+#[cycle(print)]
+fn opaque_call<'a>(
+    argument: &Box<Expr<'a>>,
+    function: &Opaque<'a>,
+    alloc: Global,
+    out: &mut Layout,
+) -> Result<(), AllocError>
+    ensures { OnOk result (out.new ≡ lay out.old (spec.expr_trees (opaque_call (opaque_view function.now) (expr_view argument.now.value)))) }
+{
+    opaque(out, function)?;
+    enclosed(argument, Delim::Paren, alloc, out)
+}
+
+/// Adds `unsafe { a }`.
+#[cycle(print)]
+fn unsafe_block(inner: &Box<Expr<'_>>, alloc: Global, out: &mut Layout) -> Result<(), AllocError>
+    ensures { OnOk result (out.new ≡ lay out.old (spec.expr_trees (unsafe_expr (expr_view inner.now.value)))) }
+{
+    word(out, "unsafe")?;
+    enclosed(inner, Delim::Brace, alloc, out)
+}
+
+/// Adds the arms of a match.
+#[cycle(print)]
+pub fn arms(all: &[Arm<'_>], alloc: Global, out: &mut Layout) -> Result<(), AllocError>
+    ensures { OnOk result (out.new ≡ lay out.old (spec.arms_trees (arms_of (map arm_view all.now)))) }
+{
+    for one in all {
+        arm(one, alloc, out)?;
+    }
+    Ok(())
+}
+
+/// The same in braces.
+#[cycle(print)]
+fn in_braces(all: &Seq<Arm<'_>>, alloc: Global, out: &mut Layout) -> Result<(), AllocError>
+    ensures { OnOk result (out.new ≡ lay out.old (spec.enclosed Brace (spec.arms_trees (arms_of (map arm_view all.now))))) }
+{
+    open(out, Delim::Brace)?;
+    arms(all.as_slice(), alloc, out)?;
+    close(out, Delim::Brace)
+}
+
+#[cycle(print)]
+fn arm(tree: &Arm<'_>, alloc: Global, out: &mut Layout) -> Result<(), AllocError>
     ensures { OnOk result (out.new ≡ lay out.old (spec.arm_trees (arm_view tree.now))) }
 {
-    patterns(alloc, out, tree.patterns.as_slice())?;
+    patterns(tree.patterns.as_slice(), alloc, out)?;
     if let Some(test) = &tree.guard {
         word(out, "if")?;
-        expr(alloc, out, test)?;
+        expr(test, alloc, out)?;
     }
     joint(out, '=', '>')?;
-    body(alloc, out, &tree.body)?;
+    body(&tree.body, alloc, out)?;
     punct(out, ',')
 }
 
 #[cycle(print)]
-fn body(alloc: Global, out: &mut Layout, tree: &ArmBody<'_>) -> Result<(), AllocError>
+fn body(tree: &ArmBody<'_>, alloc: Global, out: &mut Layout) -> Result<(), AllocError>
     ensures { OnOk result (out.new ≡ lay out.old (spec.body_trees (body_view tree.now))) }
 {
     match tree {
-        ArmBody::Block(inner) => block(alloc, out, inner),
-        ArmBody::Expr(inner) => expr(alloc, out, inner),
+        ArmBody::Block(inner) => block(inner, alloc, out),
+        ArmBody::Expr(inner) => expr(inner, alloc, out),
     }
 }
 
 /// Adds a block.
 #[cycle(print)]
-pub(crate) fn block(alloc: Global, out: &mut Layout, tree: &Block<'_>) -> Result<(), AllocError>
+pub(crate) fn block(tree: &Block<'_>, alloc: Global, out: &mut Layout) -> Result<(), AllocError>
     ensures { OnOk result (out.new ≡ lay out.old (spec.block_trees (block_view tree.now))) }
 {
     open(out, Delim::Brace)?;
-    stmts(alloc, out, tree.stmts.as_slice())?;
+    stmts(tree.stmts.as_slice(), alloc, out)?;
     if let Some(last) = &tree.last {
-        expr(alloc, out, last)?;
+        expr(last, alloc, out)?;
     }
     close(out, Delim::Brace)
 }
 
 #[cycle(print)]
-fn stmts(alloc: Global, out: &mut Layout, all: &[Stmt<'_>]) -> Result<(), AllocError>
-    ensures { OnOk result (LaysStatement out.old (statements (map stmt_view all.now)) out.new) }
+fn stmts(all: &[Stmt<'_>], alloc: Global, out: &mut Layout) -> Result<(), AllocError>
+    ensures { OnOk result (out.new ≡ lay out.old (spec.stmts_trees (stmts_of (map stmt_view all.now)))) }
 {
     for one in all {
-        stmt(alloc, out, one)?;
+        stmt(one, alloc, out)?;
     }
     Ok(())
 }
 
 #[cycle(print)]
-fn stmt(alloc: Global, out: &mut Layout, tree: &Stmt<'_>) -> Result<(), AllocError>
-    ensures { OnOk result (LaysStatement out.old (stmt_view tree.now) out.new) }
+fn stmt(tree: &Stmt<'_>, alloc: Global, out: &mut Layout) -> Result<(), AllocError>
+    ensures { OnOk result (out.new ≡ lay out.old (spec.stmt_trees (stmt_view tree.now))) }
 {
     match tree {
         Stmt::Let(ident, value) => {
             word(out, "let")?;
             name(out, ident)?;
             punct(out, '=')?;
-            expr(alloc, out, value)?;
+            expr(value, alloc, out)?;
             punct(out, ';')
         }
+        Stmt::Check(ty) => check(ty, alloc, out),
+        Stmt::Import(path) => import(path, alloc, out),
         Stmt::Expr(value) => {
-            expr(alloc, out, value)?;
+            expr(value, alloc, out)?;
             punct(out, ';')
         }
+        Stmt::Const(ident, ty, base, number) => constant(ty, ident, base, number, alloc, out),
     }
 }

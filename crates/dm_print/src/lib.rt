@@ -1,12 +1,9 @@
 //! The text of implementations: each part is laid out by its tokens.
 #![tactic(auto)]
 
-pub mod expansion;
+mod attr;
 pub mod expr;
+mod format;
 pub mod item;
-mod param;
-mod path;
 mod pattern;
-pub mod token;
-
-pub use expansion::{Expansion, print_items, with_text};
+mod stmt;

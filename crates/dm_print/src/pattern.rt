@@ -1,16 +1,17 @@
 //! Patterns.
-#![tactic(auto, using(crate::proofs::Laying::print_steps))]
+#![tactic(auto, using(dm_print_types::proofs::Laying::print_steps))]
 
 ghost use Rattle.std.specs.Prelude.{◌≡◌, map, OnOk, true};
 ghost use Rattle.dm_ast.specs.TypeTokens as syntax;
-ghost use Rattle.dm_output.specs.Output.{pattern_view, named_view, patterns_of, named_of};
+ghost use Rattle.dm_output.specs.Output.{patterns_of, named_of};
 ghost use Rattle.dm_output.specs.Tokens as spec;
-ghost use Rattle.dm_print.specs.Laying.{lay};
+ghost use Rattle.dm_output.specs.Views.{pattern_view, named_view};
+ghost use Rattle.dm_print_types.specs.Laying.{lay};
 
-use crate::path::path;
-use crate::token::{close, joint_if, name, open, punct, word};
 use dm_layout::Layout;
 use dm_output::{Binding, NamedPattern, Pattern};
+use dm_print_types::path::path;
+use dm_print_types::token::{close, joint_if, literal, name, open, punct, word};
 use dm_stream::Delim;
 use std::alloc::{AllocError, Global};
 
@@ -28,7 +29,7 @@ fn binding(out: &mut Layout, how: Binding) -> Result<(), AllocError>
 }
 
 #[cycle(pattern)]
-fn pattern(alloc: Global, out: &mut Layout, tree: &Pattern<'_>) -> Result<(), AllocError>
+fn pattern(tree: &Pattern<'_>, alloc: Global, out: &mut Layout) -> Result<(), AllocError>
     ensures { OnOk result (out.new ≡ lay out.old (spec.pattern_trees (pattern_view tree.now))) }
 {
     match tree {
@@ -37,24 +38,26 @@ fn pattern(alloc: Global, out: &mut Layout, tree: &Pattern<'_>) -> Result<(), Al
             binding(out, *how)?;
             name(out, ident)
         }
+        Pattern::Str(text) => literal(out, text),
+        Pattern::Path(of) => path(of, alloc, out),
         Pattern::Tuple(of, fields) => {
-            path(alloc, out, of)?;
+            path(of, alloc, out)?;
             open(out, Delim::Paren)?;
-            ended(alloc, out, fields.as_slice())?;
+            ended(fields.as_slice(), alloc, out)?;
             close(out, Delim::Paren)
         }
         Pattern::Named(of, fields, rest) => {
-            path(alloc, out, of)?;
+            path(of, alloc, out)?;
             open(out, Delim::Brace)?;
-            named(alloc, out, fields.as_slice())?;
+            named(fields.as_slice(), alloc, out)?;
             joint_if(out, *rest, '.', '.')?;
             close(out, Delim::Brace)
         }
         Pattern::Pair(first, second) => {
             open(out, Delim::Paren)?;
-            pattern(alloc, out, first)?;
+            pattern(first, alloc, out)?;
             punct(out, ',')?;
-            pattern(alloc, out, second)?;
+            pattern(second, alloc, out)?;
             close(out, Delim::Paren)
         }
     }
@@ -62,11 +65,11 @@ fn pattern(alloc: Global, out: &mut Layout, tree: &Pattern<'_>) -> Result<(), Al
 
 /// Patterns, each with a comma behind it.
 #[cycle(pattern)]
-fn ended(alloc: Global, out: &mut Layout, all: &[Pattern<'_>]) -> Result<(), AllocError>
+fn ended(all: &[Pattern<'_>], alloc: Global, out: &mut Layout) -> Result<(), AllocError>
     ensures { OnOk result (out.new ≡ lay out.old (spec.ended (spec.each_pattern (patterns_of (map pattern_view all.now))))) }
 {
     for one in all {
-        pattern(alloc, out, one)?;
+        pattern(one, alloc, out)?;
         punct(out, ',')?;
     }
     Ok(())
@@ -74,27 +77,27 @@ fn ended(alloc: Global, out: &mut Layout, all: &[Pattern<'_>]) -> Result<(), All
 
 /// Fields, each with a comma behind it.
 #[cycle(pattern)]
-fn named(alloc: Global, out: &mut Layout, all: &[NamedPattern<'_>]) -> Result<(), AllocError>
+fn named(all: &[NamedPattern<'_>], alloc: Global, out: &mut Layout) -> Result<(), AllocError>
     ensures { OnOk result (out.new ≡ lay out.old (spec.ended (spec.each_named (named_of (map named_view all.now))))) }
 {
     for one in all {
         name(out, &one.name)?;
         punct(out, ':')?;
-        pattern(alloc, out, &one.pattern)?;
+        pattern(&one.pattern, alloc, out)?;
         punct(out, ',')?;
     }
     Ok(())
 }
 
 /// Patterns with `|` between them.
-pub fn patterns(alloc: Global, out: &mut Layout, all: &[Pattern<'_>]) -> Result<(), AllocError>
+pub fn patterns(all: &[Pattern<'_>], alloc: Global, out: &mut Layout) -> Result<(), AllocError>
     ensures { OnOk result (out.new ≡ lay out.old (syntax.spaced (spec.punct 124) true (spec.each_pattern (patterns_of (map pattern_view all.now))))) }
 {
     for (i, one) in all.iter().enumerate() {
         if i > 0 {
             punct(out, '|')?;
         }
-        pattern(alloc, out, one)?;
+        pattern(one, alloc, out)?;
     }
     Ok(())
 }

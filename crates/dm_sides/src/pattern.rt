@@ -1,24 +1,22 @@
-//! The pattern of an operand of a variant, as text.
+//! The pattern of an operand of a case, as text.
 #![tactic(auto, using(crate::proofs::Patterns::pattern_steps))]
 
 ghost use Rattle.std.specs.Prelude.{◌≡◌, map, OnOk};
 ghost use Rattle.dm_stream.specs.Layout.{nowhere};
 ghost use Rattle.dm_stream.specs.Trees.{join};
-ghost use Rattle.dm_ast.specs.Declarations.{declaration_view, field_view};
+ghost use Rattle.dm_ast.specs.Declarations.{declaration_view};
 ghost use Rattle.dm_ast.specs.TypeTokens as syntax;
 ghost use Rattle.dm_output.specs.Output.{patterns_of, named_of};
 ghost use Rattle.dm_output.specs.Tokens as tokens;
-ghost use Rattle.dm_print.specs.Laying.{lay};
+ghost use Rattle.dm_print_types.specs.Laying.{lay};
 ghost use Rattle.dm_operands.specs.Sides as spec;
-ghost use Rattle.dm_operands.specs.Numbered.{binds};
-ghost use Rattle.dm_operands.specs.CaseViews.{case_view, naming};
+ghost use Rattle.dm_operands.specs.CaseViews.{case_view, field_ref_view, naming};
 
 use dm_ast::{DeriveInput, Field};
-use dm_attr::skips::is_skipped;
 use dm_layout::Layout;
-use dm_operands::cases::{CaseRef, FieldsRef, is_enum, some_skipped_field};
+use dm_operands::cases::{CaseRef, FieldRef, Form, is_enum, some_left_out};
 use dm_operands::sides::{Operand, first_name, formatted};
-use dm_print::token::{close, joint, joint_if, name, open, punct, word};
+use dm_print_types::token::{close, joint, joint_if, name, open, punct, word};
 use dm_stream::{Delim, Ident};
 use std::alloc::{AllocError, Global};
 
@@ -59,12 +57,12 @@ fn bindings(
     alloc: Global,
     out: &mut Layout,
     operand: Operand,
-    fields: &[Field<'_>],
+    fields: &[FieldRef<'_, '_>],
 ) -> Result<(), AllocError>
-    ensures { OnOk result (out.new ≡ lay out.old (tokens.ended (tokens.each_pattern (patterns_of (spec.bindings (binds (naming operand)) 0 (map field_view fields.now)))))) }
+    ensures { OnOk result (out.new ≡ lay out.old (tokens.ended (tokens.each_pattern (patterns_of (spec.bindings (naming operand) 0 (map field_ref_view fields.now)))))) }
 {
     for (i, field) in fields.iter().enumerate() {
-        binding(alloc, out, operand, i, is_skipped(field.attrs.as_slice()))?;
+        binding(alloc, out, operand, i, field.left_out)?;
         punct(out, ',')?;
     }
     Ok(())
@@ -98,35 +96,31 @@ fn named_bindings(
     alloc: Global,
     out: &mut Layout,
     operand: Operand,
-    fields: &[Field<'_>],
+    fields: &[FieldRef<'_, '_>],
 ) -> Result<(), AllocError>
-    ensures { OnOk result (out.new ≡ lay out.old (tokens.ended (tokens.each_named (named_of (spec.named_bindings (binds (naming operand)) 0 (map field_view fields.now)))))) }
+    ensures { OnOk result (out.new ≡ lay out.old (tokens.ended (tokens.each_named (named_of (spec.named_bindings (naming operand) 0 (map field_ref_view fields.now)))))) }
 {
     for (i, field) in fields.iter().enumerate() {
-        if !is_skipped(field.attrs.as_slice()) {
-            named_binding(alloc, out, operand, i, field)?;
+        if !field.left_out {
+            named_binding(alloc, out, operand, i, field.field)?;
         }
     }
     Ok(())
 }
 
 /// Adds `Self`, or `Self::V`.
-fn case_path(
-    out: &mut Layout,
-    input: &DeriveInput<'_>,
-    case: &CaseRef<'_, '_>,
-) -> Result<(), AllocError>
-    ensures { OnOk result (out.new ≡ lay out.old (syntax.path_trees nowhere (spec.case_path (declaration_view input.now) (case_view case.now)))) }
+fn case_path(out: &mut Layout, input: &DeriveInput<'_>, ident: &Ident<'_>) -> Result<(), AllocError>
+    ensures { OnOk result (out.new ≡ lay out.old (syntax.path_trees nowhere (spec.case_path (declaration_view input.now) ident.now))) }
 {
     word(out, "Self")?;
     if is_enum(input) {
         joint(out, ':', ':')?;
-        name(out, case.ident)?;
+        name(out, ident)?;
     }
     Ok(())
 }
 
-/// Adds the pattern of an operand that is of this variant.
+/// Adds the pattern of an operand that is of this case.
 pub fn side(
     alloc: Global,
     out: &mut Layout,
@@ -134,25 +128,22 @@ pub fn side(
     input: &DeriveInput<'_>,
     case: &CaseRef<'_, '_>,
 ) -> Result<(), AllocError>
-    ensures { OnOk result (out.new ≡ lay out.old (tokens.pattern_trees (spec.side (binds (naming operand)) (spec.case_path (declaration_view input.now) (case_view case.now)) (case_view case.now).fields))) }
+    ensures { OnOk result (out.new ≡ lay out.old (tokens.pattern_trees (spec.side (naming operand) (declaration_view input.now) (case_view case.now)))) }
 {
-    case_path(out, input, case)?;
-    match case.fields {
-        FieldsRef::Named(all) => {
-            let items = all.items.as_slice();
+    case_path(out, input, case.ident)?;
+    let fields = case.fields.as_slice();
+    match case.form {
+        Form::Named => {
             open(out, Delim::Brace)?;
-            named_bindings(alloc, out, operand, items)?;
-            joint_if(out, some_skipped_field(items), '.', '.')?;
+            named_bindings(alloc, out, operand, fields)?;
+            joint_if(out, some_left_out(fields), '.', '.')?;
             close(out, Delim::Brace)
         }
-        FieldsRef::Unnamed(all) => {
+        Form::Unnamed => {
             open(out, Delim::Paren)?;
-            bindings(alloc, out, operand, all.items.as_slice())?;
+            bindings(alloc, out, operand, fields)?;
             close(out, Delim::Paren)
         }
-        FieldsRef::Unit => {
-            open(out, Delim::Paren)?;
-            close(out, Delim::Paren)
-        }
+        Form::Unit => Ok(()),
     }
 }

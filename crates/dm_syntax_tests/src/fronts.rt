@@ -1,247 +1,162 @@
-ghost use Rattle.dm_stream.specs.Cursors.{sound};
+//! What may stand at the front of a text, and texts that are refused.
 
-use dm_syntax::{Ty, parse_path, parse_predicates, parse_type, type_eq};
-use dm_tokens::{Cursor, Error, Kind, ToTokens, TokenStream, lex, print};
-use std::alloc::{AllocError, Global};
+use crate::texts::{Answer, all_right, is_answer, is_refusal};
+use dm_syntax::{
+    Meta, MetaList, NestedMeta, PathOrKeyword, parse_decl, parse_path, parse_predicates, parse_type,
+};
+use dm_tokens::{Kind, TokenStream, lex};
+use std::alloc::Global;
 
-/// The text of what is left.
-pub(crate) fn left(alloc: Global, c: Cursor<'_, '_>) -> Result<String, AllocError>
-    requires { sound c }
-{
-    let stream = TokenStream::from_cursor(alloc, c)?;
-    print(alloc, &stream)
+/// What may stand at the front of a text, or be a text as a whole.
+#[derive(Clone, Copy)]
+pub(crate) enum Front {
+    Type,
+    Path,
+    Predicates,
+    Word,
+    List,
+    Meta,
+    Nested,
+    Declaration,
 }
 
-/// The text of a value's tokens.
-pub(crate) fn printed<'a, T: ToTokens<'a>>(alloc: Global, value: &T) -> Result<String, AllocError>
-    requires { T.stands value.now }
-{
-    let mut out = TokenStream::new(alloc);
-    value.to_tokens(&mut out)?;
-    print(alloc, &out)
-}
-
-/// The kind and the range of a refusal.
-pub(crate) fn refusal_of(error: Error) -> Option<(Kind, usize, usize)> {
-    match error {
-        Error::NoMemory => None,
-        Error::Refused(refusal) => Some((refusal.kind, refusal.span.start, refusal.span.end)),
+fn reads(stream: &TokenStream<'_>, alloc: Global, front: Front, answer: Answer) -> bool {
+    let c = stream.cursor();
+    match front {
+        Front::Type => is_answer(parse_type(alloc, c), answer),
+        Front::Path => is_answer(parse_path(alloc, c), answer),
+        Front::Predicates => is_answer(parse_predicates(alloc, c), answer),
+        Front::Word => is_answer(PathOrKeyword::parse(alloc, c), answer),
+        Front::List => is_answer(MetaList::parse(alloc, c), answer),
+        Front::Meta => is_answer(Meta::parse(alloc, c), answer),
+        Front::Nested => is_answer(NestedMeta::parse(alloc, c), answer),
+        Front::Declaration => is_answer(parse_decl(alloc, stream), answer),
     }
 }
 
-/// The kind and the range of the refusal of what isn't read.
-fn refused<T: Drop>(read: Result<T, Error>) -> Option<(Kind, usize, usize)> {
-    match read {
-        Ok(_) => None,
-        Err(error) => refusal_of(error),
+/// Whether this is the answer of what is read at the front of a text.
+pub(crate) fn text_answers(alloc: Global, front: Front, text: &str, answer: Answer) -> bool {
+    match lex(alloc, text) {
+        Ok(stream) => reads(&stream, alloc, front, answer),
+        Err(error) => is_refusal(error, answer),
     }
 }
 
-/// The longest type that a text begins with.
-fn ty<'a>(alloc: Global, text: &'a str) -> Result<Ty<'a>, Error> {
-    let stream = lex(alloc, text)?;
-    let (ty, _) = parse_type(alloc, stream.cursor())?;
-    Ok(ty)
+/// The first text at whose front this isn't refused as `Kind::Syntax` at the range beside the text.
+fn first_unrefused<'t>(
+    alloc: Global,
+    front: Front,
+    rows: &[(&'t str, usize, usize)],
+) -> Option<&'t str> {
+    for (text, start, end) in rows.iter().copied() {
+        if !text_answers(
+            alloc,
+            front,
+            text,
+            Answer::RefusedAt(Kind::Syntax, start, end),
+        ) {
+            return Some(text);
+        }
+    }
+    None
 }
 
-/// The text of what that type leaves.
-fn behind_type(alloc: Global, text: &str) -> Result<String, Error> {
-    let stream = lex(alloc, text)?;
-    let (_, rest) = parse_type(alloc, stream.cursor())?;
-    Ok(left(alloc, rest)?)
-}
-
-/// Texts, the longest type that each begins with, and what is left.
-const TYPES: &[(&str, &str, &str)] = &[
-    ("Vec<T>, x", "Vec < T >", ", x"),
-    ("a::b<T>", "a :: b < T >", ""),
-    ("F(u8) -> G, H", "F (u8) -> G", ", H"),
-    ("&'a mut T = x", "& 'a mut T", "= x"),
-    ("dyn A + B; C", "dyn A + B", "; C"),
-    ("& dyn A, B", "& dyn A", ", B"),
-    ("[u8; 3] {}", "[u8 ; 3]", "{ }"),
-    ("! x", "!", "x"),
+/// Texts of no declaration, and the place of the refusal.
+const NO_DECLARATIONS: &[(&str, usize, usize)] = &[
+    ("", 0, 0),
+    ("struct", 6, 6),
+    ("struct S", 8, 8),
+    ("struct 1;", 7, 8),
+    ("struct fn;", 7, 9),
+    ("struct _;", 7, 8),
+    ("struct Self;", 7, 11),
+    ("r#struct S;", 0, 8),
+    ("S;", 0, 1),
+    ("trait S {}", 0, 5),
+    ("struct S;;", 9, 10),
+    ("struct S {};", 11, 12),
+    ("struct S()", 10, 10),
+    ("struct S[u8];", 8, 9),
+    ("struct S { a u8 }", 13, 15),
+    ("struct S { a }", 13, 13),
+    ("struct S { a: }", 14, 14),
+    ("struct S { : u8 }", 11, 12),
+    ("struct S { a: u8 b: u8 }", 17, 18),
+    ("struct S { a: u8,, }", 17, 18),
+    ("struct S { , }", 11, 12),
+    ("struct S { fn: u8 }", 11, 13),
+    ("struct S { _: u8 }", 11, 12),
+    ("struct S { a:: u8 }", 12, 13),
+    ("struct S { a: u8; b: u8 }", 16, 17),
+    ("struct S { pub(a) b: u8 }", 14, 15),
+    ("struct S(u8 u8);", 12, 14),
+    ("struct S(,);", 9, 10),
+    ("struct S(u8,,);", 12, 13),
+    ("struct S(a: u8);", 10, 11),
+    ("struct S(u8) { a: u8 }", 13, 14),
+    ("struct S where { a: u8 } ;", 25, 26),
+    ("pub(a) struct S;", 3, 4),
+    ("pub pub struct S;", 4, 7),
+    ("pub(in) struct S;", 3, 4),
+    ("pub(crate a) struct S;", 3, 4),
+    ("pub(in a b) struct S;", 3, 4),
+    ("pub struct", 10, 10),
+    ("#[] struct S;", 2, 2),
+    ("#[a b] struct S;", 4, 5),
+    ("#[a = ] struct S;", 6, 6),
+    ("#[a() b] struct S;", 6, 7),
+    ("#![a] struct S;", 1, 2),
+    ("# struct S;", 2, 8),
+    ("#[a]", 4, 4),
+    ("enum E", 6, 6),
+    ("enum E;", 6, 7),
+    ("enum E(A);", 6, 7),
+    ("enum E { A B }", 11, 12),
+    ("enum E { A,, }", 11, 12),
+    ("enum E { , }", 9, 10),
+    ("enum E { A = }", 13, 13),
+    ("enum E { A = , B }", 13, 14),
+    ("enum E { A == 1 }", 11, 12),
+    ("enum E { A => 1 }", 11, 12),
+    ("enum E { fn }", 9, 11),
+    ("enum E { A: u8 }", 10, 11),
+    ("union U;", 7, 8),
+    ("union U(u8);", 7, 8),
+    ("union U { a: u8 };", 17, 18),
 ];
 
 #[test]
-fn types(rt: HostRuntime) -> Result<(), Error> {
-    let alloc = rt.alloc();
-    for (text, front, others) in TYPES.iter().copied() {
-        let ty = ty(alloc, text)?;
-        assert!(rt; printed(alloc, &ty)?.as_str() == front);
-        assert!(rt; behind_type(alloc, text)?.as_str() == others);
-    }
-    Ok(())
+fn no_declarations(rt: HostRuntime) {
+    all_right(
+        &rt,
+        first_unrefused(rt.alloc(), Front::Declaration, NO_DECLARATIONS),
+    );
 }
 
 /// Texts that begin with no type, and the range of the refusal.
 const NO_TYPES: &[(&str, usize, usize)] = &[("", 0, 0), (", x", 0, 1), ("3", 0, 1), ("{}", 0, 1)];
 
-#[test]
-fn no_types(rt: HostRuntime) {
-    for (text, start, end) in NO_TYPES.iter().copied() {
-        assert!(rt; refused(ty(rt.alloc(), text)) == Some((Kind::Syntax, start, end)));
-    }
-}
-
-/// So many of a part that opens, `u8`, and so many of one that closes.
-pub(crate) fn nested(
-    alloc: Global,
-    open: &str,
-    close: &str,
-    times: usize,
-) -> Result<String, AllocError> {
-    let mut text = String::new(alloc);
-    for _turn in 0..times {
-        text.push_str(open)?;
-    }
-    text.push_str("u8")?;
-    for _turn in 0..times {
-        text.push_str(close)?;
-    }
-    Ok(text)
-}
+/// Texts that begin with no list.
+const NO_LISTS: &[(&str, usize, usize)] = &[("", 0, 0), ("a, b", 0, 1), ("(a)", 0, 3)];
 
 #[test]
-fn levels(rt: HostRuntime) -> Result<(), AllocError> {
+fn no_fronts(rt: HostRuntime) {
     let alloc = rt.alloc();
-    let text = nested(alloc, "&", "", 128)?;
-    assert!(rt; ty(alloc, text.as_str()).is_ok());
-    let deep = nested(alloc, "&", "", 129)?;
-    assert!(rt; refused(ty(alloc, deep.as_str())) == Some((Kind::TooDeep, 129, 131)));
-    Ok(())
-}
-
-/// The number of segments of the longest path that a text begins with, its text, and the text of what it leaves.
-fn path(alloc: Global, text: &str) -> Result<(usize, String, String), Error> {
-    let stream = lex(alloc, text)?;
-    let (path, rest) = parse_path(alloc, stream.cursor())?;
-    let front = printed(alloc, &path)?;
-    Ok((path.segments.len(), front, left(alloc, rest)?))
-}
-
-#[test]
-fn path_levels(rt: HostRuntime) -> Result<(), AllocError> {
-    let alloc = rt.alloc();
-    assert!(rt; path(alloc, nested(alloc, "a<", ">", 128)?.as_str()).is_ok());
-    let refusal = refused(path(alloc, nested(alloc, "a<", ">", 129)?.as_str()));
-    assert!(rt; refusal == Some((Kind::TooDeep, 258, 260)));
-    Ok(())
-}
-
-/// Texts, the number of segments of the longest path that each begins with, its tokens, and what is left.
-const PATHS: &[(&str, usize, &str, &str)] = &[
-    ("a::b<T>", 2, "a :: b < T >", ""),
-    ("a(u8)", 1, "a", "(u8)"),
-    ("::a::<T> (u8), c", 1, ":: a :: < T >", "(u8) , c"),
-    ("a<F(u8) -> G> = b", 1, "a < F (u8) -> G >", "= b"),
-    ("crate::a!()", 2, "crate :: a", "! ()"),
-];
-
-#[test]
-fn paths(rt: HostRuntime) -> Result<(), Error> {
-    let alloc = rt.alloc();
-    for (text, count, front, others) in PATHS.iter().copied() {
-        let (segments, path, rest) = path(alloc, text)?;
-        assert!(rt; segments == count);
-        assert!(rt; path.as_str() == front && rest.as_str() == others);
-    }
-    Ok(())
-}
-
-#[test]
-fn no_path(rt: HostRuntime) {
-    assert!(rt; refused(path(rt.alloc(), "fn a")) == Some((Kind::Syntax, 0, 2)));
-}
-
-/// How many predicates a text is.
-fn predicates_of(alloc: Global, text: &str) -> Result<usize, Error> {
-    let stream = lex(alloc, text)?;
-    let found = parse_predicates(alloc, stream.cursor())?;
-    Ok(found.items.len())
-}
-
-/// Predicates, and how many each text has.
-const PREDICATES: &[(&str, usize)] = &[
-    ("T: X, 'a: 'b", 2),
-    ("", 0),
-    ("T: X,", 1),
-    ("for<'a> T: X<'a> + 'a", 1),
-];
-
-#[test]
-fn predicates(rt: HostRuntime) -> Result<(), Error> {
-    for (text, want) in PREDICATES.iter().copied() {
-        assert!(rt; predicates_of(rt.alloc(), text)? == want);
-    }
-    Ok(())
+    all_right(&rt, first_unrefused(alloc, Front::Type, NO_TYPES));
+    all_right(&rt, first_unrefused(alloc, Front::Path, &[("fn a", 0, 2)]));
+    all_right(&rt, first_unrefused(alloc, Front::List, NO_LISTS));
+    all_right(&rt, first_unrefused(alloc, Front::Word, &[(",", 0, 1)]));
+    all_right(&rt, first_unrefused(alloc, Front::Meta, &[(",", 0, 1)]));
+    all_right(&rt, first_unrefused(alloc, Front::Nested, &[(",", 0, 1)]));
 }
 
 #[test]
 fn no_predicates(rt: HostRuntime) {
     for text in [",", "T: X = 1", "T X"] {
-        match refused(predicates_of(rt.alloc(), text)) {
-            Some((kind, _, _)) => assert!(rt; kind == Kind::Syntax),
-            None => assert!(rt; false),
-        }
+        let answer = Answer::Refused(Kind::Syntax);
+        assert!(rt;
+            text_answers(rt.alloc(), Front::Predicates, text, answer),
+            "{text}"
+        );
     }
-}
-
-/// A predicate of a type behind so many `&`.
-fn referred(alloc: Global, times: usize) -> Result<String, AllocError> {
-    let mut text = nested(alloc, "&", "", times)?;
-    text.push_str(": A")?;
-    Ok(text)
-}
-
-#[test]
-fn predicate_levels(rt: HostRuntime) -> Result<(), AllocError> {
-    let alloc = rt.alloc();
-    assert!(rt; predicates_of(alloc, referred(alloc, 128)?.as_str()).is_ok());
-    let refusal = refused(predicates_of(alloc, referred(alloc, 129)?.as_str()));
-    assert!(rt; refusal == Some((Kind::TooDeep, 129, 131)));
-    Ok(())
-}
-
-/// Two types, and whether they are spelled alike.
-const PAIRS: &[(&str, &str, bool)] = &[
-    ("a::b<T>", "a :: b < T >", true),
-    ("Vec<Vec<T>>", "Vec<Vec<T> >", true),
-    ("Vec<T>", "Vec<U>", false),
-    ("Vec<T>", "Vec<T,>", false),
-    ("a::<b>", "a<b>", false),
-    ("r#a", "a", false),
-    ("(a)", "(a,)", false),
-    ("(a, b)", "(a, b,)", false),
-    ("(a, b,)", "( a , b , )", true),
-    ("[u8; 1 + 2]", "[u8; 1+2]", true),
-    ("[u8; a << b]", "[u8; a < < b]", false),
-    ("[u8; 3]", "[u8; 4]", false),
-    ("[u8]", "[u8; 3]", false),
-    ("&T", "&'a T", false),
-    ("&'a mut T", "&'a mut T", true),
-    ("*const T", "*mut T", false),
-    ("fn(x: A)", "fn(A)", false),
-    ("fn(A) -> B", "fn(A)", false),
-    ("F(A) -> B", "F(A) -> B", true),
-    ("dyn A + B", "dyn A + B", true),
-    ("dyn A", "impl A", false),
-    ("m!(a)", "m![a]", false),
-    ("<A as B>::C", "<A>::B::C", false),
-    ("a<B = C>", "a<B: C>", false),
-    ("a<{ 1 }>", "a<{ 1 }>", true),
-    ("_", "!", false),
-];
-
-#[test]
-fn pairs(rt: HostRuntime) -> Result<(), Error> {
-    let alloc = rt.alloc();
-    for (one, other, want) in PAIRS.iter().copied() {
-        let a = ty(alloc, one)?;
-        let b = ty(alloc, other)?;
-        assert!(rt; type_eq(&a, &b) == want);
-        assert!(rt; type_eq(&b, &a) == want);
-        assert!(rt; type_eq(&a, &a));
-    }
-    Ok(())
 }

@@ -1,51 +1,37 @@
+//! Declarations that are read, and come back as they were written.
+
+use crate::fronts::{Front, text_answers};
+use crate::texts::{Answer, Claim, Prints, all_right, is_made, is_printed};
 use dm_syntax::{CloneIn, DeriveInput, parse_decl};
-use dm_tokens::{Error, Kind, ToTokens, TokenStream, lex, print};
+use dm_tokens::{Kind, lex};
 use std::alloc::{AllocError, Global};
 
-fn read<'a>(alloc: Global, text: &'a str) -> Result<DeriveInput<'a>, Error> {
-    let stream = lex(alloc, text)?;
-    parse_decl(alloc, &stream)
+/// A declaration and a copy of it are printed so.
+#[derive(Clone, Copy)]
+struct ComesBack<'w>(&'w str);
+
+impl<'a, 'w> Claim<DeriveInput<'a>> for ComesBack<'w> {
+    fn is_true(value: &DeriveInput<'a>, alloc: Global, claim: &ComesBack<'w>) -> bool {
+        is_printed(value, alloc, claim.0) && is_made(value.clone_in(alloc), alloc, &Prints(claim.0))
+    }
 }
 
-/// The text of a declaration's tokens.
-fn written(alloc: Global, input: &DeriveInput<'_>) -> Result<String, AllocError> {
-    let mut out = TokenStream::new(alloc);
-    input.to_tokens(&mut out)?;
-    print(alloc, &out)
+/// Whether a text is read, and its declaration and a copy of it are printed so.
+fn is_declaration(alloc: Global, text: &str, wanted: &str) -> bool {
+    match lex(alloc, text) {
+        Ok(stream) => is_made(parse_decl(alloc, &stream), alloc, &ComesBack(wanted)),
+        Err(_) => false,
+    }
 }
 
-/// The text of a copy's tokens.
-fn copied(alloc: Global, input: &DeriveInput<'_>) -> Result<String, AllocError> {
-    let copy = input.clone_in(alloc)?;
-    written(alloc, &copy)
-}
-
-/// Whether the text is read, and its declaration and a copy of it have the text's tokens.
-fn is_read(alloc: Global, text: &str) -> Result<bool, Error> {
-    let input = read(alloc, text)?;
-    let found = written(alloc, &input)?;
-    let again = copied(alloc, &input)?;
-    Ok(found.as_str() == text && again.as_str() == text)
-}
-
-/// The first text for which `is_read` is false.
-fn first_unread<'t>(alloc: Global, texts: &[&'t str]) -> Result<Option<&'t str>, Error> {
+/// The first text that doesn't come back.
+fn first_other<'t>(alloc: Global, texts: &[&'t str]) -> Option<&'t str> {
     for text in texts.iter().copied() {
-        if !is_read(alloc, text)? {
-            return Ok(Some(text));
+        if !is_declaration(alloc, text, text) {
+            return Some(text);
         }
     }
-    Ok(None)
-}
-
-/// The kind and the range of the refusal of a text.
-fn refused(alloc: Global, text: &str) -> Option<(Kind, usize, usize)> {
-    match read(alloc, text) {
-        Err(Error::Refused(refusal)) => {
-            Some((refusal.kind, refusal.span.start, refusal.span.end))
-        }
-        Err(Error::NoMemory) | Ok(_) => None,
-    }
+    None
 }
 
 /// Declarations, spaced as tokens are printed.
@@ -94,18 +80,6 @@ const ITEMS: &[&str] = &[
     "union U { a : u8 , b : u16 , }",
     "union U < T > where T : Copy { a : T }",
     "union union { a : u8 }",
-];
-
-/// Discriminants whose last punct is joint to what follows, and the declaration's text, in which it isn't.
-const ENDS: &[(&str, &str)] = &[
-    ("enum E { A = x+, B }", "enum E { A = x + , B }"),
-    ("enum E { A = x+-, B }", "enum E { A = x +- , B }"),
-    ("enum E { A = +,}", "enum E { A = + , }"),
-    (
-        "enum E { A = x +, B = y*,}",
-        "enum E { A = x + , B = y * , }",
-    ),
-    ("enum E { A = (x) +=, B }", "enum E { A = (x) += , B }"),
 ];
 
 /// Attributes in each place, and in each form.
@@ -173,6 +147,48 @@ const GENERICS: &[&str] = &[
     "enum E < T > where T : A { B (T) }",
     "enum E where { }",
 ];
+
+#[test]
+fn declarations(rt: HostRuntime) {
+    all_right(&rt, first_other(rt.alloc(), ITEMS));
+    all_right(&rt, first_other(rt.alloc(), ATTRIBUTES));
+    all_right(&rt, first_other(rt.alloc(), GENERICS));
+}
+
+/// Discriminants whose last punct is joint to what follows, and the declaration's text, in which it isn't.
+const ENDS: &[(&str, &str)] = &[
+    ("enum E { A = x+, B }", "enum E { A = x + , B }"),
+    ("enum E { A = x+-, B }", "enum E { A = x +- , B }"),
+    ("enum E { A = +,}", "enum E { A = + , }"),
+    (
+        "enum E { A = x +, B = y*,}",
+        "enum E { A = x + , B = y * , }",
+    ),
+    ("enum E { A = (x) +=, B }", "enum E { A = (x) += , B }"),
+];
+
+#[test]
+fn ends(rt: HostRuntime) {
+    for (text, wanted) in ENDS.iter().copied() {
+        assert!(rt; is_declaration(rt.alloc(), text, wanted), "{text}");
+    }
+}
+
+#[test]
+fn spaces(rt: HostRuntime) {
+    let text = "struct P<T: ?::S<u8> + 'a = U>(T,) where T: 'a;";
+    let wanted = "struct P < T : ? :: S < u8 > + 'a = U > (T ,) where T : 'a ;";
+    assert!(rt; is_declaration(rt.alloc(), text, wanted));
+}
+
+/// `struct S { a : TYPE }`.
+fn with_field(alloc: Global, ty: &str) -> Result<String, AllocError> {
+    let mut text = String::new(alloc);
+    text.push_str("struct S { a : ")?;
+    text.push_str(ty)?;
+    text.push_str(" }")?;
+    Ok(text)
+}
 
 /// Types, each as the type of a field.
 const TYPES: &[&str] = &[
@@ -281,135 +297,18 @@ const TYPES: &[&str] = &[
     "union",
 ];
 
-#[test]
-fn declarations(rt: HostRuntime) -> Result<(), Error> {
-    assert_eq!(rt; first_unread(rt.alloc(), ITEMS)?, None);
-    assert_eq!(rt; first_unread(rt.alloc(), ATTRIBUTES)?, None);
-    assert_eq!(rt; first_unread(rt.alloc(), GENERICS)?, None);
-    Ok(())
-}
-
-#[test]
-fn ends(rt: HostRuntime) -> Result<(), Error> {
-    let alloc = rt.alloc();
-    for (text, wanted) in ENDS.iter().copied() {
-        let input = read(alloc, text)?;
-        assert!(rt; written(alloc, &input)?.as_str() == wanted);
+fn is_field(alloc: Global, ty: &str) -> bool {
+    match with_field(alloc, ty) {
+        Ok(text) => is_declaration(alloc, text.as_str(), text.as_str()),
+        Err(AllocError) => false,
     }
-    Ok(())
-}
-
-/// `struct S { a : TYPE }`.
-fn with_field(alloc: Global, ty: &str) -> Result<String, AllocError> {
-    let mut text = String::new(alloc);
-    text.push_str("struct S { a : ")?;
-    text.push_str(ty)?;
-    text.push_str(" }")?;
-    Ok(text)
 }
 
 #[test]
-fn types(rt: HostRuntime) -> Result<(), Error> {
-    let alloc = rt.alloc();
+fn types(rt: HostRuntime) {
     for ty in TYPES.iter().copied() {
-        let text = with_field(alloc, ty)?;
-        assert!(rt; is_read(alloc, text.as_str())?);
+        assert!(rt; is_field(rt.alloc(), ty), "{ty}");
     }
-    Ok(())
-}
-
-/// Texts of no declaration, and the place of the refusal.
-const NONE: &[(&str, usize, usize)] = &[
-    ("", 0, 0),
-    ("struct", 6, 6),
-    ("struct S", 8, 8),
-    ("struct 1;", 7, 8),
-    ("struct fn;", 7, 9),
-    ("struct _;", 7, 8),
-    ("struct Self;", 7, 11),
-    ("r#struct S;", 0, 8),
-    ("S;", 0, 1),
-    ("trait S {}", 0, 5),
-    ("struct S;;", 9, 10),
-    ("struct S {};", 11, 12),
-    ("struct S()", 10, 10),
-    ("struct S[u8];", 8, 9),
-    ("struct S { a u8 }", 13, 15),
-    ("struct S { a }", 13, 13),
-    ("struct S { a: }", 14, 14),
-    ("struct S { : u8 }", 11, 12),
-    ("struct S { a: u8 b: u8 }", 17, 18),
-    ("struct S { a: u8,, }", 17, 18),
-    ("struct S { , }", 11, 12),
-    ("struct S { fn: u8 }", 11, 13),
-    ("struct S { _: u8 }", 11, 12),
-    ("struct S { a:: u8 }", 12, 13),
-    ("struct S { a: u8; b: u8 }", 16, 17),
-    ("struct S { pub(a) b: u8 }", 14, 15),
-    ("struct S(u8 u8);", 12, 14),
-    ("struct S(,);", 9, 10),
-    ("struct S(u8,,);", 12, 13),
-    ("struct S(a: u8);", 10, 11),
-    ("struct S(u8) { a: u8 }", 13, 14),
-    ("struct S where { a: u8 } ;", 25, 26),
-    ("pub(a) struct S;", 3, 4),
-    ("pub pub struct S;", 4, 7),
-    ("pub(in) struct S;", 3, 4),
-    ("pub(crate a) struct S;", 3, 4),
-    ("pub(in a b) struct S;", 3, 4),
-    ("pub struct", 10, 10),
-    ("#[] struct S;", 2, 2),
-    ("#[a b] struct S;", 4, 5),
-    ("#[a = ] struct S;", 6, 6),
-    ("#[a() b] struct S;", 6, 7),
-    ("#![a] struct S;", 1, 2),
-    ("# struct S;", 2, 8),
-    ("#[a]", 4, 4),
-    ("enum E", 6, 6),
-    ("enum E;", 6, 7),
-    ("enum E(A);", 6, 7),
-    ("enum E { A B }", 11, 12),
-    ("enum E { A,, }", 11, 12),
-    ("enum E { , }", 9, 10),
-    ("enum E { A = }", 13, 13),
-    ("enum E { A = , B }", 13, 14),
-    ("enum E { A == 1 }", 11, 12),
-    ("enum E { A => 1 }", 11, 12),
-    ("enum E { fn }", 9, 11),
-    ("enum E { A: u8 }", 10, 11),
-    ("union U;", 7, 8),
-    ("union U(u8);", 7, 8),
-    ("union U { a: u8 };", 17, 18),
-];
-
-#[test]
-fn refusals(rt: HostRuntime) {
-    for (text, start, end) in NONE.iter().copied() {
-        assert!(rt; refused(rt.alloc(), text) == Some((Kind::Syntax, start, end)));
-    }
-}
-
-/// The keywords, none of which is a name.
-const KEYWORDS: &[&str] = &[
-    "abstract", "as", "async", "await", "become", "box", "break", "const", "continue", "crate",
-    "do", "dyn", "else", "enum", "extern", "false", "final", "fn", "for", "if", "impl", "in",
-    "let", "loop", "macro", "match", "mod", "move", "mut", "override", "priv", "pub", "ref",
-    "return", "Self", "self", "static", "struct", "super", "trait", "true", "try", "type",
-    "typeof", "unsafe", "unsized", "use", "virtual", "where", "while", "yield",
-];
-
-#[test]
-fn keywords(rt: HostRuntime) -> Result<(), AllocError> {
-    let alloc = rt.alloc();
-    for word in KEYWORDS.iter().copied() {
-        let mut text = String::new(alloc);
-        text.push_str("struct ")?;
-        text.push_str(word)?;
-        text.push_str(";")?;
-        let end = text.len().saturating_sub(1);
-        assert!(rt; refused(alloc, text.as_str()) == Some((Kind::Syntax, 7, end)));
-    }
-    Ok(())
 }
 
 /// Texts of no type.
@@ -488,127 +387,55 @@ const NO_TYPES: &[&str] = &[
     "typeof (u8)",
 ];
 
-#[test]
-fn no_types(rt: HostRuntime) -> Result<(), AllocError> {
-    let alloc = rt.alloc();
-    for ty in NO_TYPES.iter().copied() {
-        let text = with_field(alloc, ty)?;
-        match refused(alloc, text.as_str()) {
-            Some((kind, _, _)) => assert!(rt; kind == Kind::Syntax),
-            None => assert!(rt; false),
+fn is_no_field(alloc: Global, ty: &str) -> bool {
+    match with_field(alloc, ty) {
+        Ok(text) => {
+            let answer = Answer::Refused(Kind::Syntax);
+            text_answers(alloc, Front::Declaration, text.as_str(), answer)
         }
+        Err(AllocError) => false,
     }
-    Ok(())
-}
-
-fn push_times(text: &mut String, part: &str, times: usize) -> Result<(), AllocError> {
-    for _turn in 0..times {
-        text.push_str(part)?;
-    }
-    Ok(())
-}
-
-/// `struct S(OPEN.. u8 CLOSE..);`, and where `u8` stands.
-fn nested(
-    alloc: Global,
-    open: &str,
-    close: &str,
-    times: usize,
-) -> Result<(String, usize), AllocError> {
-    let mut text = String::new(alloc);
-    text.push_str("struct S(")?;
-    push_times(&mut text, open, times)?;
-    let place = text.len();
-    text.push_str("u8")?;
-    push_times(&mut text, close, times)?;
-    text.push_str(");")?;
-    Ok((text, place))
-}
-
-/// What a type may be nested in, how often for `u8` to stand at level 128, and which token is the first to stand too deep
-/// where it is nested once more: how far before `u8` it begins, and its length.
-const NESTS: &[(&str, &str, usize, usize, usize)] = &[
-    ("&", "", 127, 0, 2),
-    ("& mut ", "", 127, 4, 3),
-    ("*const ", "", 127, 6, 5),
-    ("*mut ", "", 127, 4, 3),
-    ("[", "]", 127, 0, 2),
-    ("(", ")", 127, 0, 2),
-    ("(", ",)", 127, 0, 2),
-    ("a<", ">", 127, 0, 2),
-    ("a::<", ">", 127, 0, 2),
-    ("a<B = ", ">", 127, 4, 1),
-    ("<", ">::a", 127, 0, 2),
-    ("F(", ")", 127, 0, 2),
-    ("fn(", ")", 63, 0, 2),
-    ("fn() -> ", "", 127, 6, 1),
-    ("F() -> ", "", 127, 0, 2),
-    ("dyn A<", ">", 63, 0, 2),
-    ("impl A<", ">", 63, 0, 2),
-];
-
-#[test]
-fn levels(rt: HostRuntime) -> Result<(), AllocError> {
-    let alloc = rt.alloc();
-    for (open, close, times, before, length) in NESTS.iter().copied() {
-        let (text, _) = nested(alloc, open, close, times)?;
-        assert!(rt; read(alloc, text.as_str()).is_ok());
-        let (deep, place) = nested(alloc, open, close, times.saturating_add(1))?;
-        let start = place.saturating_sub(before);
-        let end = start.saturating_add(length);
-        assert!(rt; refused(alloc, deep.as_str()) == Some((Kind::TooDeep, start, end)));
-    }
-    Ok(())
-}
-
-/// The text before a type, the type and the text behind it; how many `&` before the type bring a token of it to level 128, and
-/// which token is the first to stand too deep behind one more: where in the type it begins, and its length.
-const PARTS: &[(&str, &str, &str, usize, usize, usize)] = &[
-    ("struct S<T = ", "u8", ">;", 127, 0, 2),
-    ("struct S where ", "u8", ": A;", 128, 0, 2),
-    ("struct S(", "for<'a> fn()", ");", 126, 4, 2),
-    ("struct S(", "dyn for<'a> A", ");", 125, 8, 2),
-    ("struct S(", "dyn (A)", ");", 125, 5, 1),
-    ("struct S(", "a<B: (C)>", ");", 125, 6, 1),
-    ("struct S(", "[u8; (1)]", ");", 125, 6, 1),
-    ("struct S(", "a<{1}>", ");", 125, 3, 1),
-    ("struct S(", "a<B = {1}>", ");", 125, 7, 1),
-    ("struct S(", "m!(1)", ");", 126, 3, 1),
-    ("struct S(", "m![1]", ");", 126, 3, 1),
-    ("struct S(", "fn(#[a(1)] u8)", ");", 123, 7, 1),
-    ("struct S(", "fn(#[a = (1)] u8)", ");", 123, 10, 1),
-];
-
-/// The text of such a row with so many `&`, and where the type begins.
-fn behind(
-    alloc: Global,
-    front: &str,
-    ty: &str,
-    back: &str,
-    times: usize,
-) -> Result<(String, usize), AllocError> {
-    let mut text = String::new(alloc);
-    text.push_str(front)?;
-    push_times(&mut text, "&", times)?;
-    let place = text.len();
-    text.push_str(ty)?;
-    text.push_str(back)?;
-    Ok((text, place))
 }
 
 #[test]
-fn part_levels(rt: HostRuntime) -> Result<(), AllocError> {
-    let alloc = rt.alloc();
-    for (front, ty, back, times, at, length) in PARTS.iter().copied() {
-        let (text, _) = behind(alloc, front, ty, back, times)?;
-        assert!(rt; read(alloc, text.as_str()).is_ok(), "{ty}");
-        let (deep, place) = behind(alloc, front, ty, back, times.saturating_add(1))?;
-        let start = place.saturating_add(at);
-        let end = start.saturating_add(length);
-        assert!(rt;
-            refused(alloc, deep.as_str()) == Some((Kind::TooDeep, start, end)),
-            "{ty}"
-        );
+fn no_types(rt: HostRuntime) {
+    for ty in NO_TYPES.iter().copied() {
+        assert!(rt; is_no_field(rt.alloc(), ty), "{ty}");
     }
-    Ok(())
+}
+
+/// The keywords, none of which is a name.
+const KEYWORDS: &[&str] = &[
+    "abstract", "as", "async", "await", "become", "box", "break", "const", "continue", "crate",
+    "do", "dyn", "else", "enum", "extern", "false", "final", "fn", "for", "if", "impl", "in",
+    "let", "loop", "macro", "match", "mod", "move", "mut", "override", "priv", "pub", "ref",
+    "return", "Self", "self", "static", "struct", "super", "trait", "true", "try", "type",
+    "typeof", "unsafe", "unsized", "use", "virtual", "where", "while", "yield",
+];
+
+/// `struct NAME;`.
+fn with_name(alloc: Global, name: &str) -> Result<String, AllocError> {
+    let mut text = String::new(alloc);
+    text.push_str("struct ")?;
+    text.push_str(name)?;
+    text.push_str(";")?;
+    Ok(text)
+}
+
+fn is_no_name(alloc: Global, word: &str) -> bool {
+    match with_name(alloc, word) {
+        Ok(text) => {
+            let end = word.len().saturating_add(7);
+            let answer = Answer::RefusedAt(Kind::Syntax, 7, end);
+            text_answers(alloc, Front::Declaration, text.as_str(), answer)
+        }
+        Err(AllocError) => false,
+    }
+}
+
+#[test]
+fn keywords(rt: HostRuntime) {
+    for word in KEYWORDS.iter().copied() {
+        assert!(rt; is_no_name(rt.alloc(), word), "{word}");
+    }
 }

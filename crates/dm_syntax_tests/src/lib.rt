@@ -6,12 +6,14 @@ mod fronts;
 #[cfg(test)]
 mod grammar;
 #[cfg(test)]
+mod levels;
+#[cfg(test)]
 mod metas;
 #[cfg(test)]
 mod names;
 #[cfg(test)]
-mod searches;
-#[cfg(test)]
-mod tokens;
+mod texts;
 #[cfg(test)]
 mod trees;
+#[cfg(test)]
+mod types;

@@ -1,9 +1,14 @@
-use crate::fronts::{left, nested as deep_path, printed, refusal_of};
+//! Metas at the front of a text.
+
+ghost use Rattle.dm_stream.specs.Cursors.{sound};
+
+use crate::texts::{Claim, Prints, is_front, is_made, is_printed, is_read};
+use dm_input::join::joined;
 use dm_syntax::{
     ArgReader, Meta, MetaList, NestedMeta, Path, PathOrKeyword, parse_path, tokens_come_back,
 };
 use dm_tokens::{Cursor, Error, Kind, Refusal, lex};
-use std::alloc::{AllocError, Global};
+use std::alloc::Global;
 
 /// Texts, whether each begins with a keyword, the tokens of the path or keyword, the one name that it is, and what is left.
 const WORDS: &[(&str, bool, &str, Option<&str>, &str)] = &[
@@ -24,33 +29,82 @@ fn is_keyword(word: &PathOrKeyword<'_>) -> bool {
     }
 }
 
-#[test]
-fn words(rt: HostRuntime) -> Result<(), Error> {
-    let alloc = rt.alloc();
-    for (text, keyword, tokens, name, others) in WORDS.iter().copied() {
-        let stream = lex(alloc, text)?;
-        let (word, rest) = PathOrKeyword::parse(alloc, stream.cursor())?;
-        assert!(rt; is_keyword(&word) == keyword);
-        assert!(rt; left(alloc, rest)?.as_str() == others);
-        let copy = word.clone_in(alloc)?;
-        assert!(rt; printed(alloc, &copy)?.as_str() == tokens);
-        match name {
-            Some(name) => assert!(rt; word.is_ident(name) && !word.is_ident("other")),
-            None => assert!(rt; word.get_ident().is_none()),
-        }
+fn has_name(word: &PathOrKeyword<'_>, name: Option<&str>) -> bool {
+    match name {
+        Some(name) => word.is_ident(name) && !word.is_ident("other"),
+        None => word.get_ident().is_none(),
     }
-    Ok(())
+}
+
+/// Whether it is a keyword, the one name that it is, and the tokens of a copy.
+#[derive(Clone, Copy)]
+struct Word<'w> {
+    keyword: bool,
+    name: Option<&'w str>,
+    tokens: &'w str,
+}
+
+impl<'a, 'w> Claim<PathOrKeyword<'a>> for Word<'w> {
+    fn is_true(value: &PathOrKeyword<'a>, alloc: Global, claim: &Word<'w>) -> bool {
+        is_keyword(value) == claim.keyword
+            && has_name(value, claim.name)
+            && is_made(value.clone_in(alloc), alloc, &Prints(claim.tokens))
+    }
+}
+
+fn begins_with_word(
+    alloc: Global,
+    text: &str,
+    keyword: bool,
+    tokens: &str,
+    name: Option<&str>,
+    others: &str,
+) -> bool {
+    match lex(alloc, text) {
+        Ok(stream) => {
+            let c = stream.cursor();
+            let claim = Word {
+                keyword,
+                name,
+                tokens,
+            };
+            is_front(c, PathOrKeyword::parse(alloc, c), alloc, &claim, others)
+        }
+        Err(_) => false,
+    }
 }
 
 #[test]
-fn keyword_as_path(rt: HostRuntime) -> Result<(), Error> {
-    let alloc = rt.alloc();
-    let stream = lex(alloc, "ref")?;
-    let (word, _) = PathOrKeyword::parse(alloc, stream.cursor())?;
-    let path = word.into_path(alloc)?;
-    assert!(rt; path.segments.len() == 1);
-    assert!(rt; printed(alloc, &path)?.as_str() == "ref");
-    Ok(())
+fn words(rt: HostRuntime) {
+    for (text, keyword, tokens, name, others) in WORDS.iter().copied() {
+        let is_right = begins_with_word(rt.alloc(), text, keyword, tokens, name, others);
+        assert!(rt; is_right, "{text}");
+    }
+}
+
+/// A path has one segment, and is printed so.
+#[derive(Clone, Copy)]
+struct IsSegment<'w>(&'w str);
+
+impl<'a, 'w> Claim<Path<'a>> for IsSegment<'w> {
+    fn is_true(value: &Path<'a>, alloc: Global, claim: &IsSegment<'w>) -> bool {
+        value.segments.len() == 1 && is_printed(value, alloc, claim.0)
+    }
+}
+
+fn is_keyword_path(alloc: Global, keyword: &str) -> bool {
+    match lex(alloc, keyword) {
+        Ok(stream) => match PathOrKeyword::parse(alloc, stream.cursor()) {
+            Ok((word, _)) => is_made(word.into_path(alloc), alloc, &IsSegment(keyword)),
+            Err(_) => false,
+        },
+        Err(_) => false,
+    }
+}
+
+#[test]
+fn keyword_as_path(rt: HostRuntime) {
+    assert!(rt; is_keyword_path(rt.alloc(), "ref"));
 }
 
 /// Texts, whether each begins with a list, the tokens of the meta, and what is left.
@@ -62,137 +116,118 @@ const METAS: &[(&str, bool, &str, &str)] = &[
     ("fn", false, "fn", ""),
 ];
 
-#[test]
-fn metas(rt: HostRuntime) -> Result<(), Error> {
-    let alloc = rt.alloc();
-    for (text, list, tokens, others) in METAS.iter().copied() {
-        let stream = lex(alloc, text)?;
-        let (meta, rest) = Meta::parse(alloc, stream.cursor())?;
-        match &meta {
-            Meta::Path(_) => assert!(rt; !list),
-            Meta::List(_) => assert!(rt; list),
+fn is_list(meta: &Meta<'_>) -> bool {
+    match meta {
+        Meta::Path(_) => false,
+        Meta::List(_) => true,
+    }
+}
+
+/// Whether it is a list, and the tokens of a copy.
+#[derive(Clone, Copy)]
+struct IsMeta<'w>(bool, &'w str);
+
+impl<'a, 'w> Claim<Meta<'a>> for IsMeta<'w> {
+    fn is_true(value: &Meta<'a>, alloc: Global, claim: &IsMeta<'w>) -> bool {
+        is_list(value) == claim.0 && is_made(value.clone_in(alloc), alloc, &Prints(claim.1))
+    }
+}
+
+fn begins_with_meta(alloc: Global, text: &str, list: bool, tokens: &str, others: &str) -> bool {
+    match lex(alloc, text) {
+        Ok(stream) => {
+            let c = stream.cursor();
+            let claim = IsMeta(list, tokens);
+            is_front(c, Meta::parse(alloc, c), alloc, &claim, others)
         }
-        assert!(rt; left(alloc, rest)?.as_str() == others);
-        let copy = meta.clone_in(alloc)?;
-        assert!(rt; printed(alloc, &copy)?.as_str() == tokens);
+        Err(_) => false,
+    }
+}
+
+#[test]
+fn metas(rt: HostRuntime) {
+    for (text, list, tokens, others) in METAS.iter().copied() {
+        assert!(rt;
+            begins_with_meta(rt.alloc(), text, list, tokens, others),
+            "{text}"
+        );
     }
     tokens_come_back();
-    Ok(())
 }
 
-#[test]
-fn nested(rt: HostRuntime) -> Result<(), Error> {
-    let alloc = rt.alloc();
-    for (text, literal, others) in [
-        ("\"s\", a", true, ", a"),
-        ("3", true, ""),
-        ("a(b)", false, ""),
-    ] {
-        let stream = lex(alloc, text)?;
-        let (nested, rest) = NestedMeta::parse(alloc, stream.cursor())?;
-        match nested.clone_in(alloc)? {
-            NestedMeta::Meta(_) => assert!(rt; !literal),
-            NestedMeta::Lit(_) => assert!(rt; literal),
-        }
-        assert!(rt; left(alloc, rest)?.as_str() == others);
-    }
-    Ok(())
-}
+/// Texts, whether each begins with a literal, and what is left.
+const NESTED: &[(&str, bool, &str)] = &[
+    ("\"s\", a", true, ", a"),
+    ("3", true, ""),
+    ("a(b)", false, ""),
+];
 
-/// What may stand at the front of a text.
+/// It is a literal, or none.
 #[derive(Clone, Copy)]
-enum Front {
-    Word,
-    List,
-    Meta,
-    Nested,
-}
+struct IsLiteral(bool);
 
-/// Reads it, and no more than whether it is there.
-fn read(alloc: Global, front: Front, text: &str) -> Result<(), Error> {
-    let stream = lex(alloc, text)?;
-    let c = stream.cursor();
-    match front {
-        Front::Word => PathOrKeyword::parse(alloc, c).map(drop),
-        Front::List => MetaList::parse(alloc, c).map(drop),
-        Front::Meta => Meta::parse(alloc, c).map(drop),
-        Front::Nested => NestedMeta::parse(alloc, c).map(drop),
+impl<'a> Claim<NestedMeta<'a>> for IsLiteral {
+    fn is_true(value: &NestedMeta<'a>, _alloc: Global, claim: &IsLiteral) -> bool {
+        match value {
+            NestedMeta::Meta(_) => !claim.0,
+            NestedMeta::Lit(_) => claim.0,
+        }
     }
 }
 
-/// The kind and the range of the refusal where it isn't there.
-fn refused(alloc: Global, front: Front, text: &str) -> Option<(Kind, usize, usize)> {
-    match read(alloc, front, text) {
-        Ok(()) => None,
-        Err(error) => refusal_of(error),
+/// A copy of it is a literal, or none.
+#[derive(Clone, Copy)]
+struct IsCopyLiteral(bool);
+
+impl<'a> Claim<NestedMeta<'a>> for IsCopyLiteral {
+    fn is_true(value: &NestedMeta<'a>, alloc: Global, claim: &IsCopyLiteral) -> bool {
+        is_made(value.clone_in(alloc), alloc, &IsLiteral(claim.0))
+    }
+}
+
+fn begins_with_nested(alloc: Global, text: &str, literal: bool, others: &str) -> bool {
+    match lex(alloc, text) {
+        Ok(stream) => {
+            let c = stream.cursor();
+            let claim = IsCopyLiteral(literal);
+            is_front(c, NestedMeta::parse(alloc, c), alloc, &claim, others)
+        }
+        Err(_) => false,
     }
 }
 
 #[test]
-fn none(rt: HostRuntime) {
-    for (front, text, start, end) in [
-        (Front::List, "", 0, 0),
-        (Front::List, "a, b", 0, 1),
-        (Front::List, "(a)", 0, 3),
-        (Front::Word, ",", 0, 1),
-        (Front::Meta, ",", 0, 1),
-        (Front::Nested, ",", 0, 1),
-    ] {
-        assert!(rt; refused(rt.alloc(), front, text) == Some((Kind::Syntax, start, end)));
+fn nested(rt: HostRuntime) {
+    for (text, literal, others) in NESTED.iter().copied() {
+        assert!(rt;
+            begins_with_nested(rt.alloc(), text, literal, others),
+            "{text}"
+        );
     }
-}
-
-/// A path at this depth, with a list of metas behind it.
-fn list_behind(alloc: Global, times: usize) -> Result<String, AllocError> {
-    let mut text = deep_path(alloc, "a<", ">", times)?;
-    text.push_str("(b)")?;
-    Ok(text)
-}
-
-const FRONTS: &[Front] = &[Front::Word, Front::List, Front::Meta, Front::Nested];
-
-#[test]
-fn levels(rt: HostRuntime) -> Result<(), AllocError> {
-    let text = list_behind(rt.alloc(), 128)?;
-    for front in FRONTS {
-        assert!(rt; read(rt.alloc(), *front, text.as_str()).is_ok());
-    }
-    Ok(())
-}
-
-#[test]
-fn too_deep(rt: HostRuntime) -> Result<(), AllocError> {
-    let text = list_behind(rt.alloc(), 129)?;
-    let place = Some((Kind::TooDeep, 258, 260));
-    for front in FRONTS {
-        assert!(rt; refused(rt.alloc(), *front, text.as_str()) == place);
-    }
-    Ok(())
-}
-
-/// A text, and a type that is too deep behind it.
-fn deep_behind(alloc: Global, front: &str) -> Result<String, AllocError> {
-    let mut text = String::new(alloc);
-    text.push_str(front)?;
-    let deep = deep_path(alloc, "&", "", 129)?;
-    text.push_str(deep.as_str())?;
-    Ok(text)
-}
-
-/// What stands behind a meta isn't read, however deep it is.
-#[test]
-fn ends_at_comma(rt: HostRuntime) -> Result<(), AllocError> {
-    for text in ["fn, ", "a, ", "fn(b), "] {
-        let text = deep_behind(rt.alloc(), text)?;
-        assert!(rt; read(rt.alloc(), Front::Word, text.as_str()).is_ok());
-        assert!(rt; read(rt.alloc(), Front::Meta, text.as_str()).is_ok());
-        assert!(rt; read(rt.alloc(), Front::Nested, text.as_str()).is_ok());
-    }
-    Ok(())
 }
 
 /// Reads two paths with a comma between.
 struct TwoPaths;
+
+/// What was read, without what is left.
+fn front_of<T: Drop, U: Drop>(read: Result<(T, U), Error>) -> Result<T, Error> {
+    match read {
+        Ok((front, _)) => Ok(front),
+        Err(error) => Err(error),
+    }
+}
+
+fn path_behind_comma<'a>(alloc: Global, c: Cursor<'_, 'a>) -> Result<Path<'a>, Error>
+    requires { sound c }
+{
+    match c.punct() {
+        None => Err(Error::Refused(Refusal {
+            kind: Kind::Syntax,
+            span: c.span(),
+        })),
+        Some((_, behind)) => front_of(parse_path(alloc, behind)),
+    }
+}
 
 impl<'a> ArgReader<'a> for TwoPaths {
     type Output = (Path<'a>, Path<'a>);
@@ -201,27 +236,42 @@ impl<'a> ArgReader<'a> for TwoPaths {
 
     fn read(&self, alloc: Global, c: Cursor<'_, 'a>) -> Result<(Path<'a>, Path<'a>), Error> {
         let (first, rest) = parse_path(alloc, c)?;
-        match rest.punct() {
-            None => Err(Error::Refused(Refusal {
-                kind: Kind::Syntax,
-                span: rest.span(),
-            })),
-            Some((_, behind)) => {
-                let (second, _) = parse_path(alloc, behind)?;
-                Ok((first, second))
-            }
+        joined(first, path_behind_comma(alloc, rest))
+    }
+}
+
+/// Two paths are printed so.
+#[derive(Clone, Copy)]
+struct ArePaths<'w>(&'w str, &'w str);
+
+impl<'a, 'w> Claim<(Path<'a>, Path<'a>)> for ArePaths<'w> {
+    fn is_true(value: &(Path<'a>, Path<'a>), alloc: Global, claim: &ArePaths<'w>) -> bool {
+        is_printed(&value.0, alloc, claim.0) && is_printed(&value.1, alloc, claim.1)
+    }
+}
+
+/// A list is `types` of these two paths.
+#[derive(Clone, Copy)]
+struct HasTypes<'w>(&'w str, &'w str);
+
+impl<'a, 'w> Claim<MetaList<'a>> for HasTypes<'w> {
+    fn is_true(value: &MetaList<'a>, alloc: Global, claim: &HasTypes<'w>) -> bool {
+        let read = value.parse_args_with(alloc, &TwoPaths);
+        value.path.is_ident("types") && is_made(read, alloc, &ArePaths(claim.0, claim.1))
+    }
+}
+
+fn has_arguments(alloc: Global, text: &str, one: &str, other: &str) -> bool {
+    match lex(alloc, text) {
+        Ok(stream) => {
+            let claim = HasTypes(one, other);
+            is_read(MetaList::parse(alloc, stream.cursor()), alloc, &claim)
         }
+        Err(_) => false,
     }
 }
 
 #[test]
-fn arguments(rt: HostRuntime) -> Result<(), Error> {
-    let alloc = rt.alloc();
-    let stream = lex(alloc, "types(i32, u8)")?;
-    let (list, _) = MetaList::parse(alloc, stream.cursor())?;
-    assert!(rt; list.path.is_ident("types"));
-    let (first, second) = list.parse_args_with(alloc, &TwoPaths)?;
-    assert!(rt; printed(alloc, &first)?.as_str() == "i32");
-    assert!(rt; printed(alloc, &second)?.as_str() == "u8");
-    Ok(())
+fn arguments(rt: HostRuntime) {
+    assert!(rt; has_arguments(rt.alloc(), "types(i32, u8)", "i32", "u8"));
 }

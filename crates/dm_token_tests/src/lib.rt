@@ -6,6 +6,8 @@ mod layouts;
 #[cfg(test)]
 mod lexing;
 #[cfg(test)]
+mod rows;
+#[cfg(test)]
 mod units;
 #[cfg(test)]
 mod values;

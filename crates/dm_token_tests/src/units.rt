@@ -1,13 +1,15 @@
 ghost use Rattle.std.specs.Prelude.{IfSome};
 ghost use Rattle.dm_stream.specs.Cursors.{sound, sound_piece};
 
+use crate::rows::all_right;
 use dm_expr::{
     Unit, balanced_pair, discriminant_end, next_unit, nothing_is_lost, path_sep, punct,
     punct_with_spacing, take_until1, token_tree,
 };
-use dm_tokens::{Cursor, Piece, Punct, Spacing, Span, Token, TokenStream, lex, print, print_piece};
+use dm_tokens::{
+    Cursor, Error, Piece, Punct, Spacing, Span, Token, TokenStream, lex, print, print_piece,
+};
 use std::alloc::{AllocError, Global};
-use std::test::Fail;
 
 /// A call, without its list.
 #[derive(Clone, Copy)]
@@ -41,50 +43,71 @@ fn answer<'t, 'a>(call: Call, c: Cursor<'t, 'a>) -> Option<(Piece<'t, 'a>, Curso
     }
 }
 
-fn read(alloc: Global, text: &str) -> Result<TokenStream<'_>, AllocError> {
-    match lex(alloc, text) {
-        Ok(list) => Ok(list),
-        Err(_) => Err(AllocError),
+fn print_trees(alloc: Global, text: &str) -> Result<String, Error> {
+    let list = lex(alloc, text)?;
+    Ok(print(alloc, &list)?)
+}
+
+/// Whether the run's layout is this one.
+fn is_layout(alloc: Global, piece: Piece<'_, '_>, layout: &str) -> bool
+    requires { sound_piece piece }
+{
+    match print_piece(alloc, piece) {
+        Ok(found) => found.as_str() == layout,
+        Err(AllocError) => false,
     }
 }
 
 /// Whether a run has the trees of a text, and what it leaves of its own text begins right behind that.
-fn is_front(
-    alloc: Global,
-    piece: Piece<'_, '_>,
-    rest: Cursor<'_, '_>,
-    wanted: &str,
-) -> Result<bool, AllocError>
+fn is_front(alloc: Global, piece: Piece<'_, '_>, rest: Cursor<'_, '_>, wanted: &str) -> bool
     requires piece { sound_piece piece }
     requires rest { sound rest }
 {
-    let list = read(alloc, wanted)?;
-    let trees = print(alloc, &list)?;
-    let found = print_piece(alloc, piece)?;
-    Ok(found.as_str() == trees.as_str() && rest.span().start == wanted.len())
-}
-
-/// Whether a call takes this front of a text.
-fn takes(alloc: Global, call: Call, text: &str, wanted: &str) -> Result<bool, AllocError> {
-    let list = read(alloc, text)?;
-    match answer(call, list.cursor()) {
-        Some((piece, rest)) => is_front(alloc, piece, rest, wanted),
-        None => Ok(false),
+    match print_trees(alloc, wanted) {
+        Ok(trees) => {
+            is_layout(alloc, piece, trees.as_str()) && rest.span().start == wanted.len()
+        }
+        Err(_) => false,
     }
 }
 
-/// Whether a call takes nothing of a text.
-fn takes_none(alloc: Global, call: Call, text: &str) -> Result<bool, AllocError> {
-    let list = read(alloc, text)?;
-    Ok(answer(call, list.cursor()).is_none())
+/// Whether a call takes this front, or none, of what a cursor has left.
+fn answers(c: Cursor<'_, '_>, alloc: Global, call: Call, wanted: Option<&str>) -> bool
+    requires { sound c }
+{
+    match (answer(call, c), wanted) {
+        (Some((piece, rest)), Some(front)) => is_front(alloc, piece, rest, front),
+        (None, None) => true,
+        _ => false,
+    }
 }
 
-/// Whether the first unit of a text is this front.
-fn begins_with(alloc: Global, text: &str, kind: Unit, wanted: &str) -> Result<bool, AllocError> {
-    let list = read(alloc, text)?;
-    match next_unit(list.cursor()) {
-        Some((unit, piece, rest)) if unit == kind => is_front(alloc, piece, rest, wanted),
-        _ => Ok(false),
+/// Whether a call takes this front of a text, or none.
+fn takes(alloc: Global, call: Call, text: &str, wanted: Option<&str>) -> bool {
+    match lex(alloc, text) {
+        Ok(list) => answers(list.cursor(), alloc, call, wanted),
+        Err(_) => false,
+    }
+}
+
+/// Whether the first unit of what a cursor has left is this front, or none is left.
+fn is_unit(c: Cursor<'_, '_>, alloc: Global, wanted: Option<(Unit, &str)>) -> bool
+    requires { sound c }
+{
+    match (next_unit(c), wanted) {
+        (Some((unit, piece, rest)), Some((kind, front))) => {
+            unit == kind && is_front(alloc, piece, rest, front)
+        }
+        (None, None) => true,
+        _ => false,
+    }
+}
+
+/// Whether a text begins with this unit, or none.
+fn begins_with(alloc: Global, text: &str, wanted: Option<(Unit, &str)>) -> bool {
+    match lex(alloc, text) {
+        Ok(list) => is_unit(list.cursor(), alloc, wanted),
+        Err(_) => false,
     }
 }
 
@@ -145,70 +168,93 @@ const FRONTS: &[(Call, &str, &str)] = &[
     (Call::Tree, ",a", ","),
 ];
 
-#[test]
-fn takes_fronts(rt: HostRuntime) -> Result<(), Fail> {
-    for (call, text, wanted) in FRONTS.iter().copied() {
-        assert!(rt; takes(rt.alloc(), call, text, wanted)?, "{text}");
+/// The first text of which the call beside it doesn't take its front.
+fn first_untaken<'t>(alloc: Global, rows: &[(Call, &'t str, &str)]) -> Option<&'t str> {
+    for (call, text, front) in rows.iter().copied() {
+        if !takes(alloc, call, text, Some(front)) {
+            return Some(text);
+        }
     }
-    Ok(())
+    None
 }
 
 #[test]
-fn takes_nothing(rt: HostRuntime) -> Result<(), Fail> {
-    for (call, text) in [
-        (Call::Run, ""),
-        (Call::Run, ","),
-        (Call::Run, ", a"),
-        (Call::Discriminant, ""),
-        (Call::Discriminant, ", a"),
-        (ANGLES, ""),
-        (ANGLES, "a<b>"),
-        (ANGLES, "<<>"),
-        (ANGLES, "<(>)"),
-        (BARS, "|a"),
-        (Call::PathSep, ""),
-        (Call::PathSep, ":a"),
-        (Call::PathSep, ": :a"),
-        (Call::PathSep, ":=a"),
-        (Call::Punct(':'), ";"),
-        (Call::Punct(':'), "(:)"),
-        (Call::Spaced('=', Spacing::Joint), "=a"),
-        (Call::Spaced('=', Spacing::Alone), "=="),
-        (Call::Tree, ""),
-    ] {
-        assert!(rt; takes_none(rt.alloc(), call, text)?, "{text}");
+fn takes_fronts(rt: HostRuntime) {
+    all_right(&rt, first_untaken(rt.alloc(), FRONTS));
+}
+
+/// Calls, and texts of which they take nothing.
+const NO_FRONTS: &[(Call, &str)] = &[
+    (Call::Run, ""),
+    (Call::Run, ","),
+    (Call::Run, ", a"),
+    (Call::Discriminant, ""),
+    (Call::Discriminant, ", a"),
+    (ANGLES, ""),
+    (ANGLES, "a<b>"),
+    (ANGLES, "<<>"),
+    (ANGLES, "<(>)"),
+    (BARS, "|a"),
+    (Call::PathSep, ""),
+    (Call::PathSep, ":a"),
+    (Call::PathSep, ": :a"),
+    (Call::PathSep, ":=a"),
+    (Call::Punct(':'), ";"),
+    (Call::Punct(':'), "(:)"),
+    (Call::Spaced('=', Spacing::Joint), "=a"),
+    (Call::Spaced('=', Spacing::Alone), "=="),
+    (Call::Tree, ""),
+];
+
+#[test]
+fn takes_nothing(rt: HostRuntime) {
+    for (call, text) in NO_FRONTS.iter().copied() {
+        assert!(rt; takes(rt.alloc(), call, text, None), "{text}");
     }
-    Ok(())
+}
+
+/// Texts, and the unit that each begins with.
+const UNITS: &[(&str, Unit, &str)] = &[
+    ("::<a, b>c", Unit::SepArgs, "::<a, b>"),
+    ("::<a>::b", Unit::SepArgs, "::<a>"),
+    ("<a, b>::c", Unit::ArgsSep, "<a, b>::"),
+    ("<::<a>>::b", Unit::ArgsSep, "<::<a>>::"),
+    ("|a, b|c", Unit::Bars, "|a, b|"),
+    ("||a", Unit::Bars, "||"),
+    ("|a", Unit::Tree, "|"),
+    ("<a>b", Unit::Tree, "<"),
+    ("::a", Unit::Tree, ":"),
+    ("::::<a>", Unit::Tree, ":"),
+    ("(a, b)c", Unit::Tree, "(a, b)"),
+];
+
+/// The first text that doesn't begin with the unit beside it.
+fn first_unlike<'t>(alloc: Global, rows: &[(&'t str, Unit, &str)]) -> Option<&'t str> {
+    for (text, kind, front) in rows.iter().copied() {
+        if !begins_with(alloc, text, Some((kind, front))) {
+            return Some(text);
+        }
+    }
+    None
 }
 
 #[test]
-fn tells_units_apart(rt: HostRuntime) -> Result<(), Fail> {
-    let alloc = rt.alloc();
-    for (text, kind, wanted) in [
-        ("::<a, b>c", Unit::SepArgs, "::<a, b>"),
-        ("::<a>::b", Unit::SepArgs, "::<a>"),
-        ("<a, b>::c", Unit::ArgsSep, "<a, b>::"),
-        ("<::<a>>::b", Unit::ArgsSep, "<::<a>>::"),
-        ("|a, b|c", Unit::Bars, "|a, b|"),
-        ("||a", Unit::Bars, "||"),
-        ("|a", Unit::Tree, "|"),
-        ("<a>b", Unit::Tree, "<"),
-        ("::a", Unit::Tree, ":"),
-        ("::::<a>", Unit::Tree, ":"),
-        ("(a, b)c", Unit::Tree, "(a, b)"),
-    ] {
-        assert!(rt; begins_with(alloc, text, kind, wanted)?, "{text}");
-    }
+fn tells_units_apart(rt: HostRuntime) {
+    all_right(&rt, first_unlike(rt.alloc(), UNITS));
     for text in ["", ",", ", a"] {
-        let list = read(alloc, text)?;
-        assert!(rt; next_unit(list.cursor()).is_none());
+        assert!(rt; begins_with(rt.alloc(), text, None), "{text}");
     }
     nothing_is_lost();
-    Ok(())
 }
 
-/// So many `<`, and then the trees of a text.
-fn opened<'a>(alloc: Global, count: usize, text: &'a str) -> Result<TokenStream<'a>, AllocError> {
+/// So many `<`, and then a run.
+fn opened<'a>(
+    alloc: Global,
+    count: usize,
+    run: Piece<'_, 'a>,
+) -> Result<TokenStream<'a>, AllocError>
+    requires { sound_piece run }
+{
     let mut list = TokenStream::new(alloc);
     for _ in 0..count {
         list.add(Token::Punct(Punct {
@@ -217,18 +263,29 @@ fn opened<'a>(alloc: Global, count: usize, text: &'a str) -> Result<TokenStream<
             span: Span::nowhere(),
         }))?;
     }
-    let more = read(alloc, text)?;
-    list.extend(more.piece())?;
+    list.extend(run)?;
     Ok(list)
+}
+
+fn has_front(made: Result<TokenStream<'_>, AllocError>) -> bool {
+    match made {
+        Ok(list) => take_until1(list.cursor()).is_some(),
+        Err(AllocError) => false,
+    }
+}
+
+/// Whether something is taken of so many `<` before a text.
+fn takes_opened(alloc: Global, count: usize, text: &str) -> bool {
+    match lex(alloc, text) {
+        Ok(list) => has_front(opened(alloc, count, list.piece())),
+        Err(_) => false,
+    }
 }
 
 /// One `>` at the end, or none, costs no search at each `<`.
 #[test]
-fn reads_many_openers_soon(rt: HostRuntime) -> Result<(), Fail> {
-    let alloc = rt.alloc();
+fn reads_many_openers_soon(rt: HostRuntime) {
     for text in ["", "a > b", "::a > b"] {
-        let list = opened(alloc, 200_000, text)?;
-        assert!(rt; take_until1(list.cursor()).is_some(), "{text}");
+        assert!(rt; takes_opened(rt.alloc(), 200_000, text), "{text}");
     }
-    Ok(())
 }

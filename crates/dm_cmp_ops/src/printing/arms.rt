@@ -4,25 +4,23 @@
 ghost use Rattle.std.specs.Prelude.{◌≡◌, cond, true, map, OnOk, IsTrue};
 ghost use Rattle.dm_stream.specs.Trees as trees;
 ghost use Rattle.dm_stream.specs.Trees.{no_trees};
-ghost use Rattle.dm_ast.specs.Declarations.{declaration_view, field_view};
+ghost use Rattle.dm_ast.specs.Declarations.{declaration_view};
 ghost use Rattle.dm_output.specs.Output.{arms_of};
 ghost use Rattle.dm_output.specs.Tokens as tokens;
-ghost use Rattle.dm_output.specs.Values as values;
-ghost use Rattle.dm_print.specs.Laying.{lay};
+ghost use Rattle.dm_print_types.specs.Laying.{lay};
 ghost use Rattle.dm_operands.specs.Kept as kept;
 ghost use Rattle.dm_cmp_ops.specs.Emitted as spec;
 ghost use Rattle.dm_cmp_ops.specs.Printed as printed;
-ghost use Rattle.dm_operands.specs.CaseViews.{case_view, fields_ref_view};
+ghost use Rattle.dm_operands.specs.CaseViews.{case_view, field_ref_view};
 
 use crate::arms::add_rest;
 use crate::comparing::Comparing;
-use dm_ast::{DeriveInput, Field};
-use dm_attr::skips::is_skipped;
+use dm_ast::DeriveInput;
 use dm_layout::Layout;
-use dm_operands::cases::{CaseRef, FieldsRef, is_compared};
+use dm_operands::cases::{CaseRef, FieldRef, is_compared};
 use dm_operands::sides::Operand;
 use dm_print::expr::arms as tree_arms;
-use dm_print::token::{close, joint, open, punct};
+use dm_print_types::token::{close, joint, open, punct};
 use dm_sides::pattern::{numbered, side};
 use dm_stream::{Delim, Seq};
 use std::alloc::{AllocError, Global};
@@ -55,13 +53,13 @@ fn tests(
     alloc: Global,
     out: &mut Layout,
     comparing: Comparing,
-    fields: &[Field<'_>],
+    fields: &[FieldRef<'_, '_>],
 ) -> Result<(), AllocError>
-    ensures { OnOk result (out.new ≡ lay out.old (printed.joined comparing true (spec.tests comparing 0 (map field_view fields.now)))) }
+    ensures { OnOk result (out.new ≡ lay out.old (printed.joined comparing true (spec.tests comparing 0 (map field_ref_view fields.now)))) }
 {
     let mut first = true;
     for (i, field) in fields.iter().enumerate() {
-        if !is_skipped(field.attrs.as_slice()) {
+        if !field.left_out {
             next_test(alloc, out, comparing, i, first)?;
             first = false;
         }
@@ -69,22 +67,7 @@ fn tests(
     Ok(())
 }
 
-fn tests_of(
-    alloc: Global,
-    out: &mut Layout,
-    comparing: Comparing,
-    fields: FieldsRef<'_, '_>,
-) -> Result<(), AllocError>
-    ensures { OnOk result (out.new ≡ lay out.old (printed.joined comparing true (spec.tests comparing 0 (values.field_list (fields_ref_view fields.entry))))) }
-{
-    match fields {
-        FieldsRef::Named(all) => tests(alloc, out, comparing, all.items.as_slice()),
-        FieldsRef::Unnamed(all) => tests(alloc, out, comparing, all.items.as_slice()),
-        FieldsRef::Unit => Ok(()),
-    }
-}
-
-/// Adds the tests of the fields of a variant that is compared.
+/// Adds the tests of the fields of a case that is compared.
 fn tested(
     alloc: Global,
     out: &mut Layout,
@@ -92,9 +75,9 @@ fn tested(
     case: &CaseRef<'_, '_>,
 ) -> Result<(), AllocError>
     requires { IsTrue (kept.is_compared (case_view case.now)) }
-    ensures { OnOk result (out.new ≡ lay out.old (tokens.expr_trees (spec.chain comparing (spec.tests comparing 0 (values.field_list (case_view case.now).fields))))) }
+    ensures { OnOk result (out.new ≡ lay out.old (tokens.expr_trees (spec.chain comparing (spec.tests comparing 0 (case_view case.now).fields)))) }
 {
-    tests_of(alloc, out, comparing, case.fields)
+    tests(alloc, out, comparing, case.fields.as_slice())
 }
 
 fn arm(
@@ -130,10 +113,10 @@ fn rest<'a>(
 {
     let mut made = Seq::new(alloc);
     add_rest(alloc, comparing, cases, &mut made)?;
-    tree_arms(alloc, out, made.as_slice())
+    tree_arms(made.as_slice(), alloc, out)
 }
 
-/// Adds an arm for each variant that is compared, and perhaps one for every other pair.
+/// Adds an arm for each case that is compared, and perhaps one for every other pair.
 pub fn arms<'a>(
     alloc: Global,
     out: &mut Layout,

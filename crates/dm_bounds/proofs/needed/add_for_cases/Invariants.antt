@@ -3,7 +3,7 @@ use Rattle.std.specs.List.{flat_map}
 use Rattle.dm_ast.specs.Declarations.{predicate_view}
 use Rattle.dm_ast.specs.Implementors.{plain_path}
 use Rattle.dm_operands.specs.CaseViews.{case_view}
-use Rattle.dm_operands.specs.Heads.{words}
+use Rattle.dm_generics.specs.Words.{words}
 use Rattle.dm_bounds.specs.Needed.{wanted, added_in}
 use Rattle.dm_bounds.proofs.needed.add_for_cases.Given as goal
 

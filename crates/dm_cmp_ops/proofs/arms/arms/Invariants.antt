@@ -1,6 +1,6 @@
 use Rattle.std.proofs.Common.{◌≡◌, ◌++◌, map, drop}
 use Rattle.dm_ast.specs.Declarations.{declaration_view}
-use Rattle.dm_output.specs.Output.{arm_view}
+use Rattle.dm_output.specs.Views.{arm_view}
 use Rattle.dm_operands.specs.CaseViews.{case_view}
 use Rattle.dm_cmp_ops.specs.Emitted as spec
 use Rattle.dm_cmp_ops.proofs.arms.arms.Given as goal

@@ -1,5 +1,5 @@
 use Rattle.std.proofs.Common.{ap, ◌∙◌}
-use Rattle.dm_print.specs.Laying.{lay}
+use Rattle.dm_print_types.specs.Laying.{lay}
 use Rattle.dm_output.specs.Output.{ItemTree}
 use Rattle.dm_output.specs.Tokens.{head_trees}
 use Rattle.dm_layout.proofs.Fixing.{on-ok}

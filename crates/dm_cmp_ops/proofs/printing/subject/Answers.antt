@@ -1,5 +1,5 @@
 use Rattle.std.proofs.Common.{ap, ◌∙◌}
-use Rattle.dm_print.specs.Laying.{lay}
+use Rattle.dm_print_types.specs.Laying.{lay}
 use Rattle.dm_output.specs.Output.{ExprTree}
 use Rattle.dm_output.specs.Tokens.{expr_trees}
 use Rattle.dm_layout.proofs.Fixing.{on-ok}

@@ -1,6 +1,6 @@
 -- The literals are the names.
 use Rattle.std.proofs.Common.{sym, ap}
-use Rattle.dm_operands.specs.Numerals.{numeral}
+use Rattle.dm_generics.specs.Numerals.{numeral}
 use Rattle.dm_operands.specs.Numbered.{other_name}
 use Rattle.dm_operands.proofs.sides.first_theirs.Goals as goal
 

@@ -2,7 +2,7 @@
 use Rattle.std.proofs.Common.{◌≡◌, codes, sym, subst}
 use Rattle.std.specs.Prelude.{IfOk, string_bytes}
 use Rattle.dm_operands.specs.CaseViews.{naming}
-use Rattle.dm_operands.proofs.NumeralLaws.{ends_numeral}
+use Rattle.dm_generics.proofs.NumeralLaws.{ends_numeral}
 use Rattle.dm_operands.proofs.sides.formatted.Goals as goal
 
 pub returns-in-Mine : goal.returns-in-Mine

@@ -1,7 +1,7 @@
 use Rattle.std.proofs.Common.{◌≡◌, map, drop}
-use Rattle.dm_output.specs.Output.{assoc_view}
+use Rattle.dm_output.specs.Views.{assoc_view}
 use Rattle.dm_output.specs.Tokens.{in_turn, assoc_trees}
-use Rattle.dm_print.specs.Laying.{lay}
+use Rattle.dm_print_types.specs.Laying.{lay}
 use Rattle.dm_print.proofs.item.assocs.Given as goal
 
 abbrev pub invariant-loop-one : goal.invariant-loop-one

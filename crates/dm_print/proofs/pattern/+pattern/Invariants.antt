@@ -1,7 +1,8 @@
 use Rattle.std.proofs.Common.{◌≡◌, map, drop}
-use Rattle.dm_output.specs.Output.{pattern_view, named_view, patterns_of, named_of}
+use Rattle.dm_output.specs.Output.{patterns_of, named_of}
+use Rattle.dm_output.specs.Views.{pattern_view, named_view}
 use Rattle.dm_output.specs.Tokens.{ended, each_pattern, each_named}
-use Rattle.dm_print.specs.Laying.{lay}
+use Rattle.dm_print_types.specs.Laying.{lay}
 use Rattle.dm_print.proofs.pattern.+pattern.Given as goal
 
 abbrev pub invariant-ended-loop-one : goal.invariant-ended-loop-one

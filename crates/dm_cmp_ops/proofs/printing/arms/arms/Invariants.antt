@@ -1,6 +1,6 @@
 use Rattle.std.proofs.Common.{◌≡◌, map, drop}
 use Rattle.dm_ast.specs.Declarations.{declaration_view}
-use Rattle.dm_print.specs.Laying.{lay}
+use Rattle.dm_print_types.specs.Laying.{lay}
 use Rattle.dm_output.specs.Output.{arms_of}
 use Rattle.dm_output.specs.Tokens.{arms_trees}
 use Rattle.dm_operands.specs.CaseViews.{case_view}

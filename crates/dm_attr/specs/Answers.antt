@@ -1,0 +1,19 @@
+-- What a call that may want memory answers, seen by a relation on values or refusals.
+use Rattle.std.specs.Prelude.{Result, Ok, Err}
+use Rattle.dm_stream.specs.declared.error.Error.{Error}
+use Rattle.dm_stream.specs.declared.error.Error.TheVariants.{NoMemory, Refused}
+use Rattle.dm_stream.specs.declared.error.Refusal.{Refusal}
+
+-- the refusal is related; want of memory always is
+abbrev pub Allows : {Y : Type 0} → (Result Y Refusal → Type 0) → Error → Type 0
+Allows related NoMemory = Unit {0}
+Allows related (Refused r) = related (Err r)
+
+-- the answer, its value seen by a view, is related, want of memory aside
+abbrev pub Within : {X Y : Type 0} → (Result Y Refusal → Type 0) → (X → Y) → Result X Error → Type 0
+Within related view (Ok x) = related (Ok (view x))
+Within related view (Err e) = Allows related e
+
+-- the view of a value that stands for itself
+abbrev pub same : {X : Type 0} → X → X
+same x = x

@@ -1,0 +1,10 @@
+pub mod Words
+pub mod Numerals
+pub mod Numbered
+pub mod Lists
+pub mod Parameters
+pub mod Split
+pub mod Bounds
+pub mod Additions
+pub mod Extra
+pub mod Lent

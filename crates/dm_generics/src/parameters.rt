@@ -1,0 +1,175 @@
+//! Copies of some of the parameters of a declaration.
+#![tactic(auto, using(crate::proofs::ParameterSteps::parameter_steps))]
+
+ghost use Rattle.std.specs.Prelude.{◌≡◌, ◌∷◌, [], ◌++◌, map, filter, cond, IfOk, OnOk};
+ghost use Rattle.dm_ast.specs.Declarations.{param_view, generics_view};
+ghost use Rattle.dm_ast.specs.Implementors as implementors;
+ghost use Rattle.dm_generics.specs.Parameters as spec;
+ghost use Rattle.dm_generics.specs.Split.{impl_params as params_of_impl};
+
+use dm_ast::{ConstParam, GenericParam, Generics, LifetimeParam, TyParam};
+use dm_copy::CloneIn;
+use dm_stream::Seq;
+use std::alloc::{AllocError, Global};
+
+/// Which parameters are copied.
+#[derive(Clone, Copy)]
+pub(crate) enum Chosen {
+    Lifetimes,
+    Others,
+    Types,
+    Consts,
+}
+
+fn is_lifetime(param: &GenericParam<'_>) -> bool
+    ensures { result ≡ implementors.is_lifetime (param_view param.now) }
+{
+    match param {
+        GenericParam::Lifetime(_) => true,
+        GenericParam::Ty(_) => false,
+        GenericParam::Const(_) => false,
+    }
+}
+
+fn is_type(param: &GenericParam<'_>) -> bool
+    ensures { result ≡ spec.is_type (param_view param.now) }
+{
+    match param {
+        GenericParam::Lifetime(_) => false,
+        GenericParam::Ty(_) => true,
+        GenericParam::Const(_) => false,
+    }
+}
+
+fn is_const(param: &GenericParam<'_>) -> bool
+    ensures { result ≡ spec.is_const (param_view param.now) }
+{
+    match param {
+        GenericParam::Lifetime(_) => false,
+        GenericParam::Ty(_) => false,
+        GenericParam::Const(_) => true,
+    }
+}
+
+fn is_chosen(param: &GenericParam<'_>, chosen: Chosen) -> bool
+    ensures { result ≡ spec.chosen chosen (param_view param.now) }
+{
+    match chosen {
+        Chosen::Lifetimes => is_lifetime(param),
+        Chosen::Others => !is_lifetime(param),
+        Chosen::Types => is_type(param),
+        Chosen::Consts => is_const(param),
+    }
+}
+
+/// The parameter without its attributes and its default.
+fn bare<'a>(alloc: Global, param: GenericParam<'a>) -> GenericParam<'a>
+    ensures { param_view result ≡ implementors.bare (param_view param.entry) }
+{
+    match param {
+        GenericParam::Lifetime(param) => {
+            let LifetimeParam {
+                lifetime,
+                bounds,
+                ..
+            } = param;
+            GenericParam::Lifetime(LifetimeParam {
+                attrs: Seq::new(alloc),
+                lifetime,
+                bounds,
+            })
+        }
+        GenericParam::Ty(param) => {
+            let TyParam { ident, bounds, .. } = param;
+            GenericParam::Ty(TyParam {
+                attrs: Seq::new(alloc),
+                ident,
+                bounds,
+                default_ty: None,
+            })
+        }
+        GenericParam::Const(param) => {
+            let ConstParam { ident, ty, .. } = param;
+            GenericParam::Const(ConstParam {
+                attrs: Seq::new(alloc),
+                ident,
+                ty,
+                default_value: None,
+            })
+        }
+    }
+}
+
+fn add_bare<'a>(
+    param: &GenericParam<'a>,
+    wanted: bool,
+    alloc: Global,
+    out: &mut Seq<GenericParam<'a>>,
+) -> Result<(), AllocError>
+    ensures { OnOk result (map param_view out.new ≡ map param_view out.old ++ cond wanted (implementors.bare (param_view param.now) ∷ []) []) }
+{
+    if wanted {
+        let copy = param.clone_in(alloc)?;
+        return out.add(bare(alloc, copy));
+    }
+    Ok(())
+}
+
+/// Adds the chosen parameters without their attributes and defaults.
+fn add_bare_ones<'a>(
+    all: &[GenericParam<'a>],
+    chosen: Chosen,
+    alloc: Global,
+    out: &mut Seq<GenericParam<'a>>,
+) -> Result<(), AllocError>
+    ensures { OnOk result (map param_view out.new ≡ map param_view out.old ++ map implementors.bare (filter (spec.chosen chosen) (map param_view all.now))) }
+{
+    for param in all {
+        add_bare(param, is_chosen(param, chosen), alloc, out)?;
+    }
+    Ok(())
+}
+
+/// Lifetimes first, then the others, without attributes and defaults.
+pub(crate) fn impl_params<'a>(
+    generics: &Generics<'a>,
+    alloc: Global,
+) -> Result<Seq<GenericParam<'a>>, AllocError>
+    ensures { IfOk result (λ ps. map param_view ps ≡ params_of_impl (generics_view generics.now)) }
+{
+    let all = generics.params.items.as_slice();
+    let mut out = Seq::new(alloc);
+    add_bare_ones(all, Chosen::Lifetimes, alloc, &mut out)?;
+    add_bare_ones(all, Chosen::Others, alloc, &mut out)?;
+    Ok(out)
+}
+
+fn add_copy<'a>(
+    param: &GenericParam<'a>,
+    wanted: bool,
+    alloc: Global,
+    out: &mut Seq<GenericParam<'a>>,
+) -> Result<(), AllocError>
+    ensures { OnOk result (map param_view out.new ≡ map param_view out.old ++ cond wanted (param_view param.now ∷ []) []) }
+{
+    if wanted {
+        let copy = param.clone_in(alloc)?;
+        return out.add(copy);
+    }
+    Ok(())
+}
+
+/// The chosen parameters as they are declared.
+pub(crate) fn copies<'a>(
+    all: &[GenericParam<'a>],
+    chosen: Chosen,
+    alloc: Global,
+) -> Result<Seq<GenericParam<'a>>, AllocError>
+    ensures { IfOk result (λ ps. map param_view ps ≡ filter (spec.chosen chosen) (map param_view all.now)) }
+{
+    let mut out = Seq::new(alloc);
+    for param in all {
+        add_copy(param, is_chosen(param, chosen), alloc, &mut out)?;
+    }
+    Ok(out)
+}

@@ -1,0 +1,65 @@
+-- The places of a declaration whose attributes are looked at, and the first of them that is refused.
+use Rattle.std.specs.Prelude.{◌≡◌, List, [], ◌∷◌, cond, Option, Some, None, Result, Ok, Err, map, flat_map}
+use Rattle.std.specs.Option.{option_or}
+use Rattle.std.specs.declared.alloc.Global.{Global}
+use Rattle.std.specs.declared.vec.Vec.{Vec}
+use Rattle.dm_stream.specs.declared.error.Error.{Error}
+use Rattle.dm_stream.specs.declared.error.Error.TheVariants.{NoMemory, Refused}
+use Rattle.dm_stream.specs.declared.error.Kind.TheVariants.{WrongShape}
+use Rattle.dm_stream.specs.declared.error.Refusal.{Refusal}
+use Rattle.dm_ast.specs.declared.plain.Attribute.{Attribute}
+use Rattle.dm_ast.specs.Declarations.{Declaration, FieldTree, ShapeTree, struct_shape, enum_shape, union_shape}
+use Rattle.dm_output.specs.Values.{Case, cases, field_list}
+use Rattle.dm_attr.specs.Skips.{is_skipped}
+use Rattle.dm_attr.specs.SkipRefusals.{place_refusal}
+use Rattle.dm_operands.specs.declared.cases.FieldRef.{FieldRef}
+use Rattle.dm_operands.specs.declared.cases.CaseRef.{CaseRef}
+use Rattle.dm_operands.specs.Marked.{mark_field, mark_case, marked}
+use Rattle.dm_operands.specs.CaseViews.{field_ref_view, case_view}
+
+abbrev pub attrs_of : FieldTree → List Attribute
+attrs_of f = f.attrs
+
+-- a variant, or a struct, and its fields in order if it isn't skipped
+abbrev pub places : Case → List (List Attribute)
+places c = c.attrs ∷ cond (is_skipped c.attrs) [] (map attrs_of (field_list c.fields))
+
+abbrev pub first_refusal : List (List Attribute) → Option Refusal
+first_refusal [] = None
+first_refusal (p ∷ ps) = option_or (place_refusal p) (first_refusal ps)
+
+-- a union is refused, at its word; a struct and an enum where the first of their places is
+abbrev pub refusal_of_shape : ShapeTree → List Case → Option Refusal
+refusal_of_shape (struct_shape word fs) cs = first_refusal (flat_map places cs)
+refusal_of_shape (enum_shape word vs) cs = first_refusal (flat_map places cs)
+refusal_of_shape (union_shape word fs) cs = Some (record { kind = WrongShape; span = word })
+
+-- the first refusal of a declaration
+abbrev pub refusal : Declaration → Option Refusal
+refusal d = refusal_of_shape d.shape (cases d)
+
+-- what a walk over places is answered with, want of memory aside: where none is refused, what is made; and else the first refusal
+abbrev pub IsWalked : {A : Type 0} → Option Refusal → (A → Type 0) → Result A Error → Type 0
+IsWalked first Made (Ok x) = (first ≡ None) × Made x
+IsWalked first Made (Err NoMemory) = Unit {0}
+IsWalked first Made (Err (Refused r)) = first ≡ Some r
+
+-- fields, each marked
+abbrev pub AreFieldsWalked : List FieldTree → Result (Vec FieldRef Global) Error → Type 0
+AreFieldsWalked fs r = IsWalked (first_refusal (map attrs_of fs)) (λ x. map field_ref_view x.items ≡ map (mark_field is_skipped) fs) r
+
+-- a case, marked
+abbrev pub IsCaseWalked : Case → Result CaseRef Error → Type 0
+IsCaseWalked c r = IsWalked (first_refusal (places c)) (λ x. case_view x ≡ mark_case is_skipped c) r
+
+-- the cases, each marked
+abbrev pub AreCasesWalked : List Case → Result (Vec CaseRef Global) Error → Type 0
+AreCasesWalked cs r = IsWalked (first_refusal (flat_map places cs)) (λ x. map case_view x.items ≡ map (mark_case is_skipped) cs) r
+
+-- these are the cases of the declaration, marked by their attributes
+abbrev pub AreCases : Declaration → List CaseRef → Type 0
+AreCases d cs = map case_view cs ≡ marked is_skipped d
+
+-- what a declaration is answered with, want of memory aside: its cases, or its first refusal
+abbrev pub IsMarking : Declaration → Result (Vec CaseRef Global) Error → Type 0
+IsMarking d r = IsWalked (refusal d) (λ x. AreCases d x.items) r

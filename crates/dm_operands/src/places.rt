@@ -1,0 +1,163 @@
+//! The one walk over the places of a declaration: it reads their attributes, and gives the cases or the first refusal.
+#![tactic(auto, using(crate::proofs::PlaceLaws::place_steps))]
+
+ghost use Rattle.std.specs.Prelude.{◌≡◌, [], ◌∷◌, ◌++◌, map, OnOk};
+ghost use Rattle.dm_ast.specs.Declarations.{declaration_view, variant_view, fields_view, field_view};
+ghost use Rattle.dm_stream.specs.declared.error.Kind.TheVariants.{WrongShape};
+ghost use Rattle.dm_output.specs.Values as values;
+ghost use Rattle.dm_attr.specs.Skips.{is_skipped};
+ghost use Rattle.dm_attr.specs.SkipRefusals.{place_refusal};
+ghost use Rattle.dm_operands.specs.Marked as marked;
+ghost use Rattle.dm_operands.specs.Places as spec;
+ghost use Rattle.dm_operands.specs.CaseViews.{case_view, field_ref_view};
+
+use crate::cases::{CaseRef, FieldRef, Form};
+use dm_ast::{Attribute, Data, DeriveInput, Field, Fields, Variant};
+use dm_attr::skips::is_left_out;
+use dm_stream::{Error, Ident, Kind, Refusal, Span};
+use std::alloc::{AllocError, Global};
+
+fn add<T: Drop>(out: &mut Vec<T>, item: T) -> Result<(), AllocError>
+    ensures { OnOk result (out.new.items ≡ out.old.items ++ item ∷ []) }
+{
+    out.push(item)?;
+    Ok(())
+}
+
+fn field_ref<'x, 'a>(alloc: Global, field: &'x Field<'a>) -> Result<FieldRef<'x, 'a>, Error>
+    ensures { spec.IsWalked (place_refusal field.now.attrs) (λ f. field_ref_view f ≡ marked.mark_field is_skipped (field_view field.now)) result }
+{
+    let left_out = is_left_out(alloc, field.attrs.as_slice())?;
+    Ok(FieldRef { field, left_out })
+}
+
+fn field_refs<'x, 'a>(
+    alloc: Global,
+    fields: &'x [Field<'a>],
+) -> Result<Vec<FieldRef<'x, 'a>>, Error>
+    ensures { spec.AreFieldsWalked (map field_view fields.now) result }
+{
+    let mut out = Vec::with_capacity(alloc, fields.len())?;
+    for field in fields {
+        match field_ref(alloc, field) {
+            Ok(next) => add(&mut out, next)?,
+            Err(error) => return Err(error),
+        }
+    }
+    Ok(out)
+}
+
+fn form_of(fields: &Fields<'_>) -> Form
+    ensures { result ≡ marked.form_of (fields_view fields.now) }
+{
+    match fields {
+        Fields::Named(_) => Form::Named,
+        Fields::Unnamed(_) => Form::Unnamed,
+        Fields::Unit => Form::Unit,
+    }
+}
+
+/// The fields of a case that isn't left out.
+fn kept_fields<'x, 'a>(
+    alloc: Global,
+    fields: &'x Fields<'a>,
+) -> Result<Vec<FieldRef<'x, 'a>>, Error>
+    ensures { spec.AreFieldsWalked (values.field_list (fields_view fields.now)) result }
+{
+    match fields {
+        Fields::Named(all) => field_refs(alloc, all.items.as_slice()),
+        Fields::Unnamed(all) => field_refs(alloc, all.items.as_slice()),
+        Fields::Unit => Ok(Vec::new(alloc)),
+    }
+}
+
+fn case_ref<'x, 'a>(
+    alloc: Global,
+    attrs: &'x [Attribute<'a>],
+    ident: &'x Ident<'a>,
+    fields: &'x Fields<'a>,
+) -> Result<CaseRef<'x, 'a>, Error>
+    ensures { spec.IsCaseWalked (record { attrs = attrs.now; ident = ident.now; fields = fields_view fields.now }) result }
+{
+    let left_out = is_left_out(alloc, attrs)?;
+    let form = form_of(fields);
+    let fields = if left_out {
+        Vec::new(alloc)
+    } else {
+        kept_fields(alloc, fields)?
+    };
+    Ok(CaseRef {
+        ident,
+        form,
+        left_out,
+        fields,
+    })
+}
+
+fn case_of_variant<'x, 'a>(
+    alloc: Global,
+    variant: &'x Variant<'a>,
+) -> Result<CaseRef<'x, 'a>, Error>
+    ensures { spec.IsCaseWalked (values.case_of_variant (variant_view variant.now)) result }
+{
+    case_ref(
+        alloc,
+        variant.attrs.as_slice(),
+        &variant.ident,
+        &variant.fields,
+    )
+}
+
+fn cases_of_variants<'x, 'a>(
+    alloc: Global,
+    variants: &'x [Variant<'a>],
+) -> Result<Vec<CaseRef<'x, 'a>>, Error>
+    ensures { spec.AreCasesWalked (map values.case_of_variant (map variant_view variants.now)) result }
+{
+    let mut out = Vec::with_capacity(alloc, variants.len())?;
+    for variant in variants {
+        match case_of_variant(alloc, variant) {
+            Ok(next) => add(&mut out, next)?,
+            Err(error) => return Err(error),
+        }
+    }
+    Ok(out)
+}
+
+/// A struct with these fields as its only case.
+fn only_case<'x, 'a>(
+    alloc: Global,
+    input: &'x DeriveInput<'a>,
+    fields: &'x Fields<'a>,
+) -> Result<Vec<CaseRef<'x, 'a>>, Error>
+    ensures { spec.AreCasesWalked (record { attrs = input.now.attrs; ident = input.now.ident; fields = fields_view fields.now } ∷ []) result }
+{
+    let case = case_ref(alloc, input.attrs.as_slice(), &input.ident, fields)?;
+    let mut out = Vec::new(alloc);
+    add(&mut out, case)?;
+    Ok(out)
+}
+
+fn union_refusal(word: Span) -> Refusal
+    ensures { result ≡ record { kind = WrongShape; span = word } }
+{
+    Refusal {
+        kind: Kind::WrongShape,
+        span: word,
+    }
+}
+
+/// The variants of an enum, or a struct as the only case, each marked whether it is left out, or the first refusal in the order of
+/// the text: of a case's own attributes, then of its fields' unless it is left out. A union is refused at its word.
+pub fn cases_of<'x, 'a>(
+    alloc: Global,
+    input: &'x DeriveInput<'a>,
+) -> Result<Vec<CaseRef<'x, 'a>>, Error>
+    ensures { spec.IsMarking (declaration_view input.now) result }
+{
+    match &input.shape {
+        Data::Struct(shape) => only_case(alloc, input, &shape.fields),
+        Data::Enum(shape) => cases_of_variants(alloc, shape.variants.items.as_slice()),
+        Data::Union(shape) => Err(Error::Refused(union_refusal(shape.word))),
+    }
+}

@@ -1,8 +1,0 @@
-use Rattle.std.proofs.Common.{◌≡◌, map, drop}
-use Rattle.dm_output.specs.Tokens.{in_turn, attr_trees}
-use Rattle.dm_print.specs.Laying.{lay}
-use Rattle.dm_print.proofs.item.attrs.Given as goal
-
-abbrev pub invariant-loop-one : goal.invariant-loop-one
-invariant-loop-one l =
-    lay l.out (in_turn (map attr_trees (drop l.one-index l.all))) ≡ lay l.initial.out (in_turn (map attr_trees l.all))

@@ -1,0 +1,87 @@
+-- The reader of what stands between `impl` and the brace, by the readers of declarations. And which heads it reads back.
+use Rattle.std.specs.Prelude.{◌≡◌, Bool, true, false, cond, codes, List, [], ◌∷◌, Option, Some, None}
+use Rattle.dm_stream.specs.Trees.{Trees, no_trees}
+use Rattle.dm_ast.specs.Tree.{TypeTree, type_tree, path, no_self, PathTree}
+use Rattle.dm_ast.specs.Declarations.{Listed, ParamTree, PredicateTree}
+use Rattle.dm_ast.specs.Spelling.{Where, Marks, Spelling, first_too_deep, sees_word, Nothing, ◌then◌, keyword}
+use Rattle.dm_ast.specs.TypeGrammar.{type_spelled, path_spelled}
+use Rattle.dm_ast.specs.DeclarationGrammar.{generics, where_clause}
+use Rattle.dm_ast.specs.Readers.{tail}
+use Rattle.dm_read.specs.DeclarationReaders as decl
+use Rattle.dm_read_types.specs.WholeReaders.{parts}
+use Rattle.dm_reread.specs.Leaves.{Answer}
+use Rattle.dm_reread.specs.Reading as reading
+use Rattle.dm_reread.specs.Items.{HeadTree, between_trees}
+use Rattle.dm_reread.specs.TypeLeaves.{top, answer_of, read_type}
+
+-- the parameters in front, and whether `<` stands there
+abbrev pub read_generics : Trees → Answer (Bool × Listed ParamTree)
+read_generics ts = answer_of (decl.read_generics parts top ts)
+
+-- the predicates behind `where`
+abbrev pub read_where : Trees → Answer (Option (Listed PredicateTree))
+read_where ts = answer_of (decl.read_where parts top ts)
+
+-- the path that a type is
+abbrev pub path_in : TypeTree → Option PathTree
+path_in (type_tree (path no_self p) range) = Some p
+path_in _ = None
+
+-- a trait is a path before `for`
+abbrev pub trait_first : TypeTree → Trees → Answer (Option PathTree × TypeTree)
+trait_first x ts =
+    cond (sees_word (codes "for") ts)
+    (reading.then (path_in x) (λ p. reading.then (read_type (tail ts)) (λ a. Some ((Some p, a.0), a.1))))
+    (Some ((None, x), ts))
+
+-- without `where` there are no predicates
+abbrev pub predicates_in : Option (Listed PredicateTree) → List PredicateTree
+predicates_in None = []
+predicates_in (Some ps) = ps.items
+
+-- the parts together
+abbrev pub head_in : Listed ParamTree → Option PathTree × TypeTree → Option (Listed PredicateTree) → HeadTree
+head_in ps x c = record { params = ps.items; trait_path = x.0; ty = x.1; predicates = predicates_in c }
+
+-- the type, and the trait before it
+abbrev pub read_named : Trees → Answer (Option PathTree × TypeTree)
+read_named ts = reading.then (read_type ts) (λ a. trait_first a.0 a.1)
+
+-- parameters, perhaps a trait, the type, and predicates
+abbrev pub read_head : Trees → Answer HeadTree
+read_head ts =
+    reading.then (read_generics ts) (λ ps. reading.then (read_named ps.1) (λ x. reading.then (read_where x.1) (λ c.
+    Some (head_in ps.0.1 x.0 c.0, c.1))))
+
+-- ---- heads in the grammar's words
+
+-- whether `<` stands there
+abbrev pub is_some_params : List ParamTree → Bool
+is_some_params [] = false
+is_some_params _ = true
+
+-- without a comma behind the last
+abbrev pub listed : {A : Type 0} → List A → Listed A
+listed xs = record { items = xs; trailing = false }
+
+-- whether `where` stands there
+abbrev pub clause_of : List PredicateTree → Option (Listed PredicateTree)
+clause_of [] = None
+clause_of (p ∷ ps) = Some (listed (p ∷ ps))
+
+-- a path and `for`, or nothing
+abbrev pub trait_spelled : Option PathTree → Where → Spelling
+trait_spelled None w = Nothing
+trait_spelled (Some p) w = path_spelled p w then keyword w (codes "for")
+
+-- one part after another
+abbrev pub head_spelled : HeadTree → Where → Spelling
+head_spelled h w =
+    generics (is_some_params h.params) (listed h.params) w then
+    (trait_spelled h.trait_path w then (type_spelled h.ty false w then where_clause (clause_of h.predicates) w))
+
+-- a head whose own tokens spell it within the deepest level
+pub record IsHead (h : HeadTree) : Type 0 where
+  pub marks : Marks
+  pub spelled : head_spelled h top (between_trees h) no_trees marks
+  pub within : first_too_deep marks ≡ None
