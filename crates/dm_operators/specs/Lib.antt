@@ -1,0 +1,10 @@
+pub mod Operators
+pub mod Attributes
+pub mod Meaning
+pub mod Predicates
+pub mod Bodies
+pub mod Heads
+pub mod Implementations
+pub mod Refusals
+pub mod Covered
+pub mod Valid
