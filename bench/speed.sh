@@ -44,6 +44,10 @@ def sample(count):
     return "enum Sample<T> {" + "".join(variant(i) for i in range(count)) + " }"
 
 
+def names(count):
+    return ",".join("T%d" % i for i in range(count))
+
+
 def nested_comments(size):
     depth = size // 4
     return "/*" * depth + "*/" * depth
@@ -57,6 +61,7 @@ TEXTS = {
     "nested comments": nested_comments,
     "open parentheses": lambda size: "(" * size,
     "puncts": lambda size: repeated("+-=", size),
+    "fields that each mention a parameter": listed("struct S<T>(", lambda i: "A%d<T>," % i, ");"),
     "an enum of unit variants": listed("enum E {", lambda i: "V%d," % i, "}"),
     "an enum of variants of all forms": listed("enum Sample<T> {", variant, " }"),
     "generic parameters": listed("struct S<", lambda i: "T%d: A," % i, ">;"),
@@ -71,6 +76,7 @@ ONCE = {
     "a name of no trait": "Hash\n",
     "a struct of three fields": "PartialEq\nstruct S { a: u8, b: u8, c: u8 }",
     "an enum of 2000 variants": "PartialEq\n" + sample(2000),
+    "10000 parameters and a field of each": "PartialEq\nstruct S<" + names(10000) + ">(" + names(10000) + ");",
 }
 
 
