@@ -12,4 +12,6 @@ mod parameters;
 #[cfg(test)]
 mod read;
 #[cfg(test)]
+mod replaced;
+#[cfg(test)]
 mod wrapped;

@@ -7,6 +7,7 @@ pub use dm_generics::{
     field_idents, get_field_types, implementor_type, named_to_vec, numbered_vars, split_for_impl,
     unnamed_to_vec,
 };
+pub use dm_replace::replace_self_type;
 pub use dm_searches::{
     GenericsSearch, contains_any, contains_generics, contains_type_structurally,
     get_if_type_parameter_used_in_type, get_inner, get_option_inner, is_option,
