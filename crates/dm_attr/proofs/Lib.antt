@@ -1,3 +1,4 @@
 pub mod Folding
 pub mod Once
+pub mod OnceSteps
 pub mod SkipSteps

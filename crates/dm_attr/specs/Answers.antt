@@ -1,5 +1,5 @@
 -- What a call that may want memory answers, seen by a relation on values or refusals.
-use Rattle.std.specs.Prelude.{Result, Ok, Err}
+use Rattle.std.specs.Prelude.{◌≡◌, Option, Some, None, Result, Ok, Err}
 use Rattle.dm_stream.specs.declared.error.Error.{Error}
 use Rattle.dm_stream.specs.declared.error.Error.TheVariants.{NoMemory, Refused}
 use Rattle.dm_stream.specs.declared.error.Refusal.{Refusal}
@@ -17,3 +17,9 @@ Within related view (Err e) = Allows related e
 -- the view of a value that stands for itself
 abbrev pub same : {X : Type 0} → X → X
 same x = x
+
+-- what a look at attributes is answered with, want of memory aside: where nothing is refused, what is made; and else the first refusal
+abbrev pub IsWalked : {A : Type 0} → Option Refusal → (A → Type 0) → Result A Error → Type 0
+IsWalked first Made (Ok x) = (first ≡ None) × Made x
+IsWalked first Made (Err NoMemory) = Unit {0}
+IsWalked first Made (Err (Refused r)) = first ≡ Some r

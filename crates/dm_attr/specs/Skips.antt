@@ -24,14 +24,17 @@ abbrev pub skip_in : Trees → Option Skip
 skip_in (token (t.Ident i) no_trees) = skip_named i
 skip_in _ = None
 
--- what the contents of an attribute are read as
-abbrev pub skip_read : AttrArgs → Option Skip
-skip_read args.Absent = None
-skip_read (args.List d inside) = skip_in inside.trees
-skip_read (args.Value o) = None
+-- what the contents of an attribute are read as, by what their trees are
+abbrev pub read_in : {T : Type 0} → (Trees → Option T) → AttrArgs → Option T
+read_in value_of args.Absent = None
+read_in value_of (args.List d inside) = value_of inside.trees
+read_in value_of (args.Value o) = None
+
+abbrev pub reads_in : {T : Type 0} → (Trees → Option T) → AttrArgs → Bool
+reads_in value_of a = is_some (read_in value_of a)
 
 abbrev pub reads_skip : AttrArgs → Bool
-reads_skip a = is_some (skip_read a)
+reads_skip a = reads_in skip_in a
 
 pub data Skipping : Type 0 where
   no : Skipping
@@ -39,10 +42,13 @@ pub data Skipping : Type 0 where
   bad : Skipping
 
 -- none is examined; exactly one is, and it reads; anything else
+abbrev pub once_among : (AttrArgs → Bool) → List Attribute → Skipping
+once_among reads [] = no
+once_among reads (a ∷ []) = cond (reads a.args) yes bad
+once_among reads (a ∷ b ∷ more) = bad
+
 abbrev pub skip_among : List Attribute → Skipping
-skip_among [] = no
-skip_among (a ∷ []) = cond (reads_skip a.args) yes bad
-skip_among (a ∷ b ∷ more) = bad
+skip_among attrs = once_among reads_skip attrs
 
 abbrev pub skip : List Attribute → List ℕ → Skipping
 skip attrs name = skip_among (filter (is_examined name) attrs)

@@ -1,28 +1,67 @@
-//! What the attributes of a place say to `PartialEq`: whether it leaves the place out, or that one of them is refused.
+//! What the attributes of one name say of a place where one may be given, and of which places `PartialEq` leaves out.
 
+ghost use Rattle.std.specs.Prelude.{◌≡◌, option_map};
+ghost use Rattle.dm_stream.specs.declared.error.Error.TheVariants.{Refused};
+ghost use Rattle.dm_stream.specs.declared.error.Kind.TheVariants.{AttrNotAllowed};
 ghost use Rattle.dm_attr.specs.SkipRefusals as spec;
 
 use crate::fold::parse_attrs;
+use crate::forward::Forward;
 use crate::skip::Skip;
 use crate::spanning::Spanning;
 use dm_ast::Attribute;
-use dm_stream::Error;
+use dm_stream::{Error, Kind, Refusal, Span};
 use std::alloc::Global;
 
-/// Whether the attributes of one name skip their place.
-fn is_skipped_under(alloc: Global, attrs: &[Attribute<'_>], name: &str) -> Result<bool, Error>
+/// Whether an attribute of this name is `skip` or `ignore` in any delimiters, as in derive_more.
+///
+/// The name and the word are compared as they are spelled, so that raw ones say nothing. The first attribute of the name that is
+/// something else is refused with `AttrSyntax`, and a second one that reads with `AttrRepeated`, each at its own range, from `#` to `]`.
+pub fn is_skipped_under(alloc: Global, attrs: &[Attribute<'_>], name: &str) -> Result<bool, Error>
     ensures { spec.IsSkipUnder name.now attrs.now result }
 {
     let found: Option<Spanning<Skip>> = parse_attrs(alloc, attrs, name)?;
     Ok(found.is_some())
 }
 
+/// Whether an attribute of this name is `forward` in any delimiters, with the refusals of [is_skipped_under].
+pub fn is_forwarded_under(alloc: Global, attrs: &[Attribute<'_>], name: &str) -> Result<bool, Error>
+    ensures { spec.IsForwardUnder name.now attrs.now result }
+{
+    let found: Option<Spanning<Forward>> = parse_attrs(alloc, attrs, name)?;
+    Ok(found.is_some())
+}
+
+fn not_allowed(span: Span) -> Error
+    ensures { result ≡ Refused (record { kind = AttrNotAllowed; span = span }) }
+{
+    Error::Refused(Refusal {
+        kind: Kind::AttrNotAllowed,
+        span,
+    })
+}
+
+/// Refuses what was found, at its range.
+fn refuse_found(found: Option<Spanning<Skip>>) -> Result<(), Error>
+    ensures { spec.IsRefusedBy (option_map spec.not_allowed found) result }
+{
+    match found {
+        None => Ok(()),
+        Some(found) => Err(not_allowed(found.span)),
+    }
+}
+
+/// Refuses a place that may not be left out where attributes of this name leave it out: with the refusals of [is_skipped_under], and
+/// an attribute that reads with `AttrNotAllowed` at its range.
+pub fn refuse_skip(alloc: Global, attrs: &[Attribute<'_>], name: &str) -> Result<(), Error>
+    ensures { spec.IsRefusedBy (spec.unskipped_refusal name.now attrs.now) result }
+{
+    let found: Option<Spanning<Skip>> = parse_attrs(alloc, attrs, name)?;
+    refuse_found(found)
+}
+
 /// Whether `PartialEq` leaves out the place with these attributes: one of the name `partial_eq`, or of the name `eq` where there is
-/// none of the first, is `skip` or `ignore` in any delimiters, as in derive_more.
-///
-/// The names and the words are compared as they are spelled, so that raw ones say nothing. Of the attributes that count, the first
-/// that is something else is refused with `AttrSyntax`, and a second one that reads with `AttrRepeated`, each at its own range,
-/// from `#` to `]`.
+/// none of the first, is `skip` or `ignore`, with the refusals of [is_skipped_under].
 pub fn is_left_out(alloc: Global, attrs: &[Attribute<'_>]) -> Result<bool, Error>
     ensures { spec.IsSkipAnswer attrs.now result }
 {

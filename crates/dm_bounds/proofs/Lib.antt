@@ -1,2 +1,3 @@
 pub mod Needing
 pub mod CoveringLaws
+pub mod Grown

@@ -50,19 +50,41 @@ is_free w t = not (inside w.this t || inside w.whole t)
 abbrev pub needs : Wanted → TypeTree → Bool
 needs w t = mentions w.parameters t && is_free w t
 
-abbrev pub added : PathTree → Wanted → MarkedField → List PredicateTree
-added p w f = cond (not f.left_out && needs w f.field.ty) (bounded p f.field.ty ∷ []) []
+-- what is asked for: of which types, and the trait's path for each
+pub record Asking : Type 0 where
+  pub asks : Wanted → TypeTree → Bool
+  pub path : TypeTree → PathTree
 
-abbrev pub added_in : PathTree → Wanted → MarkedCase → List PredicateTree
-added_in p w c = cond c.left_out [] (flat_map (added p w) c.fields)
+-- the predicate of a kept field's type, where one is asked for
+abbrev pub added_by : Asking → Wanted → MarkedField → List PredicateTree
+added_by a w f = cond (not f.left_out && a.asks w f.field.ty) (bounded (a.path f.field.ty) f.field.ty ∷ []) []
+
+-- of all kept fields of a case
+abbrev pub added_in_by : Asking → Wanted → MarkedCase → List PredicateTree
+added_in_by a w c = cond c.left_out [] (flat_map (added_by a w) c.fields)
 
 abbrev pub wanted_of : Declaration → Wanted
 wanted_of d = record { parameters = declared_in d.generics; this = self_type; whole = implementor d }
 
--- for the trait of this path, in an implementation for these cases
-abbrev pub needed_in : PathTree → Declaration → List MarkedCase → List PredicateTree
-needed_in p d cs = flat_map (added_in p (wanted_of d)) cs
+-- in an implementation for these cases, in order and with repeats
+abbrev pub needed_by : Asking → Declaration → List MarkedCase → List PredicateTree
+needed_by a d cs = flat_map (added_in_by a (wanted_of d)) cs
 
--- for the trait of this path
+-- ---- one trait, of each type that needs it
+
+-- the trait of this path
+abbrev pub needing : PathTree → Asking
+needing p = record { asks = needs; path = λ _. p }
+
+abbrev pub added : PathTree → Wanted → MarkedField → List PredicateTree
+added p w f = added_by (needing p) w f
+
+abbrev pub added_in : PathTree → Wanted → MarkedCase → List PredicateTree
+added_in p w c = added_in_by (needing p) w c
+
+abbrev pub needed_in : PathTree → Declaration → List MarkedCase → List PredicateTree
+needed_in p d cs = needed_by (needing p) d cs
+
+-- in the implementation for a declaration
 abbrev pub needed : PathTree → Declaration → List PredicateTree
 needed p d = needed_in p d (marked is_skipped d)

@@ -1,54 +1,23 @@
 //! The predicate of a type and a trait.
 #![tactic(auto, using(dm_ast::proofs::View::view_steps))]
 
-ghost use Rattle.std.specs.Prelude.{◌≡◌, IfOk, map, [], ◌∷◌, false, None};
-ghost use Rattle.dm_ast.specs.Tree.{
-  ty_view,
-  fn_view,
-  bound_view,
-  path_view,
-  trait_view,
-  implements,
-  trait_bound,
-  type_tree,
-  bare_fn,
-};
+ghost use Rattle.std.specs.Prelude.{◌≡◌, IfOk, None};
+ghost use Rattle.dm_ast.specs.Tree.{ty_view, fn_view, bound_view, path_view, type_tree, bare_fn};
 ghost use Rattle.dm_ast.specs.Declarations.{listed, predicate_view};
-ghost use Rattle.dm_ast.specs.Implementors.{plain_path};
-ghost use Rattle.dm_generics.specs.Words.{words};
 ghost use Rattle.dm_bounds.specs.Needed as spec;
 
-use dm_ast::{BareFn, Bound, Path, TraitBound, Ty, TyNode, WherePredicate};
+use dm_ast::{BareFn, Bound, Path, Ty, TyNode, WherePredicate};
 use dm_copy::{CloneIn, both, boxed};
+use dm_generics::bounds::bound_of;
 use dm_generics::lists::one;
-use dm_generics::names::path_of;
 use dm_stream::{Lifetime, Punctuated, Span};
 use std::alloc::{AllocError, Global};
 
-/// A trait as a bound.
-fn trait_of(path: Path<'_>) -> TraitBound<'_>
-    ensures { trait_view result ≡ trait_bound false false None (path_view path.entry) }
-{
-    TraitBound {
-        parens: false,
-        maybe: false,
-        lifetimes: None,
-        path,
-    }
-}
-
-fn bound_of(path: Path<'_>) -> Bound<'_>
-    ensures { bound_view result ≡ implements (trait_bound false false None (path_view path.entry)) }
-{
-    Bound::Trait(trait_of(path))
-}
-
 /// The trait of this path as the only bound.
-fn only_trait<'a>(alloc: Global, names: &[&'a str]) -> Result<Punctuated<Bound<'a>>, AllocError>
-    ensures { IfOk result (λ bs. listed bound_view bs ≡ spec.only_trait (plain_path (words (map (λ s. s.now) names.now)))) }
+fn only_trait<'a>(alloc: Global, path: Path<'a>) -> Result<Punctuated<Bound<'a>>, AllocError>
+    ensures { IfOk result (λ bs. listed bound_view bs ≡ spec.only_trait (path_view path.entry)) }
 {
-    let path = path_of(alloc, names)?;
-    let items = one(alloc, bound_of(path))?;
+    let items = one(alloc, bound_of(path, false))?;
     Ok(Punctuated {
         items,
         trailing: false,
@@ -136,11 +105,11 @@ fn subject<'a>(
 /// `T: TRAIT`, for the trait of this path.
 pub(crate) fn bounded<'a>(
     ty: &Ty<'a>,
-    names: &[&'a str],
+    path: Path<'a>,
     alloc: Global,
 ) -> Result<WherePredicate<'a>, AllocError>
-    ensures { IfOk result (λ p. predicate_view p ≡ spec.bounded (plain_path (words (map (λ s. s.now) names.now))) (ty_view ty.now)) }
+    ensures { IfOk result (λ p. predicate_view p ≡ spec.bounded (path_view path.entry) (ty_view ty.now)) }
 {
-    let ((lifetimes, ty), bounds) = both(subject(ty, alloc), only_trait(alloc, names))?;
+    let ((lifetimes, ty), bounds) = both(subject(ty, alloc), only_trait(alloc, path))?;
     Ok(WherePredicate::Ty(lifetimes, ty, bounds))
 }

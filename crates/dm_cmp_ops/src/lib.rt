@@ -1,11 +1,4 @@
-//! Comparison traits: from a declaration to implementations.
+//! Comparison and operators, gathered: from a declaration to the implementation of `PartialEq`.
 #![tactic(auto)]
 
-mod arms;
-mod checks;
-mod comparing;
-mod laws;
-pub mod partial_eq;
-mod printing;
-
-pub use laws::predicates_cover_calls;
+pub use dm_partial_eq::{partial_eq, predicates_cover_calls};

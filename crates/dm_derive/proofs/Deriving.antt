@@ -21,10 +21,11 @@ use Rattle.dm_ast.specs.Names.{names_refusal, IsNamesError}
 use Rattle.dm_names.proofs.NameRefusals.{refused_not_named}
 use Rattle.dm_expansion.specs.declared.expansion.Expansion.{Expansion}
 use Rattle.dm_output.specs.Views.{item_view}
-use Rattle.dm_cmp_ops.specs.Checks.{refusal, IsValid}
-use Rattle.dm_cmp_ops.specs.Expanded.{IsAnswer, IsPrinted, IsReadable, IsText}
-use Rattle.dm_cmp_ops.proofs.CheckLaws.{unrefused}
-use Rattle.dm_cmp_ops.proofs.Expansions.{text-once}
+use Rattle.dm_partial_eq.specs.Checks.{refusal, IsValid}
+use Rattle.dm_operands.specs.Readable.{IsReadable}
+use Rattle.dm_partial_eq.specs.Expanded.{IsAnswer, IsPrinted, IsText}
+use Rattle.dm_partial_eq.proofs.CheckLaws.{unrefused}
+use Rattle.dm_partial_eq.proofs.Expansions.{text-once}
 use Rattle.dm_derive.specs.Derived.{Answers, AreTrees, Grammar, IsKnown, IsRead, Reads, Derives, Prints, IsNotLexed, IsNotParsed, IsMisnamed, IsNotDerived, Refuses, IsDerivable, IsUnrefused}
 
 -- ---- reading

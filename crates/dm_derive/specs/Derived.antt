@@ -15,8 +15,8 @@ use Rattle.dm_ast.specs.Names.{Named, names_refusal}
 use Rattle.dm_expansion.specs.declared.expansion.Expansion.{Expansion}
 use Rattle.dm_output.specs.Output.{ItemTree}
 use Rattle.dm_output.specs.Views.{item_view}
-use Rattle.dm_cmp_ops.specs.Checks.{refusal, IsValid}
-use Rattle.dm_cmp_ops.specs.Expanded.{IsExpanded, IsText}
+use Rattle.dm_partial_eq.specs.Checks.{refusal, IsValid}
+use Rattle.dm_partial_eq.specs.Expanded.{IsExpanded, IsText}
 
 -- a trait that is derived
 abbrev pub IsKnown : List ℕ → Type 0

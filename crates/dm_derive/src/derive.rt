@@ -7,10 +7,10 @@ ghost use Rattle.dm_stream.specs.declared.error.Kind.TheVariants as kind;
 ghost use Rattle.dm_derive.specs.Derived.{Answers, Derives, IsDerivable, IsKnown, IsUnrefused, Prints, Reads};
 
 use dm_ast::DeriveInput;
-use dm_cmp_ops::partial_eq;
 use dm_expansion::Expansion;
 use dm_lexer::lex;
 use dm_names::check_names_in;
+use dm_partial_eq::partial_eq;
 use dm_read_decl::parse_decl;
 use dm_stream::{Error, Kind, Refusal, Span};
 use std::alloc::Global;

@@ -80,7 +80,8 @@ fn output<'a>(ident: &Ident<'a>, alloc: Global) -> Result<PathArguments<'a>, All
     ))
 }
 
-fn segment<'a>(ident: Ident<'a>, arguments: PathArguments<'a>) -> PathSegment<'a>
+/// A segment with what stands behind its name.
+pub fn segment<'a>(ident: Ident<'a>, arguments: PathArguments<'a>) -> PathSegment<'a>
     ensures { segment_view result ≡ segment_tree ident.entry (arguments_view arguments.entry) }
 {
     PathSegment { ident, arguments }
@@ -110,7 +111,7 @@ fn segments_to<'a>(
 }
 
 /// A path of these names and a last segment.
-fn path_to<'a>(
+pub fn path_to<'a>(
     alloc: Global,
     names: &[&'a str],
     last: PathSegment<'a>,

@@ -1,7 +1,8 @@
 //! Lists of one and two items, and lists that grow.
 
-ghost use Rattle.std.specs.Prelude.{◌≡◌, [], ◌∷◌, ◌++◌, IfOk};
+ghost use Rattle.std.specs.Prelude.{◌≡◌, [], ◌∷◌, ◌++◌, IfOk, IsOkAnd};
 
+use dm_copy::both;
 use dm_stream::Seq;
 use std::alloc::{AllocError, Global};
 
@@ -20,6 +21,30 @@ pub fn two<T: Drop>(alloc: Global, first: T, second: T) -> Result<Seq<T>, AllocE
     out.add(first)?;
     out.add(second)?;
     Ok(out)
+}
+
+/// The list of an item that was made. What it is is open here, so nothing has to be known of how it is dropped.
+pub fn one_of<T: Drop>(alloc: Global, made: Result<T, AllocError>) -> Result<Seq<T>, AllocError>
+    ensures { IfOk result (λ it. IsOkAnd made (λ t. it ≡ t ∷ [])) }
+{
+    match made {
+        Ok(item) => one(alloc, item),
+        Err(error) => Err(error),
+    }
+}
+
+/// The list of two items that were made.
+pub fn two_of<T: Drop>(
+    alloc: Global,
+    first: Result<T, AllocError>,
+    second: Result<T, AllocError>,
+) -> Result<Seq<T>, AllocError>
+    ensures { IfOk result (λ it. IsOkAnd first (λ t. IsOkAnd second (λ u. it ≡ t ∷ u ∷ []))) }
+{
+    match both(first, second) {
+        Ok((first, second)) => two(alloc, first, second),
+        Err(error) => Err(error),
+    }
 }
 
 /// The list with an item behind it.

@@ -6,3 +6,5 @@ pub mod Numbered
 pub mod CaseViews
 pub mod Places
 pub mod Named
+pub mod Readable
+pub mod Expanded

@@ -1,15 +1,15 @@
 -- The places of a declaration whose attributes are looked at, and the first of them that is refused.
-use Rattle.std.specs.Prelude.{◌≡◌, List, [], ◌∷◌, cond, Option, Some, None, Result, Ok, Err, map, flat_map}
+use Rattle.std.specs.Prelude.{◌≡◌, List, [], ◌∷◌, Bool, cond, Option, Some, None, Result, map, flat_map}
 use Rattle.std.specs.Option.{option_or}
 use Rattle.std.specs.declared.alloc.Global.{Global}
 use Rattle.std.specs.declared.vec.Vec.{Vec}
 use Rattle.dm_stream.specs.declared.error.Error.{Error}
-use Rattle.dm_stream.specs.declared.error.Error.TheVariants.{NoMemory, Refused}
 use Rattle.dm_stream.specs.declared.error.Kind.TheVariants.{WrongShape}
 use Rattle.dm_stream.specs.declared.error.Refusal.{Refusal}
 use Rattle.dm_ast.specs.declared.plain.Attribute.{Attribute}
 use Rattle.dm_ast.specs.Declarations.{Declaration, FieldTree, ShapeTree, struct_shape, enum_shape, union_shape}
 use Rattle.dm_output.specs.Values.{Case, cases, field_list}
+pub use Rattle.dm_attr.specs.Answers.{IsWalked}
 use Rattle.dm_attr.specs.Skips.{is_skipped}
 use Rattle.dm_attr.specs.SkipRefusals.{place_refusal}
 use Rattle.dm_operands.specs.declared.cases.FieldRef.{FieldRef}
@@ -24,9 +24,13 @@ attrs_of f = f.attrs
 abbrev pub places : Case → List (List Attribute)
 places c = c.attrs ∷ cond (is_skipped c.attrs) [] (map attrs_of (field_list c.fields))
 
+-- the first refusal of places, each of which may be refused
+abbrev pub first_by : (List Attribute → Option Refusal) → List (List Attribute) → Option Refusal
+first_by refuses [] = None
+first_by refuses (p ∷ ps) = option_or (refuses p) (first_by refuses ps)
+
 abbrev pub first_refusal : List (List Attribute) → Option Refusal
-first_refusal [] = None
-first_refusal (p ∷ ps) = option_or (place_refusal p) (first_refusal ps)
+first_refusal ps = first_by place_refusal ps
 
 -- a union is refused, at its word; a struct and an enum where the first of their places is
 abbrev pub refusal_of_shape : ShapeTree → List Case → Option Refusal
@@ -38,15 +42,10 @@ refusal_of_shape (union_shape word fs) cs = Some (record { kind = WrongShape; sp
 abbrev pub refusal : Declaration → Option Refusal
 refusal d = refusal_of_shape d.shape (cases d)
 
--- what a walk over places is answered with, want of memory aside: where none is refused, what is made; and else the first refusal
-abbrev pub IsWalked : {A : Type 0} → Option Refusal → (A → Type 0) → Result A Error → Type 0
-IsWalked first Made (Ok x) = (first ≡ None) × Made x
-IsWalked first Made (Err NoMemory) = Unit {0}
-IsWalked first Made (Err (Refused r)) = first ≡ Some r
-
--- fields, each marked
-abbrev pub AreFieldsWalked : List FieldTree → Result (Vec FieldRef Global) Error → Type 0
-AreFieldsWalked fs r = IsWalked (first_refusal (map attrs_of fs)) (λ x. map field_ref_view x.items ≡ map (mark_field is_skipped) fs) r
+-- fields, each marked whether it is left out, or the first refusal of one
+abbrev pub AreFieldsMarked : (List Attribute → Option Refusal) → (List Attribute → Bool) → List FieldTree → Result (Vec FieldRef Global) Error → Type 0
+AreFieldsMarked refuses leaves_out fs r =
+    IsWalked (first_by refuses (map attrs_of fs)) (λ x. map field_ref_view x.items ≡ map (mark_field leaves_out) fs) r
 
 -- a case, marked
 abbrev pub IsCaseWalked : Case → Result CaseRef Error → Type 0

@@ -29,7 +29,7 @@ fn block_body<'a>(alloc: Global, last: Box<Expr<'a>>) -> ArmBody<'a>
 }
 
 /// An arm of one pattern, without a guard.
-fn arm_with<'a>(
+pub fn arm_with<'a>(
     alloc: Global,
     pattern: Pattern<'a>,
     body: ArmBody<'a>,

@@ -44,7 +44,8 @@ pub fn is_enum(input: &DeriveInput<'_>) -> bool
     }
 }
 
-fn keeps_some(fields: &[FieldRef<'_, '_>]) -> bool
+/// Whether some field isn't left out.
+pub fn keeps_some(fields: &[FieldRef<'_, '_>]) -> bool
     ensures { result ≡ spec.keeps_some (map field_ref_view fields.now) }
 {
     for field in fields {

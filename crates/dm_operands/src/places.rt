@@ -1,9 +1,11 @@
 //! The one walk over the places of a declaration: it reads their attributes, and gives the cases or the first refusal.
 #![tactic(auto, using(crate::proofs::PlaceLaws::place_steps))]
 
-ghost use Rattle.std.specs.Prelude.{◌≡◌, [], ◌∷◌, ◌++◌, map, OnOk};
+ghost use Rattle.std.specs.Prelude.{◌≡◌, [], ◌∷◌, ◌++◌, List, Bool, Option, map, OnOk};
 ghost use Rattle.dm_ast.specs.Declarations.{declaration_view, variant_view, fields_view, field_view};
 ghost use Rattle.dm_stream.specs.declared.error.Kind.TheVariants.{WrongShape};
+ghost use Rattle.dm_stream.specs.declared.error.Refusal.{Refusal};
+ghost use Rattle.dm_ast.specs.declared.plain.Attribute.{Attribute};
 ghost use Rattle.dm_output.specs.Values as values;
 ghost use Rattle.dm_attr.specs.Skips.{is_skipped};
 ghost use Rattle.dm_attr.specs.SkipRefusals.{place_refusal};
@@ -17,29 +19,61 @@ use dm_attr::skips::is_left_out;
 use dm_stream::{Error, Ident, Kind, Refusal, Span};
 use std::alloc::{AllocError, Global};
 
-fn add<T: Drop>(out: &mut Vec<T>, item: T) -> Result<(), AllocError>
+/// Adds an item.
+pub fn add<T: Drop>(out: &mut Vec<T>, item: T) -> Result<(), AllocError>
     ensures { OnOk result (out.new.items ≡ out.old.items ++ item ∷ []) }
 {
     out.push(item)?;
     Ok(())
 }
 
-fn field_ref<'x, 'a>(alloc: Global, field: &'x Field<'a>) -> Result<FieldRef<'x, 'a>, Error>
-    ensures { spec.IsWalked (place_refusal field.now.attrs) (λ f. field_ref_view f ≡ marked.mark_field is_skipped (field_view field.now)) result }
+/// What tells of a place, by its attributes, whether it is left out.
+pub trait Leaving {
+    /// The first refusal of attributes.
+    ghost refuses: { Self → List Attribute → Option Refusal };
+
+    /// Whether the place with these attributes is left out.
+    ghost leaves_out: { Self → List Attribute → Bool };
+
+    /// Whether the place with these attributes is left out, or their first refusal.
+    fn is_left_out(&self, alloc: Global, attrs: &[Attribute<'_>]) -> Result<bool, Error>
+        ensures { spec.IsWalked (refuses self.now attrs.now) (λ b. b ≡ leaves_out self.now attrs.now) result };
+}
+
+/// The attributes that `PartialEq` looks at.
+struct Compared;
+
+impl Leaving for Compared {
+    ghost refuses = { λ _. place_refusal };
+
+    ghost leaves_out = { λ _. is_skipped };
+
+    fn is_left_out(&self, alloc: Global, attrs: &[Attribute<'_>]) -> Result<bool, Error> {
+        is_left_out(alloc, attrs)
+    }
+}
+
+fn field_ref<'x, 'a, L: Leaving>(
+    alloc: Global,
+    leaving: &L,
+    field: &'x Field<'a>,
+) -> Result<FieldRef<'x, 'a>, Error>
+    ensures { spec.IsWalked (L.refuses leaving.now field.now.attrs) (λ f. field_ref_view f ≡ marked.mark_field (L.leaves_out leaving.now) (field_view field.now)) result }
 {
-    let left_out = is_left_out(alloc, field.attrs.as_slice())?;
+    let left_out = leaving.is_left_out(alloc, field.attrs.as_slice())?;
     Ok(FieldRef { field, left_out })
 }
 
-fn field_refs<'x, 'a>(
+fn field_refs<'x, 'a, L: Leaving>(
     alloc: Global,
+    leaving: &L,
     fields: &'x [Field<'a>],
 ) -> Result<Vec<FieldRef<'x, 'a>>, Error>
-    ensures { spec.AreFieldsWalked (map field_view fields.now) result }
+    ensures { spec.AreFieldsMarked (L.refuses leaving.now) (L.leaves_out leaving.now) (map field_view fields.now) result }
 {
     let mut out = Vec::with_capacity(alloc, fields.len())?;
     for field in fields {
-        match field_ref(alloc, field) {
+        match field_ref(alloc, leaving, field) {
             Ok(next) => add(&mut out, next)?,
             Err(error) => return Err(error),
         }
@@ -47,7 +81,8 @@ fn field_refs<'x, 'a>(
     Ok(out)
 }
 
-fn form_of(fields: &Fields<'_>) -> Form
+/// What stands around fields.
+pub fn form_of(fields: &Fields<'_>) -> Form
     ensures { result ≡ marked.form_of (fields_view fields.now) }
 {
     match fields {
@@ -57,16 +92,17 @@ fn form_of(fields: &Fields<'_>) -> Form
     }
 }
 
-/// The fields of a case that isn't left out.
-fn kept_fields<'x, 'a>(
+/// The fields, each marked whether it is left out, or the first refusal of one.
+pub fn marked_fields<'x, 'a, L: Leaving>(
     alloc: Global,
+    leaving: &L,
     fields: &'x Fields<'a>,
 ) -> Result<Vec<FieldRef<'x, 'a>>, Error>
-    ensures { spec.AreFieldsWalked (values.field_list (fields_view fields.now)) result }
+    ensures { spec.AreFieldsMarked (L.refuses leaving.now) (L.leaves_out leaving.now) (values.field_list (fields_view fields.now)) result }
 {
     match fields {
-        Fields::Named(all) => field_refs(alloc, all.items.as_slice()),
-        Fields::Unnamed(all) => field_refs(alloc, all.items.as_slice()),
+        Fields::Named(all) => field_refs(alloc, leaving, all.items.as_slice()),
+        Fields::Unnamed(all) => field_refs(alloc, leaving, all.items.as_slice()),
         Fields::Unit => Ok(Vec::new(alloc)),
     }
 }
@@ -84,7 +120,7 @@ fn case_ref<'x, 'a>(
     let fields = if left_out {
         Vec::new(alloc)
     } else {
-        kept_fields(alloc, fields)?
+        marked_fields(alloc, &Compared, fields)?
     };
     Ok(CaseRef {
         ident,

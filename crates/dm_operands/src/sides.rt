@@ -9,7 +9,7 @@ ghost use Rattle.dm_output.specs.Views.{pattern_view, named_view};
 ghost use Rattle.dm_output.specs.declared.pattern.Binding.TheVariants.{Plain};
 ghost use Rattle.dm_generics.specs.Words as heads;
 ghost use Rattle.dm_operands.specs.Sides as spec;
-ghost use Rattle.dm_operands.specs.Numbered.{self_name, other_name};
+ghost use Rattle.dm_operands.specs.Numbered.{self_name, other_name, right_name, inner_name};
 ghost use Rattle.dm_operands.specs.CaseViews.{case_view, field_ref_view, naming};
 
 use crate::cases::{CaseRef, FieldRef, Form, is_enum, some_left_out};
@@ -19,11 +19,17 @@ use dm_output::{Binding, NamedPattern, Pattern};
 use dm_stream::{Ident, Seq, Text};
 use std::alloc::{AllocError, Global};
 
-/// Which of the two values that are compared.
+/// Whose fields are named.
 #[derive(Clone, Copy, Debug, PartialEq, Eq)]
 pub enum Operand {
+    /// The left one of two values: `__self_0`.
     Mine,
+    /// The right one of two that are compared: `__other_0`.
     Theirs,
+    /// The right one of an operator's: `__rhs_0`.
+    Right,
+    /// The only one: `__0`.
+    Inner,
 }
 
 /// The names of the first fields of the left operand, which need no memory.
@@ -43,7 +49,7 @@ fn first_mine(n: usize) -> Option<&'static str>
     }
 }
 
-/// The names of the first fields of the right operand.
+/// The names of the first fields of the right operand of a comparison.
 fn first_theirs(n: usize) -> Option<&'static str>
     ensures { IfSome result (λ name. name.now ≡ other_name n) }
 {
@@ -60,12 +66,48 @@ fn first_theirs(n: usize) -> Option<&'static str>
     }
 }
 
+/// The names of the first fields of the right operand of an operator.
+fn first_right(n: usize) -> Option<&'static str>
+    ensures { IfSome result (λ name. name.now ≡ right_name n) }
+{
+    match n {
+        0 => Some("__rhs_0"),
+        1 => Some("__rhs_1"),
+        2 => Some("__rhs_2"),
+        3 => Some("__rhs_3"),
+        4 => Some("__rhs_4"),
+        5 => Some("__rhs_5"),
+        6 => Some("__rhs_6"),
+        7 => Some("__rhs_7"),
+        _ => None,
+    }
+}
+
+/// The names of the first fields of the only operand.
+fn first_inner(n: usize) -> Option<&'static str>
+    ensures { IfSome result (λ name. name.now ≡ inner_name n) }
+{
+    match n {
+        0 => Some("__0"),
+        1 => Some("__1"),
+        2 => Some("__2"),
+        3 => Some("__3"),
+        4 => Some("__4"),
+        5 => Some("__5"),
+        6 => Some("__6"),
+        7 => Some("__7"),
+        _ => None,
+    }
+}
+
 pub fn first_name(operand: Operand, n: usize) -> Option<&'static str>
     ensures { IfSome result (λ name. name.now ≡ naming operand n) }
 {
     match operand {
         Operand::Mine => first_mine(n),
         Operand::Theirs => first_theirs(n),
+        Operand::Right => first_right(n),
+        Operand::Inner => first_inner(n),
     }
 }
 
@@ -75,6 +117,8 @@ pub fn formatted(alloc: Global, operand: Operand, n: usize) -> Result<String, Al
     match operand {
         Operand::Mine => format!(in alloc; "__self_{n}"),
         Operand::Theirs => format!(in alloc; "__other_{n}"),
+        Operand::Right => format!(in alloc; "__rhs_{n}"),
+        Operand::Inner => format!(in alloc; "__{n}"),
     }
 }
 
@@ -123,7 +167,8 @@ fn bindings<'a>(
     Ok(out)
 }
 
-fn field_ident<'a>(alloc: Global, field: &Field<'a>) -> Result<Ident<'a>, AllocError>
+/// The name of a field in braces.
+pub fn field_ident<'a>(alloc: Global, field: &Field<'a>) -> Result<Ident<'a>, AllocError>
     ensures { IfOk result (λ i. i ≡ spec.field_ident field.now.ident) }
 {
     match &field.ident {
@@ -164,7 +209,7 @@ fn named_bindings<'a>(
 }
 
 /// `Self`, or `Self::V`.
-fn case_path<'a>(
+pub fn case_path<'a>(
     alloc: Global,
     input: &DeriveInput<'a>,
     ident: &Ident<'a>,
@@ -177,7 +222,8 @@ fn case_path<'a>(
     path_of_one(alloc, word("Self"))
 }
 
-fn side_pattern<'a>(
+/// The pattern of an operand with this path, whose fields stand as in the case.
+pub fn side_pattern<'a>(
     alloc: Global,
     operand: Operand,
     path: Path<'a>,
@@ -197,6 +243,19 @@ fn side_pattern<'a>(
 }
 
 /// The pattern of an operand that is of this case.
+pub fn case_pattern<'a>(
+    alloc: Global,
+    operand: Operand,
+    input: &DeriveInput<'a>,
+    case: &CaseRef<'_, 'a>,
+) -> Result<Pattern<'a>, AllocError>
+    ensures { IfOk result (λ p. pattern_view p ≡ spec.side (naming operand) (declaration_view input.now) (case_view case.now)) }
+{
+    let path = case_path(alloc, input, case.ident)?;
+    side_pattern(alloc, operand, path, case)
+}
+
+/// That pattern in a box.
 pub fn side<'a>(
     alloc: Global,
     operand: Operand,
@@ -205,7 +264,6 @@ pub fn side<'a>(
 ) -> Result<Box<Pattern<'a>>, AllocError>
     ensures { IfOk result (λ p. pattern_view p.value ≡ spec.side (naming operand) (declaration_view input.now) (case_view case.now)) }
 {
-    let path = case_path(alloc, input, case.ident)?;
-    let pattern = side_pattern(alloc, operand, path, case)?;
+    let pattern = case_pattern(alloc, operand, input, case)?;
     Ok(Box::new(alloc, pattern)?)
 }

@@ -9,7 +9,6 @@ use Rattle.dm_output.specs.Values.{Text, another, Thing, value, things_of, list_
 use Rattle.dm_output.specs.Fits.{Env, names_type, path_names, constructor, path_case, paren_fields, brace_fields, fields_of_case}
 use Rattle.dm_output.specs.Calls.{Setting, State, goes, as_term, as_terms, given_for, in_order}
 use Rattle.dm_output.specs.Run.{run, run_each, run_named}
-use Rattle.dm_operands.specs.declared.cases.Form.{Form}
 use Rattle.dm_operands.specs.declared.cases.Form.TheVariants as forms
 use Rattle.dm_operands.specs.Marked.{MarkedField, form_of}
 use Rattle.dm_operands.specs.Sides.{field_ident}

@@ -9,7 +9,6 @@ use Rattle.dm_output.specs.Values.{Case, cases, field_list}
 use Rattle.dm_searches.specs.Mentions.{mentions}
 use Rattle.dm_searches.specs.Inside.{inside}
 use Rattle.dm_operands.specs.Marked.{MarkedField, mark_field, mark_case}
-use Rattle.dm_operands.proofs.BindingLaws.{fields-marked}
 use Rattle.dm_bounds.specs.Needed.{Wanted, wanted_of, bounded}
 use Rattle.dm_bounds.specs.Covering.{IsAmong, HoldsOwn}
 use Rattle.dm_operators.specs.Operators.{Form, structural, scalar, unary, Operator}
@@ -85,10 +84,9 @@ case-adds : (form : Form) (o : Operator) (w : Wanted) (c : Case) (f : FieldTree)
     skips o f.attrs ≡ false → is_asked form w f.ty ≡ true → IsAmong (bounded (asked form o f.ty) f.ty)
     (added_in form o w (mark_case (skips o) c))
 case-adds form o w c f j kept at own says =
-    subst (λ (fs : List MarkedField). IsAmong (bounded (asked form o f.ty) f.ty) (flat_map (added form o w) fs))
-    (sym (fields-marked (skips o) c kept))
-    (among-all (added form o w) (bounded (asked form o f.ty) f.ty) (mark_field (skips o) f)
-    (map (mark_field (skips o)) (field_list c.fields)) j
+    let fs : List MarkedField = map (mark_field (skips o)) (field_list c.fields) in
+    subst (λ (b : Bool). IsAmong (bounded (asked form o f.ty) f.ty) (cond b [] (flat_map (added form o w) (cond b [] fs)))) (sym kept)
+    (among-all (added form o w) (bounded (asked form o f.ty) f.ty) (mark_field (skips o) f) fs j
     (mapped-at (mark_field (skips o)) (field_list c.fields) j f at) (field-adds form o w f own says))
 
 -- ---- all of them

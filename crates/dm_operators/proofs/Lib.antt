@@ -14,3 +14,6 @@ pub mod Operations
 pub mod CoveringLaws
 pub mod ValidLaws
 pub mod MeaningLaws
+mod WalkLaws
+mod PlanLaws
+mod TraitSteps

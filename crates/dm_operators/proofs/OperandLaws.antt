@@ -1,6 +1,5 @@
 -- What operations on the operands' fields give.
 use Rattle.std.proofs.Common.{◌≡◌, ℕ, zero, suc, ◌+◌, List, [], ◌∷◌, length, map, Bool, true, false, cond, Some, codes, slice_get, refl, ap, ◌∙◌, arith}
-use Rattle.dm_ast.specs.declared.plain.Attribute.{Attribute}
 use Rattle.dm_ast.specs.Declarations.{FieldTree}
 use Rattle.dm_output.specs.Output.{ExprTree}
 use Rattle.dm_output.specs.Values.{Text, Side, mine, theirs, another, of_side, Thing, atom, apply, truth, number, text, input_text, value, place, discriminant, tuple_of, success, failure, present, missing, done, pass, written, listing, Things, no_things, thing_then}
@@ -13,6 +12,7 @@ use Rattle.dm_operands.specs.Numbered.{self_name}
 use Rattle.dm_operands.specs.Bodies.{name}
 use Rattle.dm_operands.proofs.NameLaws.{Differ, Apart, bytes_differ}
 use Rattle.dm_operands.proofs.BindingLaws.{Names, Knows}
+pub use Rattle.dm_operators.specs.Attributes.{keeps_all}
 use Rattle.dm_operators.specs.Operators as ops
 use Rattle.dm_operators.specs.Operators.{Operator, method_names}
 use Rattle.dm_operators.specs.Attributes.{skips}
@@ -88,10 +88,6 @@ place-term s st theirs n x at = rw at refl
 abbrev pub AreStanding : Setting → Env → State → (ℕ → ExprTree) → ℕ → List Thing → Type 0
 AreStanding s env st e n [] = Unit {0}
 AreStanding s env st e n (t ∷ ts) = Stands s (e n) env st t × AreStanding s env st e (n + 1) ts
-
--- no field is left out
-abbrev pub keeps_all : List Attribute → Bool
-keeps_all attrs = false
 
 -- the fields of a side, where all of them are bound
 pub places-stand : (s : Setting) (env : Names) (st : State) (side : Side) (naming : ℕ → Text) (n : ℕ)

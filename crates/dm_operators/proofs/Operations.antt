@@ -10,10 +10,11 @@ use Rattle.dm_operators.specs.Meaning.{of_two, after_two, of_any, direct_in, IsR
 use Rattle.dm_operators.specs.Heads.{IsOperation}
 use Rattle.dm_operators.specs.Implementations.{method_in, method_of, item_of}
 use Rattle.dm_operators.specs.Refusals.{refusal}
+use Rattle.dm_operators.specs.Laws.{AreFew}
 use Rattle.dm_operators.proofs.BinaryArms.{AreOpen}
 use Rattle.dm_operators.proofs.ValueMethods.{two-gives, any-gives}
 use Rattle.dm_operators.proofs.AssigningMethods.{two-leaves, any-leaves}
-use Rattle.dm_operators.proofs.UnaryLaws.{AreFew, one-gives}
+use Rattle.dm_operators.proofs.UnaryLaws.{one-gives}
 use Rattle.dm_operators.proofs.RefusalLaws.{unrefused-open, unrefused-unary, unrefused-scalar}
 
 unary-by : (f : Form) (b : Bool) → form_by f b ≡ unary → f ≡ unary
@@ -22,7 +23,7 @@ unary-by scalar true h = absurd cc
 unary-by scalar false h = absurd cc
 unary-by unary b h = refl
 
-module _ (o : Operator) (d : Declaration) (operator : IsOperator o) (names : AreNamed d) (few : AreFew d)
+module _ (o : Operator) (d : Declaration) (operator : IsOperator o) (names : AreNamed d) (few : AreFew o d)
     (unrefused : refusal o d ≡ None) where
   open_cases : AreOpen o d
   open_cases = unrefused-open o d unrefused

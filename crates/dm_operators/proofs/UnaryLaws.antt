@@ -30,6 +30,7 @@ use Rattle.dm_operators.specs.Meaning.{operation, with_fields, is_unit, is_unit_
 use Rattle.dm_operators.specs.Bodies as bodies
 use Rattle.dm_operators.specs.Bodies.{arm, inner_name, inner_part, variant_path, is_unit_form, some_unit_form, unary_given, unary_arm, member_of, own_part, own_value, unary_enum, unary_struct, body_expr, in_ok}
 use Rattle.dm_operators.specs.Implementations.{method_in}
+use Rattle.dm_operators.specs.Laws.{AreFew}
 use Rattle.dm_operators.proofs.TableLaws.{means-method, known-value, unary-value}
 use Rattle.dm_operators.proofs.ConstructorLaws.{ArePartsOf, leads, constructor-run}
 use Rattle.dm_operators.proofs.OperandLaws.{inner-inner, keeps_all, AreAt, first-at, rest-at, all-at, place-term, GivesValue, unary-parts}
@@ -298,11 +299,7 @@ one-term s st true true p q n xs = refl
 one-term s st true false p q n xs = refl
 one-term s st false b p q n xs = refl
 
--- the fields of each case can be numbered by 64 bits
-abbrev pub AreFew : Declaration → Type 0
-AreFew d = (n : ℕ) (c : Case) → slice_get (cases d) n ≡ Some c → length (field_list c.fields) ≤ 2 ^ 64
-
-pub one-gives : (o : Operator) (d : Declaration) → AreNamed d → AreOpen o d → AreFew d → IsOperator o → o.form ≡ ops.unary →
+pub one-gives : (o : Operator) (d : Declaration) → AreNamed d → AreOpen o d → AreFew o d → IsOperator o → o.form ≡ ops.unary →
     (x : Value) (os : List Bool) → IsValue d x →
     (is_enum d ≡ false → is_unit_in (case_of d x) ≡ false) → run_method d os (method_in ops.unary o d (cases_for o d)) x
     no_input ≡ Some (of_one o d x)
@@ -329,5 +326,5 @@ one-gives o d names open_cases few operator form x os vx full =
       | false ↦ λ e.
           ap (λ (a : ExprTree). run s a (plain (self_alone x)) (start x)) (first-case o d (cases d) x.variant u
           (only-case d x.variant u e at) at) ∙
-          struct-run s o is form x u e at (sym (ap is_unit_in at) ∙ full e) (few x.variant u at) (sym ux.2)
+          struct-run s o is form x u e at (sym (ap is_unit_in at) ∙ full e) (few form e x.variant u at) (sym ux.2)
     ]) refl)

@@ -17,6 +17,7 @@ use Rattle.dm_generics.specs.Numerals.{numeral}
 use Rattle.dm_operands.specs.declared.cases.Form.{Form}
 use Rattle.dm_operands.specs.declared.cases.Form.TheVariants as forms
 use Rattle.dm_operands.specs.Marked.{MarkedField, MarkedCase}
+pub use Rattle.dm_operands.specs.Numbered.{right_name, inner_name}
 use Rattle.dm_operands.specs.Numbered.{self_name}
 use Rattle.dm_operands.specs.Bodies.{name}
 use Rattle.dm_operands.specs.Sides.{field_ident, case_path, side_pattern, side}
@@ -45,9 +46,13 @@ in_ok b e = cond b (call_of ok_names e) e
 abbrev pub new_error : Text → Operator → ExprTree
 new_error type o = call_of (codes "derive_more" ∷ type ∷ codes "new" ∷ []) (str_expr (quoted o.method))
 
+-- `Err (..)`
+abbrev pub in_err : ExprTree → ExprTree
+in_err e = call_of err_names e
+
 -- `Err` of an error of two values, of this kind
 abbrev pub binary_error : Text → ExprTree → ExprTree
-binary_error kind e = call_of err_names (call_of (codes "derive_more" ∷ codes "BinaryError" ∷ kind ∷ []) e)
+binary_error kind e = in_err (call_of (codes "derive_more" ∷ codes "BinaryError" ∷ kind ∷ []) e)
 
 -- for two values of a variant without fields
 unfoldable pub binary_unit : Operator → ExprTree
@@ -59,7 +64,7 @@ mismatch o = binary_error (codes "Mismatch") (new_error (codes "WrongVariantErro
 
 -- for a value of a variant without fields
 unfoldable pub unary_unit : Operator → ExprTree
-unary_unit o = call_of err_names (new_error (codes "UnitError") o)
+unary_unit o = in_err (new_error (codes "UnitError") o)
 
 -- ---- a value of a case, with an expression for each of its fields, which the field's number and mark give
 
@@ -85,10 +90,6 @@ constructor part p forms.Unnamed fs = in_parens p (parts part 0 fs)
 constructor part p forms.Unit fs = path_expr no_self p
 
 -- ---- fields of two operands
-
--- what the right side's fields are called, by their numbers
-abbrev pub right_name : ℕ → Text
-right_name n = codes "__rhs_" ++ numeral n
 
 -- the right operand of field n: the right side's field, or the right side
 abbrev pub right_operand : ops.Form → ℕ → ExprTree
@@ -129,10 +130,13 @@ abbrev pub bound_in : Operator → MarkedCase → MarkedCase
 bound_in o c = cond o.assigning c (whole c)
 
 -- of self and the right side, or of self alone
+abbrev pub sides : ops.Form → Declaration → MarkedCase → PatternTree
+sides ops.structural d c = pair_pattern (side self_name d c) (side right_name d c)
+sides ops.scalar d c = side self_name d c
+sides ops.unary d c = side self_name d c
+
 abbrev pub binary_pattern : ops.Form → Operator → Declaration → MarkedCase → PatternTree
-binary_pattern ops.structural o d c = pair_pattern (side self_name d (bound_in o c)) (side right_name d (bound_in o c))
-binary_pattern ops.scalar o d c = side self_name d (bound_in o c)
-binary_pattern ops.unary o d c = side self_name d (bound_in o c)
+binary_pattern form o d c = sides form d (bound_in o c)
 
 -- the value of the case with the operation in its kept fields
 abbrev pub value_given : ops.Form → Operator → Declaration → MarkedCase → ExprTree
@@ -163,14 +167,20 @@ abbrev pub binary_arm : ops.Form → Operator → Declaration → MarkedCase →
 binary_arm form o d c = arm (binary_pattern form o d c) (binary_given form o d c)
 
 -- two values of different variants: an error, or nothing is assigned
+abbrev pub different_body : Operator → ArmBodyTree
+different_body o = cond o.assigning (block_body (block no_stmts no_expr)) (expr_body (mismatch o))
+
 abbrev pub different : Operator → ArmTree
-different o = arm wild (cond o.assigning (block_body (block no_stmts no_expr)) (expr_body (mismatch o)))
+different o = arm wild (different_body o)
 
 -- where there are such values
+abbrev pub has_rest : ops.Form → List MarkedCase → Bool
+has_rest ops.structural cs = nat_lt 1 (length cs)
+has_rest ops.scalar cs = false
+has_rest ops.unary cs = false
+
 abbrev pub rest : ops.Form → Operator → List MarkedCase → List ArmTree
-rest ops.structural o cs = cond (nat_lt 1 (length cs)) (different o ∷ []) []
-rest ops.scalar o cs = []
-rest ops.unary o cs = []
+rest form o cs = cond (has_rest form cs) (different o ∷ []) []
 
 -- what is matched: self and the right side, or self alone
 abbrev pub subject : ops.Form → ExprTree
@@ -179,10 +189,6 @@ subject ops.scalar = name (codes "self")
 subject ops.unary = name (codes "self")
 
 -- ---- arms for one operand
-
--- what self's fields are called where nothing stands right of it
-abbrev pub inner_name : ℕ → Text
-inner_name n = codes "__" ++ numeral n
 
 -- the operation on field n of a variant
 abbrev pub inner_part : Operator → ℕ → MarkedField → ExprTree
@@ -229,9 +235,12 @@ own_value o d c = constructor (own_part o c.form) (plain_path (d.ident ∷ [])) 
 abbrev pub match_of : ExprTree → List ArmTree → ExprTree
 match_of e as' = match_expr e (arms_of as')
 
--- `match self {}` for an enum without variants
+-- `match self {}`, for an enum without variants
+abbrev pub no_match : ExprTree
+no_match = match_expr (name (codes "self")) no_arms
+
 abbrev pub binary_body : ops.Form → Operator → Declaration → List MarkedCase → ExprTree
-binary_body form o d [] = match_expr (name (codes "self")) no_arms
+binary_body form o d [] = no_match
 binary_body form o d (c ∷ cs) = match_of (subject form) (map (binary_arm form o d) (c ∷ cs) ++ rest form o (c ∷ cs))
 
 -- one operand of an enum
@@ -240,7 +249,7 @@ unary_enum o d cs = match_of (name (codes "self")) (map (unary_arm o d (some_uni
 
 -- a struct is its only case
 abbrev pub unary_struct : Operator → Declaration → List MarkedCase → ExprTree
-unary_struct o d [] = match_expr (name (codes "self")) no_arms
+unary_struct o d [] = no_match
 unary_struct o d (c ∷ cs) = own_value o d c
 
 -- the body, by what stands right of self

@@ -1,4 +1,5 @@
 pub mod Operators
+pub mod Table
 pub mod Attributes
 pub mod Meaning
 pub mod Predicates
@@ -6,5 +7,7 @@ pub mod Bodies
 pub mod Heads
 pub mod Implementations
 pub mod Refusals
+pub mod Plans
 pub mod Covered
 pub mod Valid
+pub mod Laws

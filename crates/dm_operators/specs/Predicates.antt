@@ -1,6 +1,6 @@
 -- The traits that an implementation names, and the predicates that it adds to the declared ones, so that the operation of each kept field
 -- may be called.
-use Rattle.std.specs.Prelude.{ℕ, ◌+◌, List, [], ◌∷◌, ◌++◌, flat_map, Bool, false, not, cond, ◌&&◌, nat_lt, None, codes}
+use Rattle.std.specs.Prelude.{List, [], ◌∷◌, ◌++◌, Bool, false, cond, ◌||◌, None, codes}
 use Rattle.dm_ast.specs.Tree.{TypeTree, PathTree, path_tree, segment, segments_of, ArgumentsTree, absent, angle, ArgumentTree, type_arg, assoc_type, arguments_of, arguments_absent}
 use Rattle.dm_ast.specs.Declarations.{ParamTree, type_param, PredicateTree, type_predicate, Declaration}
 use Rattle.dm_ast.specs.Implementors.{name_type}
@@ -8,7 +8,8 @@ use Rattle.dm_generics.specs.Words.{word, plain_segments}
 use Rattle.dm_generics.specs.Lists.{separated}
 use Rattle.dm_generics.specs.Bounds.{marker}
 use Rattle.dm_operands.specs.Marked.{MarkedField, MarkedCase}
-use Rattle.dm_bounds.specs.Needed.{bounded, Wanted, is_free, needs, wanted_of}
+use Rattle.dm_operands.specs.Kept.{keeps_some}
+use Rattle.dm_bounds.specs.Needed.{Wanted, is_free, needs, Asking, added_by, added_in_by, needed_by}
 use Rattle.dm_operators.specs.Operators.{Form, structural, scalar, unary, Operator}
 use Rattle.dm_operators.specs.Attributes.{cases_for, form_in}
 
@@ -60,37 +61,44 @@ is_asked structural w t = needs w t
 is_asked scalar w t = is_free w t
 is_asked unary w t = false
 
+-- the trait that is asked for, in this form
+abbrev pub asking : Form → Operator → Asking
+asking form o = record { asks = is_asked form; path = asked form o }
+
 -- the predicate of a kept field's type, where one is asked for
 abbrev pub added : Form → Operator → Wanted → MarkedField → List PredicateTree
-added form o w f = cond (not f.left_out && is_asked form w f.field.ty) (bounded (asked form o f.field.ty) f.field.ty ∷ []) []
+added form o w f = added_by (asking form o) w f
 
 -- of all kept fields of a case
 abbrev pub added_in : Form → Operator → Wanted → MarkedCase → List PredicateTree
-added_in form o w c = flat_map (added form o w) c.fields
+added_in form o w c = added_in_by (asking form o) w c
 
--- how many of them are kept
-abbrev pub count_kept : List MarkedField → ℕ
-count_kept [] = 0
-count_kept (f ∷ fs) = cond f.left_out 0 1 + count_kept fs
+-- whether several fields are kept
+abbrev pub keeps_several : List MarkedField → Bool
+keeps_several [] = false
+keeps_several (f ∷ fs) = cond f.left_out (keeps_several fs) (keeps_some fs)
 
--- how many fields of all cases are kept
-abbrev pub count_kept_in : List MarkedCase → ℕ
-count_kept_in [] = 0
-count_kept_in (c ∷ cs) = count_kept c.fields + count_kept_in cs
+-- whether several fields of one case are kept
+abbrev pub some_several : List MarkedCase → Bool
+some_several [] = false
+some_several (c ∷ cs) = keeps_several c.fields || some_several cs
 
 -- `__derive_more_Rhs: derive_more::core::marker::Copy`
 abbrev pub right_copies : PredicateTree
 right_copies = type_predicate None right_type (separated (marker false (codes "Copy") ∷ []))
 
--- any right side is copied where several fields take it
+-- whether any right side is copied, since several fields take it
+abbrev pub copies_right : Form → List MarkedCase → Bool
+copies_right structural cs = false
+copies_right scalar cs = some_several cs
+copies_right unary cs = false
+
 abbrev pub copied : Form → List MarkedCase → List PredicateTree
-copied structural cs = []
-copied scalar cs = cond (nat_lt 1 (count_kept_in cs)) (right_copies ∷ []) []
-copied unary cs = []
+copied form cs = cond (copies_right form cs) (right_copies ∷ []) []
 
 -- in an implementation for these cases, in order and with repeats
 abbrev pub needed_in : Form → Operator → Declaration → List MarkedCase → List PredicateTree
-needed_in form o d cs = flat_map (added_in form o (wanted_of d)) cs ++ copied form cs
+needed_in form o d cs = needed_by (asking form o) d cs ++ copied form cs
 
 -- in the implementation of an operator for a declaration
 abbrev pub needed : Operator → Declaration → List PredicateTree

@@ -3,16 +3,16 @@ use Rattle.std.specs.Prelude.{List, [], ◌∷◌, ◌++◌, map, flat_map, filt
 use Rattle.std.specs.Option.{option_or}
 use Rattle.dm_stream.specs.declared.tokens.Span.{Span}
 use Rattle.dm_stream.specs.declared.error.Kind.{Kind}
-use Rattle.dm_stream.specs.declared.error.Kind.TheVariants.{WrongShape, AllSkipped, AttrSyntax, AttrNotAllowed, AttrRepeated}
+use Rattle.dm_stream.specs.declared.error.Kind.TheVariants.{WrongShape, AllSkipped}
 use Rattle.dm_stream.specs.declared.error.Refusal.{Refusal}
 use Rattle.dm_ast.specs.declared.plain.Attribute.{Attribute}
-use Rattle.dm_ast.specs.declared.plain.AttrArgs.{AttrArgs}
 use Rattle.dm_ast.specs.Declarations.{Declaration, FieldTree, VariantTree, ShapeTree, struct_shape, enum_shape, union_shape}
 use Rattle.dm_output.specs.Values.{is_enum, field_list}
-use Rattle.dm_attr.specs.Skips.{reads_skip, is_examined}
-use Rattle.dm_attr.specs.SkipRefusals.{refusal_at}
+use Rattle.dm_attr.specs.Skips.{is_examined}
+pub use Rattle.dm_attr.specs.SkipRefusals.{second_refusal, reading_refusal, given_refusal}
+use Rattle.dm_attr.specs.SkipRefusals.{refusal_among}
 use Rattle.dm_operators.specs.Operators.{Form, structural, scalar, unary, Operator}
-use Rattle.dm_operators.specs.Attributes.{skips, reads_forward, forwards}
+use Rattle.dm_operators.specs.Attributes.{skipped_under, reads_forward, forwards}
 use Rattle.dm_operators.specs.Meaning.{is_unit}
 
 -- ---- lists of refusals that may be there
@@ -26,22 +26,7 @@ first (r ∷ rs) = option_or r (first rs)
 abbrev pub refused_if : Bool → Kind → Span → Option Refusal
 refused_if b k at = cond b (Some (record { kind = k; span = at })) None
 
--- ---- attributes of one name, by which of them read
-
--- one behind the first: a repetition, or it doesn't read itself
-abbrev pub second_refusal : (AttrArgs → Bool) → List Attribute → Option Refusal
-second_refusal reads [] = None
-second_refusal reads (a ∷ more) = Some (refusal_at (cond (reads a.args) AttrRepeated AttrSyntax) a)
-
--- the first has to read, and to be the only one
-abbrev pub reading_refusal : (AttrArgs → Bool) → List Attribute → Option Refusal
-reading_refusal reads [] = None
-reading_refusal reads (a ∷ more) = cond (reads a.args) (second_refusal reads more) (Some (refusal_at AttrSyntax a))
-
--- the first of those that are given
-abbrev pub given_refusal : List Attribute → Option Refusal
-given_refusal [] = None
-given_refusal (a ∷ more) = Some (refusal_at AttrNotAllowed a)
+-- ---- attributes
 
 -- the attributes under the method's name
 abbrev pub examined : Operator → List Attribute → List Attribute
@@ -49,7 +34,7 @@ examined o attrs = filter (is_examined o.method) attrs
 
 -- a place that may be skipped
 abbrev pub skip_refusal : Operator → List Attribute → Option Refusal
-skip_refusal o attrs = reading_refusal reads_skip (examined o attrs)
+skip_refusal o attrs = refusal_among (examined o attrs)
 
 -- a place that may not: an attribute that would skip it isn't allowed
 abbrev pub unskipped_refusals : Operator → List Attribute → List (Option Refusal)
@@ -92,7 +77,7 @@ field_refusal o f = skip_refusal o f.attrs
 -- whether no field is left
 abbrev pub all_skipped : Operator → List FieldTree → Bool
 all_skipped o [] = true
-all_skipped o (f ∷ fs) = skips o f.attrs && all_skipped o fs
+all_skipped o (f ∷ fs) = skipped_under o.method f.attrs && all_skipped o fs
 
 -- each field, and then that none is left
 abbrev pub fields_refusals : Operator → Span → List FieldTree → List (Option Refusal)

@@ -1,4 +1,4 @@
-use Rattle.dm_cmp_ops.proofs.Expansions.{text-once}
+use Rattle.dm_partial_eq.proofs.Expansions.{text-once}
 use Rattle.dm_derive.proofs.Deriving.{read-one, answers-once}
 use Rattle.dm_derive.proofs.laws.answers_once.Goals as goal
 

@@ -14,3 +14,13 @@ pub returns-in-Theirs : goal.returns-in-Theirs
 returns-in-Theirs c =
     subst (λ o. IfOk c.format-in-Theirs.result (λ name. string_bytes name ≡ naming o c.args.n)) (sym c.in-Theirs.is)
     (ends_numeral (codes "__other_") c.args.n c.format-in-Theirs.result c.ranges.n.fits c.format-in-Theirs.ensures.ok)
+
+pub returns-in-Right : goal.returns-in-Right
+returns-in-Right c =
+    subst (λ o. IfOk c.format-in-Right.result (λ name. string_bytes name ≡ naming o c.args.n)) (sym c.in-Right.is)
+    (ends_numeral (codes "__rhs_") c.args.n c.format-in-Right.result c.ranges.n.fits c.format-in-Right.ensures.ok)
+
+pub returns-in-Inner : goal.returns-in-Inner
+returns-in-Inner c =
+    subst (λ o. IfOk c.format-in-Inner.result (λ name. string_bytes name ≡ naming o c.args.n)) (sym c.in-Inner.is)
+    (ends_numeral (codes "__") c.args.n c.format-in-Inner.result c.ranges.n.fits c.format-in-Inner.ensures.ok)

@@ -1,8 +1,0 @@
-pub mod ChainLaws
-pub mod PartialEqLaws
-pub mod CheckLaws
-mod Builders
-mod ArmSteps
-mod PrintLaws
-mod ReadNames
-pub mod Expansions

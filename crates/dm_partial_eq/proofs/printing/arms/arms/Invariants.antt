@@ -1,0 +1,13 @@
+use Rattle.std.proofs.Common.{◌≡◌, map, drop}
+use Rattle.dm_ast.specs.Declarations.{declaration_view}
+use Rattle.dm_print_types.specs.Laying.{lay}
+use Rattle.dm_output.specs.Output.{arms_of}
+use Rattle.dm_output.specs.Tokens.{arms_trees}
+use Rattle.dm_operands.specs.CaseViews.{case_view}
+use Rattle.dm_partial_eq.specs.Emitted as spec
+use Rattle.dm_partial_eq.proofs.printing.arms.arms.Given as goal
+
+abbrev pub invariant-loop-case : goal.invariant-loop-case
+invariant-loop-case l =
+    lay l.out (arms_trees (arms_of (spec.arms l.comparing (declaration_view l.input) (map case_view (drop l.case-index l.cases)) (spec.rest l.comparing (map case_view l.cases))))) ≡
+    lay l.initial.out (arms_trees (arms_of (spec.arms l.comparing (declaration_view l.input) (map case_view l.cases) (spec.rest l.comparing (map case_view l.cases)))))

@@ -1,0 +1,137 @@
+//! Arms as text.
+#![tactic(auto, using(crate::proofs::PrintLaws::printing_steps))]
+
+ghost use Rattle.std.specs.Prelude.{◌≡◌, cond, true, map, OnOk, IsTrue};
+ghost use Rattle.dm_stream.specs.Trees as trees;
+ghost use Rattle.dm_stream.specs.Trees.{no_trees};
+ghost use Rattle.dm_ast.specs.Declarations.{declaration_view};
+ghost use Rattle.dm_output.specs.Output.{arms_of};
+ghost use Rattle.dm_output.specs.Tokens as tokens;
+ghost use Rattle.dm_print_types.specs.Laying.{lay};
+ghost use Rattle.dm_operands.specs.Kept as kept;
+ghost use Rattle.dm_partial_eq.specs.Emitted as spec;
+ghost use Rattle.dm_partial_eq.specs.Printed as printed;
+ghost use Rattle.dm_operands.specs.CaseViews.{case_view, field_ref_view};
+
+use crate::arms::with_rest;
+use crate::comparing::Comparing;
+use crate::printing::made::print;
+use dm_ast::DeriveInput;
+use dm_layout::Layout;
+use dm_operands::cases::{CaseRef, FieldRef, is_compared};
+use dm_operands::sides::Operand;
+use dm_print_types::token::{close, joint, open, punct};
+use dm_sides::pattern::{numbered, side};
+use dm_stream::{Delim, Seq};
+use std::alloc::{AllocError, Global};
+
+fn test(alloc: Global, out: &mut Layout, comparing: Comparing, n: usize) -> Result<(), AllocError>
+    ensures { OnOk result (out.new ≡ lay out.old (tokens.expr_trees (spec.test comparing n))) }
+{
+    numbered(alloc, out, Operand::Mine, n)?;
+    comparing.sign(out)?;
+    numbered(alloc, out, Operand::Theirs, n)
+}
+
+/// Adds a test, and in front of it what joins it to the one before.
+fn next_test(
+    alloc: Global,
+    out: &mut Layout,
+    comparing: Comparing,
+    n: usize,
+    first: bool,
+) -> Result<(), AllocError>
+    ensures { OnOk result (out.new ≡ lay out.old (trees.join (cond first no_trees (printed.join_trees comparing)) (tokens.expr_trees (spec.test comparing n)))) }
+{
+    if !first {
+        comparing.join(out)?;
+    }
+    test(alloc, out, comparing, n)
+}
+
+fn tests(
+    alloc: Global,
+    out: &mut Layout,
+    comparing: Comparing,
+    fields: &[FieldRef<'_, '_>],
+) -> Result<(), AllocError>
+    ensures { OnOk result (out.new ≡ lay out.old (printed.joined comparing true (spec.tests comparing 0 (map field_ref_view fields.now)))) }
+{
+    let mut first = true;
+    for (i, field) in fields.iter().enumerate() {
+        if !field.left_out {
+            next_test(alloc, out, comparing, i, first)?;
+            first = false;
+        }
+    }
+    Ok(())
+}
+
+/// Adds the tests of the fields of a case that is compared.
+fn tested(
+    alloc: Global,
+    out: &mut Layout,
+    comparing: Comparing,
+    case: &CaseRef<'_, '_>,
+) -> Result<(), AllocError>
+    requires { IsTrue (kept.is_compared (case_view case.now)) }
+    ensures { OnOk result (out.new ≡ lay out.old (tokens.expr_trees (spec.chain comparing (spec.tests comparing 0 (case_view case.now).fields)))) }
+{
+    tests(alloc, out, comparing, case.fields.as_slice())
+}
+
+fn arm(
+    alloc: Global,
+    out: &mut Layout,
+    comparing: Comparing,
+    input: &DeriveInput<'_>,
+    case: &CaseRef<'_, '_>,
+) -> Result<(), AllocError>
+    requires { IsTrue (kept.is_compared (case_view case.now)) }
+    ensures { OnOk result (out.new ≡ lay out.old (tokens.arm_trees (spec.arm comparing (declaration_view input.now) (case_view case.now)))) }
+{
+    open(out, Delim::Paren)?;
+    side(alloc, out, Operand::Mine, input, case)?;
+    punct(out, ',')?;
+    side(alloc, out, Operand::Theirs, input, case)?;
+    close(out, Delim::Paren)?;
+    joint(out, '=', '>')?;
+    open(out, Delim::Brace)?;
+    tested(alloc, out, comparing, case)?;
+    close(out, Delim::Brace)?;
+    punct(out, ',')
+}
+
+/// Adds the arm of every other pair, where there is one.
+fn rest<'a>(
+    alloc: Global,
+    out: &mut Layout,
+    comparing: Comparing,
+    cases: &[CaseRef<'_, 'a>],
+) -> Result<(), AllocError>
+    ensures { OnOk result (out.new ≡ lay out.old (tokens.arms_trees (arms_of (spec.rest comparing (map case_view cases.now))))) }
+{
+    print(
+        with_rest(alloc, comparing, cases, Seq::new(alloc)),
+        alloc,
+        out,
+    )
+}
+
+/// Adds an arm for each case that is compared, and perhaps one for every other pair.
+pub fn arms<'a>(
+    alloc: Global,
+    out: &mut Layout,
+    comparing: Comparing,
+    input: &DeriveInput<'a>,
+    cases: &[CaseRef<'_, 'a>],
+) -> Result<(), AllocError>
+    ensures { OnOk result (out.new ≡ lay out.old (tokens.arms_trees (arms_of (spec.arms comparing (declaration_view input.now) (map case_view cases.now) (spec.rest comparing (map case_view cases.now)))))) }
+{
+    for case in cases {
+        if is_compared(case) {
+            arm(alloc, out, comparing, input, case)?;
+        }
+    }
+    rest(alloc, out, comparing, cases)
+}
