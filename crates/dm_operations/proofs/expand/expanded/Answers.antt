@@ -1,0 +1,16 @@
+use Rattle.std.proofs.Common.{map, refl}
+use Rattle.dm_ast.specs.Declarations.{declaration_view}
+use Rattle.dm_operands.specs.CaseViews.{case_view}
+use Rattle.dm_operators.specs.Table.{form_view, operator_view}
+use Rattle.dm_operations.specs.Items.{item_for}
+use Rattle.dm_operations.proofs.Answering.{expands, items_with_text}
+use Rattle.dm_operations.proofs.expand.expanded.Goals as goal
+
+pub returns : goal.returns
+returns c =
+    let o = operator_view c.args.operator.now in
+    let d = declaration_view c.args.input.now in
+    let p = c.args.plan.now in
+    expands o d p (item_for (form_view p.form) o d (map case_view p.cases.items)) c.with_their_text.result
+    c.requires.is_operator c.requires.readable c.requires.unrefused c.requires.planned refl
+    (items_with_text c.made.result c.with_their_text.result _ c.made.ensures c.with_their_text.ensures)
