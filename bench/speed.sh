@@ -80,6 +80,14 @@ ONCE = {
 }
 
 
+# Each trait on a declaration that it is derived for, with 2000 variants, or as many fields.
+ALIKE = ["Add", "BitAnd", "BitOr", "BitXor", "Sub"]
+ANY = ["Div", "Mul", "Rem", "Shl", "Shr"]
+STRUCT = "struct Sample<T> {" + "".join(" f%d: %s," % (i, "T" if i % 2 else "u8") for i in range(2000)) + " }"
+DERIVED = [(name, sample(2000)) for name in ["PartialEq", *ALIKE, "Not", "Neg"]]
+DERIVED += [(name, STRUCT) for name in ["PartialEq", *(it + "Assign" for it in ALIKE), *ANY, *(it + "Assign" for it in ANY)]]
+
+
 def best_of(path, times):
     best = None
     for _ in range(times):
@@ -97,6 +105,17 @@ for name, text in ONCE.items():
         file.write(text)
     took, written = best_of(path, 20)
     print(f"{name}: {took:.4f}, {len(written)} bytes written")
+
+for name, decl in DERIVED:
+    path = f"{work}/input"
+    with open(path, "w") as file:
+        file.write(name + "\n" + decl)
+    took, written = best_of(path, 20)
+    print(f"{name}, {decl[:4].strip()} of 2000: {took:.4f}, {len(written)} bytes written")
+
+start = time.perf_counter()
+subprocess.run([program, "sample", "2000"], stdout=subprocess.DEVNULL)
+print(f"sample 2000: {time.perf_counter() - start:.4f}")
 
 for name, text in TEXTS.items():
     print(name)

@@ -1,8 +1,8 @@
 -- What the steps of a derive say of the text.
-use Rattle.std.proofs.Common.{◌≡◌, ℕ, List, length, map, None, Some, Result, Ok, Err, ap, subst, ◌∙◌, inl, inr}
+use Rattle.std.proofs.Common.{◌≡◌, ℕ, List, [], ◌∷◌, length, map, true, false, cond, codes, Option, option_map, None, Some, Result, Ok, Err, ap, sym, subst, ◌∙◌, inl, inr}
 use Rattle.std.specs.Prelude.{◌⊎◌, IfOk, String}
 use Rattle.std.specs.declared.alloc.Global.{Global}
-use Rattle.std.specs.Str.{chars}
+use Rattle.std.specs.Str.{chars, bytes_eq}
 use Rattle.dm_stream.specs.declared.error.Kind.{Kind}
 use Rattle.dm_stream.specs.declared.error.Kind.TheVariants as kind
 use Rattle.dm_stream.specs.declared.tokens.Span.{Span}
@@ -21,12 +21,20 @@ use Rattle.dm_ast.specs.Names.{names_refusal, IsNamesError}
 use Rattle.dm_names.proofs.NameRefusals.{refused_not_named}
 use Rattle.dm_expansion.specs.declared.expansion.Expansion.{Expansion}
 use Rattle.dm_output.specs.Views.{item_view}
-use Rattle.dm_partial_eq.specs.Checks.{refusal, IsValid}
+use Rattle.dm_output.specs.Output.{ItemTree}
+use Rattle.dm_output.specs.Tokens as tokens
 use Rattle.dm_operands.specs.Readable.{IsReadable}
-use Rattle.dm_partial_eq.specs.Expanded.{IsAnswer, IsPrinted, IsText}
-use Rattle.dm_partial_eq.proofs.CheckLaws.{unrefused}
-use Rattle.dm_partial_eq.proofs.Expansions.{text-once}
-use Rattle.dm_derive.specs.Derived.{Answers, AreTrees, Grammar, IsKnown, IsRead, Reads, Derives, Prints, IsNotLexed, IsNotParsed, IsMisnamed, IsNotDerived, Refuses, IsDerivable, IsUnrefused}
+use Rattle.dm_partial_eq.specs.Expanded.{IsAnswer, IsPrinted}
+use Rattle.dm_partial_eq.proofs.CheckLaws as compared
+use Rattle.dm_operators.proofs.ValidLaws as operators
+use Rattle.dm_operators.specs.declared.operator.Operator as programs-operator
+use Rattle.dm_operators.specs.Operators.{Operator, IsOperator, operator_named}
+use Rattle.dm_operators.specs.Table.{operator_view}
+use Rattle.dm_derive.specs.declared.traits.Trait as programs
+use Rattle.dm_derive.specs.declared.traits.Trait.TheVariants as variants
+use Rattle.dm_derive.specs.Answers.{trait_view, IsDerived, TraitAnswers, TraitPrints}
+use Rattle.dm_derive.specs.Traits.{Trait, partial_eq, an_operator, trait_named, refusal, IsValid, IsText}
+use Rattle.dm_derive.specs.Derived.{Answers, AreTrees, Grammar, Names, IsKnown, IsRead, Reads, Derives, Prints, IsNotLexed, IsNotParsed, IsMisnamed, IsNotDerived, Refuses, IsDerivable, IsUnrefused}
 
 -- ---- reading
 
@@ -66,13 +74,13 @@ misnamed text limit ts d (Refused r) h l m = inr (inr (record { declaration = d;
 
 -- ---- deriving
 
-pub not-derived : (name text : List ℕ) (e : Error) → IsKnown name → Reads text (Err e) → Derives name text (Err e)
+pub not-derived : (t : Trait) (name text : List ℕ) (e : Error) → Names name t → Reads text (Err e) → Derives name text (Err e)
 unfolding Refuses
-not-derived name text NoMemory known h = tt
-not-derived name text (Refused r) known h =
+not-derived t name text NoMemory known h = tt
+not-derived t name text (Refused r) known h =
     elim h as (λ _. Refuses name text r) [
-      | inl bad ↦ inr (known, inl bad)
-      | inr late ↦ elim late as (λ _. Refuses name text r) [ inl bad ↦ inr (known, inr (inl bad)) | inr bad ↦ inr (known, inr (inr (inl bad))) ]
+      | inl bad ↦ inr (t, known, inl bad)
+      | inr late ↦ elim late as (λ _. Refuses name text r) [ inl bad ↦ inr (t, known, inr (inl bad)) | inr bad ↦ inr (t, known, inr (inr (inl bad))) ]
     ]
 
 pub not-known : (name text : List ℕ) (r : Refusal) → (IsKnown name → ⊥) →
@@ -86,35 +94,71 @@ can-expand text d h =
     let one = h.0.is_the_one in
     record { limit = length text; trees = h.0.trees; marks = one.marks; spelled = one.there; named = h.1 }
 
-pub derived : (name text : List ℕ) (d : DeriveInput) (r : Result Expansion Error) → IsKnown name → Reads text (Ok d) →
-    IsAnswer (declaration_view d) r → Derives name text r
+pub derived : (t : Trait) (name text : List ℕ) (d : DeriveInput) (r : Result Expansion Error) → Names name t → Reads text (Ok d) →
+    TraitAnswers t (declaration_view d) r → Derives name text r
 unfolding Refuses
-derived name text d (Ok x) known h m = record { is_known = known; declaration = declaration_view d; is_read = h.0; named = h.1; expanded = m.1 }
-derived name text d (Err NoMemory) known h m = tt
-derived name text d (Err (Refused r)) known h m =
-    inr (known, inr (inr (inr (record { declaration = declaration_view d; is_read = h.0; named = h.1; refused = m }))))
+derived t name text d (Ok x) known h m =
+    record { derived = t; is_known = known; declaration = declaration_view d; is_read = h.0; named = h.1; expanded = m.1 }
+derived t name text d (Err NoMemory) known h m = tt
+derived t name text d (Err (Refused r)) known h m =
+    inr (t, known, inr (inr (inr (record { declaration = declaration_view d; is_read = h.0; named = h.1; refused = m }))))
 
-pub answered : (name text : List ℕ) (d : DeriveInput) (r : Result Expansion Error) → IsKnown name → Reads text (Ok d) →
-    IsAnswer (declaration_view d) r → IfOk r (λ x. Answers name text x.text)
+pub answered : (t : Trait) (name text : List ℕ) (d : DeriveInput) (r : Result Expansion Error) → Names name t → Reads text (Ok d) →
+    TraitAnswers t (declaration_view d) r → IfOk r (λ x. Answers name text x.text)
 unfolding Answers
-answered name text d (Ok x) known h m =
-    (map item_view x.items, record { is_known = known; declaration = declaration_view d; is_read = h.0; named = h.1; expanded = m.1 })
-answered name text d (Err e) known h m = tt
+answered t name text d (Ok x) known h m = (
+  map item_view x.items,
+  record { derived = t; is_known = known; declaration = declaration_view d; is_read = h.0; named = h.1; expanded = m.1 },
+)
+answered t name text d (Err e) known h m = tt
+
+-- what `PartialEq` answers is what its trait does
+pub compares : (d : Declaration) (r : Result Expansion Error) → IsAnswer d r → TraitAnswers partial_eq d r
+compares d (Ok x) h = h
+compares d (Err NoMemory) h = h
+compares d (Err (Refused r)) h = h
+
+pub compares-text : (d : Declaration) (r : Result (String Global) Error) → IsPrinted d r → TraitPrints partial_eq d r
+compares-text d (Ok x) h = h
+compares-text d (Err NoMemory) h = h
+compares-text d (Err (Refused r)) h = h
+
+-- an operator that is named is one of the table
+some-operator : (name : List ℕ) (p : Option Operator) (o : Operator) → option_map an_operator p ≡ Some (an_operator o) → p ≡ Some o
+some-operator name None o h = absurd cc
+some-operator name (Some q) o h = let same : q ≡ o = cc in ap (λ z. Some z) same
+
+pub is-operator : (name : List ℕ) (o : Operator) → trait_named name ≡ Some (an_operator o) → IsOperator o
+is-operator name o h =
+    record {
+      name = name;
+      found = some-operator name (operator_named name) o
+          ((elim (bytes_eq name (codes "PartialEq")) as (λ b.
+          cond b (Some partial_eq) (option_map an_operator (operator_named name)) ≡ Some (an_operator o) →
+          option_map an_operator (operator_named name) ≡ Some (an_operator o)) [ true ↦ λ k. absurd cc | false ↦ λ k. k ]) h);
+    }
+
+pub derived-operator : (t : programs.Trait) (o : programs-operator.Operator) → IsDerived t → t ≡ variants.Operator o → IsOperator (operator_view o)
+derived-operator t o h is = is-operator h.name (operator_view o) (h.named ∙ ap (λ z. Some (trait_view z)) is)
+
+-- a name that none has is that of no trait
+pub unnamed : (name : List ℕ) → trait_named name ≡ None → IsKnown name → ⊥
+unnamed name h k = let both : None ≡ Some k.0 = sym h ∙ k.1 in cc
 
 -- ---- the text alone
 
-pub not-printed : (name text : List ℕ) (e : Error) → IsKnown name → Reads text (Err e) → Prints name text (Err e)
-not-printed name text NoMemory known h = tt
-not-printed name text (Refused r) known h = not-derived name text (Refused r) known h
+pub not-printed : (t : Trait) (name text : List ℕ) (e : Error) → Names name t → Reads text (Err e) → Prints name text (Err e)
+not-printed t name text NoMemory known h = tt
+not-printed t name text (Refused r) known h = not-derived t name text (Refused r) known h
 
-pub printed : (name text : List ℕ) (d : DeriveInput) (r : Result (String Global) Error) → IsKnown name → Reads text (Ok d) →
-    IsPrinted (declaration_view d) r → Prints name text r
+pub printed : (t : Trait) (name text : List ℕ) (d : DeriveInput) (r : Result (String Global) Error) → Names name t → Reads text (Ok d) →
+    TraitPrints t (declaration_view d) r → Prints name text r
 unfolding Answers Refuses
-printed name text d (Ok x) known h m =
-    (m.1.0, record { is_known = known; declaration = declaration_view d; is_read = h.0; named = h.1; expanded = m.1.1 })
-printed name text d (Err NoMemory) known h m = tt
-printed name text d (Err (Refused r)) known h m =
-    inr (known, inr (inr (inr (record { declaration = declaration_view d; is_read = h.0; named = h.1; refused = m }))))
+printed t name text d (Ok x) known h m =
+    (m.1.0, record { derived = t; is_known = known; declaration = declaration_view d; is_read = h.0; named = h.1; expanded = m.1.1 })
+printed t name text d (Err NoMemory) known h m = tt
+printed t name text d (Err (Refused r)) known h m =
+    inr (t, known, inr (inr (inr (record { declaration = declaration_view d; is_read = h.0; named = h.1; refused = m }))))
 
 -- ---- texts of which nothing is refused
 
@@ -131,8 +175,16 @@ not-unread kind.Syntax s limit ts d m there within h = h.none d m there
 not-unread _ s limit ts d m there within h = h
 
 -- the trait refuses none that is valid
-not-refused : (d : Declaration) (r : Refusal) → IsValid d → refusal d ≡ Some r → ⊥
-not-refused d r valid some = let none = (unrefused d).1 valid in cc
+none-refused : (t : Trait) (d : Declaration) → IsValid t d → refusal t d ≡ None
+none-refused partial_eq d valid = (compared.unrefused d).1 valid
+none-refused (an_operator o) d valid = (operators.unrefused o d).1 valid
+
+not-refused : (t : Trait) (d : Declaration) (r : Refusal) → IsValid t d → refusal t d ≡ Some r → ⊥
+not-refused t d r valid some = let none = none-refused t d valid in cc
+
+-- a name is that of one trait
+one-trait : (name : List ℕ) (t u : Trait) → Names name t → Names name u → u ≡ t
+one-trait name t u h k = let same : Some u ≡ Some t = sym k ∙ h in cc
 
 -- what is read is the declaration that the text spells
 read-it : (text : List ℕ) (d e : Declaration) → Grammar text d → IsRead text e → d ≡ e
@@ -150,18 +202,24 @@ not-parsed-not text d r g bad =
     let same : bad.trees ≡ g.trees = trees-only (reading 0 0 (chars text)) g.trees bad.trees g.are_trees.are_trees bad.are_trees.are_trees in
     not-unread r.kind r.span (length text) g.trees d g.marks g.spelled g.within (subst (λ ts. IsUnread r.kind r.span (length text) ts) same bad.unread)
 
-none-late : (name text : List ℕ) (r : Refusal) → IsDerivable name text →
-    IsNotLexed text r ⊎ IsNotParsed text r ⊎ IsMisnamed text r ⊎ IsNotDerived text r → ⊥
+none-late : (name text : List ℕ) (r : Refusal) (d : IsDerivable name text) →
+    IsNotLexed text r ⊎ IsNotParsed text r ⊎ IsMisnamed text r ⊎ IsNotDerived d.derived text r → ⊥
 none-late name text r d (inl h) = whole-lexed text r.kind r.span d.grammar.are_trees.whole h.refused
 none-late name text r d (inr (inl h)) = not-parsed-not text d.declaration r d.grammar h
 none-late name text r d (inr (inr (inl h))) =
     refused_not_named d.declaration r (ap names_refusal (read-it text d.declaration h.declaration d.grammar h.is_read) ∙ h.misnamed) d.named
 none-late name text r d (inr (inr (inr h))) =
-    not-refused d.declaration r d.valid (ap refusal (read-it text d.declaration h.declaration d.grammar h.is_read) ∙ h.refused)
+    not-refused d.derived d.declaration r d.valid
+    (ap (refusal d.derived) (read-it text d.declaration h.declaration d.grammar h.is_read) ∙ h.refused)
 
 pub derivable : (name text : List ℕ) → IsDerivable name text → (r : Refusal) → ¬ (Refuses name text r)
 unfolding Refuses
-derivable name text d r h = elim h as (λ _. ⊥) [ inl un ↦ un.unknown d.known | inr late ↦ none-late name text r d late.1 ]
+derivable name text d r h = elim h as (λ _. ⊥) [
+  | inl un ↦ un.unknown (d.derived, d.known)
+  | inr late ↦ none-late name text r d
+      (subst (λ t. IsNotLexed text r ⊎ IsNotParsed text r ⊎ IsMisnamed text r ⊎ IsNotDerived t text r)
+      (one-trait name d.derived late.0 d.known late.1) late.2)
+]
 
 pub expands-it : (name text : List ℕ) (r : Result Expansion Error) → Derives name text r → IsDerivable name text → IsUnrefused r
 expands-it name text (Ok x) h d = tt
@@ -173,12 +231,21 @@ prints-it name text (Ok x) h d = tt
 prints-it name text (Err NoMemory) h d = tt
 prints-it name text (Err (Refused r)) h d = derivable name text d r h
 
-pub ruleset derive_steps = (not-lexed, not-parsed, is-read, misnamed, not-derived, not-known, can-expand, derived, answered, not-printed, printed, expands-it, prints-it)
+pub ruleset derive_steps = (not-lexed, not-parsed, is-read, misnamed, not-derived, not-known, unnamed, can-expand, derived, answered, not-printed, printed, expands-it, prints-it)
+
+pub ruleset trait_steps = (compares, compares-text, derived-operator)
 
 -- ---- a text has one answer
+
+-- the implementations of a trait for a declaration have one text
+pub text-once : (t : Trait) (d : Declaration) (x y : List ℕ) → IsText t d x → IsText t d y → x ≡ y
+text-once t d x y a b =
+    a.1.text_is ∙ ap (λ (i : ItemTree). tokens.printed (i ∷ [])) (a.1.is_emitted ∙ sym b.1.is_emitted) ∙ sym b.1.text_is
 
 pub answers-once : (name text x y : List ℕ) → Answers name text x → Answers name text y → x ≡ y
 unfolding Answers
 answers-once name text x y a b =
     let same : b.1.declaration ≡ a.1.declaration = read-one text a.1.declaration b.1.declaration a.1.is_read b.1.is_read in
-    text-once a.1.declaration x y (a.0, a.1.expanded) (subst (λ d. IsText d y) same (b.0, b.1.expanded))
+    let one : b.1.derived ≡ a.1.derived = one-trait name a.1.derived b.1.derived a.1.is_known b.1.is_known in
+    text-once a.1.derived a.1.declaration x y (a.0, a.1.expanded)
+    (subst (λ t. IsText t a.1.declaration y) one (subst (λ d. IsText b.1.derived d y) same (b.0, b.1.expanded)))

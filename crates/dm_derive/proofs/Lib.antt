@@ -1,4 +1,6 @@
 pub mod Lines
 pub mod RunLemmas
+pub mod Sampling
 mod Deriving
+pub mod Ending
 pub mod Turning

@@ -1,5 +1,5 @@
 -- What a trait's name and the text of a declaration are answered with.
-use Rattle.std.specs.Prelude.{◌≡◌, ℕ, List, map, length, codes, None, Some, Result, Ok, Err, ◌⊎◌, String, string_bytes}
+use Rattle.std.specs.Prelude.{◌≡◌, ℕ, List, map, length, None, Some, Result, Ok, Err, ◌⊎◌, String, string_bytes}
 use Rattle.std.specs.declared.alloc.Global.{Global}
 use Rattle.dm_stream.specs.declared.error.Kind.TheVariants.{UnknownTrait}
 use Rattle.dm_stream.specs.declared.error.Refusal.{Refusal}
@@ -15,12 +15,14 @@ use Rattle.dm_ast.specs.Names.{Named, names_refusal}
 use Rattle.dm_expansion.specs.declared.expansion.Expansion.{Expansion}
 use Rattle.dm_output.specs.Output.{ItemTree}
 use Rattle.dm_output.specs.Views.{item_view}
-use Rattle.dm_partial_eq.specs.Checks.{refusal, IsValid}
-use Rattle.dm_partial_eq.specs.Expanded.{IsExpanded, IsText}
+use Rattle.dm_derive.specs.Traits.{Trait, trait_named, refusal, IsValid, IsExpanded, IsText}
 
--- a trait that is derived
+-- the name of a trait that is derived
+abbrev pub Names : List ℕ → Trait → Type 0
+Names name t = trait_named name ≡ Some t
+
 abbrev pub IsKnown : List ℕ → Type 0
-IsKnown name = name ≡ codes "PartialEq"
+IsKnown name = (t : Trait) × Names name t
 
 -- the text has these tokens, none of which is too deep in groups
 pub record AreTrees (text : List ℕ) (ts : Trees) : Type 0 where
@@ -51,11 +53,12 @@ pub record IsRead (text : List ℕ) (d : Declaration) : Type 0 where
 
 -- the implementations that the trait of this name derives for the text, and their text
 pub record Expands (name text : List ℕ) (items : List ItemTree) (written : List ℕ) : Type 0 where
-  pub is_known : IsKnown name
+  pub derived : Trait
+  pub is_known : Names name derived
   pub declaration : Declaration
   pub is_read : IsRead text declaration
   pub named : Named declaration
-  pub expanded : IsExpanded declaration items written
+  pub expanded : IsExpanded derived declaration items written
 
 -- this text is that of the trait's implementations
 unfoldable pub Answers : List ℕ → List ℕ → List ℕ → Type 0
@@ -85,11 +88,11 @@ pub record IsMisnamed (text : List ℕ) (r : Refusal) : Type 0 where
   pub misnamed : names_refusal declaration ≡ Some r
 
 -- the trait refuses the declaration
-pub record IsNotDerived (text : List ℕ) (r : Refusal) : Type 0 where
+pub record IsNotDerived (t : Trait) (text : List ℕ) (r : Refusal) : Type 0 where
   pub declaration : Declaration
   pub is_read : IsRead text declaration
   pub named : Named declaration
-  pub refused : refusal declaration ≡ Some r
+  pub refused : refusal t declaration ≡ Some r
 
 -- what reading a text answers, want of memory aside
 abbrev pub Reads : List ℕ → Result DeriveInput Error → Type 0
@@ -99,15 +102,17 @@ Reads text (Err (Refused r)) = IsNotLexed text r ⊎ IsNotParsed text r ⊎ IsMi
 
 -- the text is refused so
 unfoldable pub Refuses : List ℕ → List ℕ → Refusal → Type 0
-Refuses name text r = IsUnknown name r ⊎ (IsKnown name × (IsNotLexed text r ⊎ IsNotParsed text r ⊎ IsMisnamed text r ⊎ IsNotDerived text r))
+Refuses name text r =
+    IsUnknown name r ⊎ ((t : Trait) × Names name t × (IsNotLexed text r ⊎ IsNotParsed text r ⊎ IsMisnamed text r ⊎ IsNotDerived t text r))
 
 -- the trait is derived, and the text is that of a declaration that is valid
 pub record IsDerivable (name text : List ℕ) : Type 0 where
-  pub known : IsKnown name
+  pub derived : Trait
+  pub known : Names name derived
   pub declaration : Declaration
   pub grammar : Grammar text declaration
   pub named : Named declaration
-  pub valid : IsValid declaration
+  pub valid : IsValid derived declaration
 
 -- nothing but want of memory stops a call
 abbrev pub IsUnrefused : {A : Type 0} → Result A Error → Type 0
@@ -133,9 +138,9 @@ Prints name text (Err (Refused r)) = Refuses name text r
 abbrev pub DeclarationIsOne : Type 0
 DeclarationIsOne = (text : List ℕ) (d e : Declaration) → IsRead text d → IsRead text e → e ≡ d
 
--- the implementations of a declaration have one text
+-- the implementations of a trait for a declaration have one text
 abbrev pub TextIsOne : Type 0
-TextIsOne = (d : Declaration) (x y : List ℕ) → IsText d x → IsText d y → x ≡ y
+TextIsOne = (t : Trait) (d : Declaration) (x y : List ℕ) → IsText t d x → IsText t d y → x ≡ y
 
 -- a trait and a text have one answer
 abbrev pub AnswerIsOne : Type 0

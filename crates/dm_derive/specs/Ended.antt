@@ -1,11 +1,13 @@
 -- What a whole run does, for its words, its source and its sink.
-use Rattle.std.specs.Prelude.{◌≡◌, ◌≢◌, ◌↔◌, ℕ, List, [], drop, Option, Result, Ok, Err, Vec, String, IfSome}
+use Rattle.std.specs.Prelude.{◌≡◌, ◌↔◌, ℕ, List, [], drop, Option, Result, Ok, Err, Vec, String, IfSome}
 use Rattle.std.specs.declared.alloc.Global.{Global}
 use Rattle.std.specs.declared.process.ExitCode.{ExitCode}
 use Rattle.std.specs.Process.{exit_status}
+use Rattle.dm_sample.specs.Samples.{IsSample}
 use Rattle.dm_derive.specs.Causes.{Rose}
 use Rattle.dm_derive.specs.Offers.{Offer}
 use Rattle.dm_derive.specs.Runs.{exit_code, Ran, Means, IsAccepted, IsFaultless, IsSilent}
+use Rattle.dm_derive.specs.Sampled.{AreWords, Sampled}
 use Rattle.dm_derive.specs.Turns.{Turns, Offered}
 use Rattle.dm_derive.specs.declared.top.Status.{Status}
 use Rattle.dm_derive.specs.declared.top.Status.TheVariants.{ReadFault, WriteFault, Usage}
@@ -23,8 +25,8 @@ pub record Writing : Type 0 where
   pub offers : Option (List Offer)
 
 -- all that `derive_main` says of a run that ended so
-pub record IsRun {W : Type 0} (words : List W) (Untouched Unwritten : Type 0) (source source' : Reading) (sink sink' : Writing) (status : Status) : Type 0 where
-  pub usage : status ≡ Usage ↔ words ≢ []
+pub record IsRun (words : List (String Global)) (Untouched Unwritten : Type 0) (source source' : Reading) (sink sink' : Writing) (status : Status) : Type 0 where
+  pub usage : status ≡ Usage ↔ ¬ (AreWords words)
   pub idle : status ≡ Usage → Untouched
   pub silent : IsSilent status → Unwritten
   pub ran : words ≡ [] → Ran source.left source'.left sink.written sink'.written status
@@ -32,6 +34,8 @@ pub record IsRun {W : Type 0} (words : List W) (Untouched Unwritten : Type 0) (s
   pub offers : Offered sink.written sink'.written sink.offers sink'.offers status
   pub told : words ≡ [] → IfSome source.left (λ bytes. Means bytes sink.written sink'.written status)
   pub complete : words ≡ [] → IfSome source.left (λ bytes. IsAccepted bytes → IsFaultless status)
+  pub sampled : (n : ℕ) → IsSample words n → Sampled n sink.written sink'.written status
+  pub unread : (n : ℕ) → IsSample words n → Untouched
   pub read : status ≡ ReadFault → Rose source.faults source'.faults
   pub write : status ≡ WriteFault → Rose sink.faults sink'.faults
 

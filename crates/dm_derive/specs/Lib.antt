@@ -1,9 +1,11 @@
+pub mod Traits
+pub mod Answers
 pub mod Causes
 pub mod Derived
 pub mod Ended
-pub mod Line
 pub mod Offers
 pub mod Runs
+pub mod Sampled
 pub mod Split
 pub mod States
 pub mod Turns

@@ -1,9 +1,9 @@
 -- What a run does to the bytes of the source and of the sink, by how it ended.
-use Rattle.std.specs.Prelude.{◌≡◌, ℕ, ◌≤◌, ◌<◌, List, Option, length, take, ◌⊎◌}
+use Rattle.std.specs.Prelude.{◌≡◌, ℕ, ◌≤◌, ◌<◌, List, ◌++◌, Option, length, take, codes, ◌⊎◌}
 use Rattle.std.specs.Io.KnownBytes.{Consumes, Appends, Keeps, IsAtEnd}
+use Rattle.dm_stream.specs.Messages.{refusal_text}
 use Rattle.dm_stream.specs.declared.error.Refusal.{Refusal}
 use Rattle.dm_derive.specs.Derived.{Answers, Refuses, IsDerivable}
-use Rattle.dm_derive.specs.Line.{line_of}
 use Rattle.dm_derive.specs.Split.{HasLine, IsSplit}
 use Rattle.dm_derive.specs.declared.transfer.TheConstants.{LARGEST_INPUT}
 use Rattle.dm_derive.specs.declared.top.Status.{Status}
@@ -36,6 +36,10 @@ pub record IsAnswered (bytes text : List ℕ) : Type 0 where
   pub declaration : List ℕ
   pub split : IsSplit bytes name declaration
   pub answer : Answers name declaration text
+
+-- the line of a refusal: its text, and LF
+unfoldable pub line_of : Refusal → List ℕ
+line_of r = refusal_text r ++ codes "\n"
 
 -- the bytes name a trait and a declaration, and this line tells the derive's refusal
 pub record IsRefused (bytes line : List ℕ) : Type 0 where

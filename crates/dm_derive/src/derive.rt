@@ -1,23 +1,24 @@
 //! From a trait's name and the text of a declaration to implementations.
 #![tactic(auto, using(crate::proofs::Deriving::derive_steps))]
 
-ghost use Rattle.std.specs.Prelude.{◌≡◌, ◌↔◌, IsTrue, IfOk};
+ghost use Rattle.std.specs.Prelude.{◌≡◌, ℕ, List, IfOk};
 ghost use Rattle.dm_stream.specs.declared.error.Error.TheVariants as error;
 ghost use Rattle.dm_stream.specs.declared.error.Kind.TheVariants as kind;
-ghost use Rattle.dm_derive.specs.Derived.{Answers, Derives, IsDerivable, IsKnown, IsUnrefused, Prints, Reads};
+ghost use Rattle.dm_derive.specs.Answers.{IsDerived, trait_view};
+ghost use Rattle.dm_derive.specs.Derived.{Answers, Derives, IsDerivable, IsUnrefused, Names, Prints, Reads};
 
+use crate::traits::{Trait, expanded, printed, trait_named};
 use dm_ast::DeriveInput;
 use dm_expansion::Expansion;
 use dm_lexer::lex;
 use dm_names::check_names_in;
-use dm_partial_eq::partial_eq;
 use dm_read_decl::parse_decl;
 use dm_stream::{Error, Kind, Refusal, Span};
 use std::alloc::Global;
 
 /// The implementations that the trait of this name derives for the declaration.
 ///
-/// The name is that of the trait alone, as `PartialEq`. Of these refusals the first that applies is the answer; ranges are in
+/// The name is that of the trait alone, as `PartialEq` or `AddAssign`. Of these refusals the first that applies is the answer; ranges are in
 /// bytes of the declaration's text:
 ///
 /// - `Kind::UnknownTrait` at 0..0: no trait of this name is derived;
@@ -29,7 +30,7 @@ use std::alloc::Global;
 /// - `Kind::DuplicateName`: a name is declared twice, at the first name that stands for an earlier one again;
 /// - `Kind::ReservedName`: a name begins with `__`, or the type or a type or const parameter is called `derive_more`, at the first
 ///   such name;
-/// - what the trait refuses, see `partial_eq::expand`.
+/// - what the trait refuses, see `partial_eq::expand`, and of the operators `plan_for`.
 pub fn derive_text<'a>(
     alloc: Global,
     trait_name: &str,
@@ -39,27 +40,19 @@ pub fn derive_text<'a>(
     ensures answers { IfOk result (λ x. Answers trait_name.now decl.now x.text) }
     ensures complete { IsDerivable trait_name.now decl.now → IsUnrefused result }
 {
-    if is_known(trait_name) {
-        derive_known(alloc, trait_name, decl)
-    } else {
-        Err(unknown_trait())
+    match trait_named(trait_name) {
+        Some(derived) => derive_known(alloc, derived, decl),
+        None => Err(unknown_trait()),
     }
 }
 
-/// Whether the trait of this name is derived.
-fn is_known(trait_name: &str) -> bool
-    ensures { IsTrue result ↔ IsKnown trait_name.now }
-{
-    trait_name == "PartialEq"
-}
-
-fn derive_known<'a>(alloc: Global, trait_name: &str, decl: &'a str) -> Result<Expansion<'a>, Error>
-    requires { IsKnown trait_name.now }
-    ensures derives { Derives trait_name.now decl.now result }
-    ensures answers { IfOk result (λ x. Answers trait_name.now decl.now x.text) }
+fn derive_known<'a>(alloc: Global, derived: Trait, decl: &'a str) -> Result<Expansion<'a>, Error>
+    requires { IsDerived derived }
+    ensures derives { (name : List ℕ) → Names name (trait_view derived) → Derives name decl.now result }
+    ensures answers { (name : List ℕ) → Names name (trait_view derived) → IfOk result (λ x. Answers name decl.now x.text) }
 {
     match read(alloc, decl) {
-        Ok(input) => partial_eq::expand(alloc, &input, trait_name),
+        Ok(input) => expanded(alloc, derived, &input),
         Err(error) => Err(error),
     }
 }
@@ -90,19 +83,18 @@ pub fn derive_printed(alloc: Global, trait_name: &str, decl: &str) -> Result<Str
     ensures prints { Prints trait_name.now decl.now result }
     ensures complete { IsDerivable trait_name.now decl.now → IsUnrefused result }
 {
-    if is_known(trait_name) {
-        print_known(alloc, trait_name, decl)
-    } else {
-        Err(unknown_trait())
+    match trait_named(trait_name) {
+        Some(derived) => print_known(alloc, derived, decl),
+        None => Err(unknown_trait()),
     }
 }
 
-fn print_known(alloc: Global, trait_name: &str, decl: &str) -> Result<String, Error>
-    requires { IsKnown trait_name.now }
-    ensures { Prints trait_name.now decl.now result }
+fn print_known(alloc: Global, derived: Trait, decl: &str) -> Result<String, Error>
+    requires { IsDerived derived }
+    ensures { (name : List ℕ) → Names name (trait_view derived) → Prints name decl.now result }
 {
     match read(alloc, decl) {
-        Ok(input) => partial_eq::print(alloc, &input, trait_name),
+        Ok(input) => printed(alloc, derived, &input),
         Err(error) => Err(error),
     }
 }

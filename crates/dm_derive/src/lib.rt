@@ -8,10 +8,13 @@ mod laws;
 mod line;
 mod memory;
 mod outside;
+mod summary;
 mod top;
+mod traits;
 mod transfer;
 
 pub use derive::{derive_printed, derive_text};
+pub use dm_sample::sample_text;
 pub use ended::ended_run;
 pub use input::split;
 pub use laws::answers_once;

@@ -1,20 +1,24 @@
-ghost use Rattle.std.specs.Prelude.{◌≡◌, ◌≢◌, ◌↔◌, ℕ, [], IfSome};
+ghost use Rattle.std.specs.Prelude.{◌≡◌, ◌↔◌, ℕ, [], IfSome};
+ghost use Rattle.dm_sample.specs.Samples.{IsSample};
 ghost use Rattle.dm_derive.specs.Causes.{Rose};
 ghost use Rattle.dm_derive.specs.Runs.{exit_code, Responds, Ran, Means, IsAccepted, IsFaultless, IsSilent};
+ghost use Rattle.dm_derive.specs.Sampled.{AreWords, Sampled};
 ghost use Rattle.dm_derive.specs.Turns.{Turns, Offered};
 
 use super::derive::derive_printed;
 use super::input::split;
 use super::line::refusal_line;
 use super::outside::{Failed, Sink, Source};
+use super::summary::sample_lines;
 use super::transfer::{ReadError, read_all, write_all};
+use dm_sample::sample_size;
 use dm_stream::{Error, Refusal};
 use std::alloc::Global;
 
 /// How a run ended.
 #[derive(Clone, Copy, Debug, PartialEq, Eq)]
 pub enum Status {
-    /// The implementations were written.
+    /// The implementations were written, or the lines of a sample.
     Done,
     /// The derive refused the declaration, and the refusal's line was written.
     Refused,
@@ -91,15 +95,32 @@ fn run<S: Source, K: Sink>(alloc: Global, source: &mut S, sink: &mut K) -> Statu
     }
 }
 
-/// Does all that the program does: without words it reads a trait's name and a declaration, and writes the
-/// implementations or the line of the refusal.
+/// Writes what the traits answer to a sample with `n` variants.
+fn sample<K: Sink>(alloc: Global, n: u32, sink: &mut K) -> Status
+    ensures sampled { Sampled n (K.written sink.old) (K.written sink.new) result }
+    ensures offers { Offered (K.written sink.old) (K.written sink.new) (K.offers sink.old) (K.offers sink.new) result }
+    ensures write { result ≡ Status.WriteFault → Rose (K.faults sink.old) (K.faults sink.new) }
+    ensures silent { IsSilent result → sink.new ≡ sink.old }
+{
+    match sample_lines(alloc, n) {
+        Ok(lines) => match write_all(sink, lines.as_bytes()) {
+            Ok(()) => Status::Done,
+            Err(Failed) => Status::WriteFault,
+        },
+        Err(_) => Status::NoMemory,
+    }
+}
+
+/// Does all that the program does. Without words it reads a trait's name and a declaration, and writes the implementations or the line
+/// of the refusal. The words `sample` and a number ask for what the traits answer to a sample with so many variants, a line each; then
+/// nothing is read.
 pub fn derive_main<S: Source, K: Sink>(
     alloc: Global,
     words: &[String],
     source: &mut S,
     sink: &mut K,
 ) -> Status
-    ensures usage { result ≡ Status.Usage ↔ words.now ≢ [] }
+    ensures usage { result ≡ Status.Usage ↔ ¬ (AreWords words.now) }
     ensures idle { result ≡ Status.Usage → source.new ≡ source.old }
     ensures silent { IsSilent result → sink.new ≡ sink.old }
     ensures ran { words.now ≡ [] → Ran (S.left source.old) (S.left source.new) (K.written sink.old) (K.written sink.new) result }
@@ -107,11 +128,16 @@ pub fn derive_main<S: Source, K: Sink>(
     ensures offers { Offered (K.written sink.old) (K.written sink.new) (K.offers sink.old) (K.offers sink.new) result }
     ensures told { words.now ≡ [] → IfSome (S.left source.old) (λ bytes. Means bytes (K.written sink.old) (K.written sink.new) result) }
     ensures complete { words.now ≡ [] → IfSome (S.left source.old) (λ bytes. IsAccepted bytes → IsFaultless result) }
+    ensures sampled { (n : ℕ) → IsSample words.now n → Sampled n (K.written sink.old) (K.written sink.new) result }
+    ensures unread { (n : ℕ) → IsSample words.now n → source.new ≡ source.old }
     ensures read { result ≡ Status.ReadFault → Rose (S.faults source.old) (S.faults source.new) }
     ensures write { result ≡ Status.WriteFault → Rose (K.faults sink.old) (K.faults sink.new) }
 {
     match words {
         [] => run(alloc, source, sink),
-        _ => Status::Usage,
+        _ => match sample_size(words) {
+            Some(n) => sample(alloc, n, sink),
+            None => Status::Usage,
+        },
     }
 }

@@ -1,6 +1,7 @@
 //! The output language and its text, gathered from the crates that have them.
 #![tactic(auto)]
 
+pub use dm_arm_patterns::{exhaustive_arm_pattern, non_exhaustive_arm_pattern};
 pub use dm_expansion::{Expansion, print_items, with_text};
 pub use dm_output::{
     Arm, ArmBody, Assoc, Binding, Block, Expr, FmtArg, FmtArgs, Item, ItemAttr, Member, Method,

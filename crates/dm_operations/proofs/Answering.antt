@@ -58,18 +58,13 @@ few o d rs none same = λ form struct n c at.
     held-few found.0 (field_list c.fields) (mark_field (skips o)) (fields ∙
     ap (λ b. cond b [] (map (mark_field (skips o)) (field_list c.fields))) (unrefused-open o d none n c at))
 
--- ---- one item with its text, or its text alone
+-- ---- one item with its text
 
 pub items_with_text : {E F : Type 0} (all : Result (List Item) E) (r : Result Expansion F) (i : ItemTree) → IfOk all (λ is. map item_view is ≡ i ∷ []) →
     IfOk r (λ x. IsOkAnd all (λ is. (x.items ≡ is) × (x.text ≡ printed (map item_view is)))) →
     IfOk r (λ x. (map item_view x.items ≡ i ∷ []) × (x.text ≡ printed (i ∷ [])))
 items_with_text (Ok is) r i made h = IfOk-weaker r _ _ (λ x k. (ap (map item_view) k.0 ∙ made, k.1 ∙ ap printed made)) h
 items_with_text (Err e) r i made h = IfOk-weaker r _ _ (λ x k. absurd k) h
-
-pub text_alone : {E F : Type 0} (all : Result (List Item) E) (r : Result (String Global) F) (i : ItemTree) → IfOk all (λ is. map item_view is ≡ i ∷ []) →
-    IfOk r (λ s. IsOkAnd all (λ is. string_bytes s ≡ printed (map item_view is))) → IfOk r (λ s. string_bytes s ≡ printed (i ∷ []))
-text_alone (Ok is) r i made h = IfOk-weaker r _ _ (λ s k. k ∙ ap printed made) h
-text_alone (Err e) r i made h = IfOk-weaker r _ _ (λ s k. absurd k) h
 
 -- ---- the implementation by a plan
 

@@ -3,7 +3,7 @@ use Rattle.std.specs.Prelude.{◌≡◌, List, [], ◌∷◌, ◌++◌, Option, 
 use Rattle.dm_ast.specs.Tree.{TypeTree, PathTree}
 use Rattle.dm_ast.specs.Declarations.{ParamTree, Declaration}
 use Rattle.dm_ast.specs.Implementors.{predicates_of, implementor}
-use Rattle.dm_output.specs.Output.{ParamOfMethod, ItemTree}
+use Rattle.dm_output.specs.Output.{ParamOfMethod, AssocTree, MethodTree, ItemTree}
 use Rattle.dm_output.specs.declared.item.ItemAttr.{ItemAttr}
 use Rattle.dm_operands.specs.Marked.{MarkedCase}
 use Rattle.dm_operators.specs.Operators.{Form, Operator}
@@ -26,15 +26,19 @@ pub record IsFront (form : Form) (o : Operator) (d : Declaration) (attrs : List 
   pub params_are : params ≡ item_params form o d
   pub type_is : ty ≡ implementor d
 
--- the implementation for these cases
-abbrev pub item_for : Form → Operator → Declaration → List MarkedCase → ItemTree
-item_for form o d cs =
+-- the implementation for these cases, with this between its braces
+abbrev pub item_with : Form → Operator → Declaration → List MarkedCase → List AssocTree → List MethodTree → ItemTree
+item_with form o d cs all methods =
     record {
       attrs = item_attrs form;
       params = item_params form o d;
       trait_path = Some (implemented form o);
       ty = implementor d;
       predicates = predicates_of d ++ needed_in form o d cs;
-      assocs = assocs form o d;
-      methods = method_in form o d cs ∷ [];
+      assocs = all;
+      methods = methods;
     }
+
+-- the implementation for these cases
+abbrev pub item_for : Form → Operator → Declaration → List MarkedCase → ItemTree
+item_for form o d cs = item_with form o d cs (assocs form o d) (method_in form o d cs ∷ [])

@@ -16,8 +16,9 @@ ghost use Rattle.dm_operations.specs.Items.{item_for};
 ghost use Rattle.dm_operations.specs.Expanded as spec;
 
 use crate::item::item;
+use crate::printing::printed_item;
 use dm_ast::DeriveInput;
-use dm_expansion::{Expansion, print_items, with_text};
+use dm_expansion::{Expansion, with_text};
 use dm_generics::lists::one_of;
 use dm_operators::operator::{Form, Operator, operator_named};
 use dm_operators::places::{Plan, plan_for};
@@ -35,16 +36,6 @@ fn with_their_text<'a>(
 {
     match items {
         Ok(items) => with_text(alloc, items),
-        Err(error) => Err(error),
-    }
-}
-
-/// The text of the items.
-fn text_of(alloc: Global, items: Result<Seq<Item<'_>>, AllocError>) -> Result<String, AllocError>
-    ensures { IfOk result (λ s. IsOkAnd items.entry (λ all. string_bytes s ≡ printed (map item_view all))) }
-{
-    match items {
-        Ok(items) => print_items(alloc, items.as_slice()),
         Err(error) => Err(error),
     }
 }
@@ -98,7 +89,11 @@ fn written<'a>(
     requires planned { IsPlan (operator_view operator.now) (declaration_view input.now) plan.now }
     ensures { IfOk result (λ s. spec.IsText (operator_view operator.now) (declaration_view input.now) (string_bytes s)) }
 {
-    text_of(alloc, made(alloc, operator, input, plan))
+    let implemented = Implemented {
+        form: plan.form,
+        operator: *operator,
+    };
+    printed_item(alloc, &implemented, input, plan.cases.as_slice())
 }
 
 /// The implementation of the operator for the declaration, with its text.

@@ -50,15 +50,15 @@ fn signature<'a>(
     both(attrs, both(param, method_output(alloc, implemented, input)))
 }
 
-fn method<'a>(
+/// The method with this body.
+pub(crate) fn method_with<'a>(
     alloc: Global,
     implemented: &Implemented,
     input: &DeriveInput<'a>,
-    cases: &[CaseRef<'_, 'a>],
+    body: Result<Block<'a>, AllocError>,
 ) -> Result<Method<'a>, AllocError>
-    ensures { IfOk result (λ m. method_view m ≡ spec.method_in (form_view implemented.now.form) (operator_view implemented.now.operator) (declaration_view input.now) (map case_view cases.now)) }
+    ensures { IfOk result (λ m. IsOkAnd body.entry (λ b. method_view m ≡ spec.method_with (form_view implemented.now.form) (operator_view implemented.now.operator) (declaration_view input.now) (block_view b))) }
 {
-    let body = body(alloc, body_expr(alloc, implemented, input, cases));
     let ((attrs, (param, output)), body) = both(signature(alloc, implemented, input), body)?;
     Ok(Method {
         attrs,
@@ -69,6 +69,18 @@ fn method<'a>(
         output,
         body,
     })
+}
+
+fn method<'a>(
+    alloc: Global,
+    implemented: &Implemented,
+    input: &DeriveInput<'a>,
+    cases: &[CaseRef<'_, 'a>],
+) -> Result<Method<'a>, AllocError>
+    ensures { IfOk result (λ m. method_view m ≡ spec.method_in (form_view implemented.now.form) (operator_view implemented.now.operator) (declaration_view input.now) (map case_view cases.now)) }
+{
+    let body = body(alloc, body_expr(alloc, implemented, input, cases));
+    method_with(alloc, implemented, input, body)
 }
 
 /// The parameters and the type.
@@ -114,17 +126,19 @@ fn inside<'a>(
     )
 }
 
-/// The implementation for these cases.
-pub(crate) fn item<'a>(
+/// The implementation for these cases, with this between its braces.
+pub(crate) fn item_with<'a>(
     alloc: Global,
     implemented: &Implemented,
     input: &DeriveInput<'a>,
     cases: &[CaseRef<'_, 'a>],
+    inside: Result<(Seq<Assoc<'a>>, Seq<Method<'a>>), AllocError>,
 ) -> Result<Item<'a>, AllocError>
-    ensures { IfOk result (λ i. item_view i ≡ items.item_for (form_view implemented.now.form) (operator_view implemented.now.operator) (declaration_view input.now) (map case_view cases.now)) }
+    ensures { IfOk result (λ i. IsOkAnd inside.entry (λ r. item_view i ≡
+        items.item_with (form_view implemented.now.form) (operator_view implemented.now.operator) (declaration_view input.now) (map case_view cases.now) (map assoc_view r.0) (map method_view r.1))) }
 {
     let predicates = all_predicates(alloc, implemented, input, cases);
-    let rest = both(predicates, inside(alloc, implemented, input, cases));
+    let rest = both(predicates, inside);
     let (front, (predicates, (assocs, methods))) = both(front(alloc, implemented, input), rest)?;
     let ((attrs, path), (params, ty)) = front;
     Ok(Item {
@@ -136,4 +150,17 @@ pub(crate) fn item<'a>(
         assocs,
         methods,
     })
+}
+
+/// The implementation for these cases.
+pub(crate) fn item<'a>(
+    alloc: Global,
+    implemented: &Implemented,
+    input: &DeriveInput<'a>,
+    cases: &[CaseRef<'_, 'a>],
+) -> Result<Item<'a>, AllocError>
+    ensures { IfOk result (λ i. item_view i ≡ items.item_for (form_view implemented.now.form) (operator_view implemented.now.operator) (declaration_view input.now) (map case_view cases.now)) }
+{
+    let inside = inside(alloc, implemented, input, cases);
+    item_with(alloc, implemented, input, cases, inside)
 }

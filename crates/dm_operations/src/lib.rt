@@ -8,3 +8,4 @@ mod item;
 pub mod mul;
 pub mod mul_assign;
 pub mod not_like;
+mod printing;

@@ -13,7 +13,6 @@ ghost use Rattle.dm_partial_eq.specs.Printed as printed;
 ghost use Rattle.dm_operands.specs.CaseViews.{case_view};
 
 mod arms;
-mod made;
 
 use crate::comparing::Comparing;
 use crate::partial_eq::{
@@ -25,8 +24,8 @@ use dm_layout::Layout;
 use dm_operands::cases::{CaseRef, some_compared};
 use dm_output::Block;
 use dm_print_types::token::{close, open, word};
+use dm_sides::made::print;
 use dm_stream::{Delim, Seq};
-use made::print;
 use std::alloc::{AllocError, Global};
 
 /// Adds the pair of the operands.

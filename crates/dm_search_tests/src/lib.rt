@@ -1,4 +1,4 @@
-//! Searches in types: what each finds in which types, by tables of texts.
+//! Searches in types and the patterns of fields, by tables of texts.
 #![tactic(auto)]
 
 #[cfg(test)]
@@ -9,6 +9,8 @@ mod found;
 mod generics;
 #[cfg(test)]
 mod parameters;
+#[cfg(test)]
+mod patterns;
 #[cfg(test)]
 mod read;
 #[cfg(test)]

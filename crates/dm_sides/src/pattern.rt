@@ -10,6 +10,7 @@ ghost use Rattle.dm_output.specs.Output.{patterns_of, named_of};
 ghost use Rattle.dm_output.specs.Tokens as tokens;
 ghost use Rattle.dm_print_types.specs.Laying.{lay};
 ghost use Rattle.dm_operands.specs.Sides as spec;
+ghost use Rattle.dm_sides.specs.Fields.{fields_trees};
 ghost use Rattle.dm_operands.specs.CaseViews.{case_view, field_ref_view, naming};
 
 use dm_ast::{DeriveInput, Field};
@@ -68,7 +69,8 @@ fn bindings(
     Ok(())
 }
 
-fn field_name(out: &mut Layout, ident: &Option<Ident<'_>>) -> Result<(), AllocError>
+/// Adds the name of a field in braces.
+pub fn field_name(out: &mut Layout, ident: &Option<Ident<'_>>) -> Result<(), AllocError>
     ensures { OnOk result (out.new ≡ lay out.old (syntax.name (spec.field_ident ident.now))) }
 {
     match ident {
@@ -109,7 +111,11 @@ fn named_bindings(
 }
 
 /// Adds `Self`, or `Self::V`.
-fn case_path(out: &mut Layout, input: &DeriveInput<'_>, ident: &Ident<'_>) -> Result<(), AllocError>
+pub fn case_path(
+    out: &mut Layout,
+    input: &DeriveInput<'_>,
+    ident: &Ident<'_>,
+) -> Result<(), AllocError>
     ensures { OnOk result (out.new ≡ lay out.old (syntax.path_trees nowhere (spec.case_path (declaration_view input.now) ident.now))) }
 {
     word(out, "Self")?;
@@ -120,17 +126,15 @@ fn case_path(out: &mut Layout, input: &DeriveInput<'_>, ident: &Ident<'_>) -> Re
     Ok(())
 }
 
-/// Adds the pattern of an operand that is of this case.
-pub fn side(
+/// Adds what stands behind the path in the pattern of an operand that is of this case.
+pub fn case_fields(
     alloc: Global,
     out: &mut Layout,
     operand: Operand,
-    input: &DeriveInput<'_>,
     case: &CaseRef<'_, '_>,
 ) -> Result<(), AllocError>
-    ensures { OnOk result (out.new ≡ lay out.old (tokens.pattern_trees (spec.side (naming operand) (declaration_view input.now) (case_view case.now)))) }
+    ensures { OnOk result (out.new ≡ lay out.old (fields_trees (naming operand) (case_view case.now).form (case_view case.now).fields)) }
 {
-    case_path(out, input, case.ident)?;
     let fields = case.fields.as_slice();
     match case.form {
         Form::Named => {
@@ -146,4 +150,18 @@ pub fn side(
         }
         Form::Unit => Ok(()),
     }
+}
+
+/// Adds the pattern of an operand that is of this case.
+pub fn side(
+    alloc: Global,
+    out: &mut Layout,
+    operand: Operand,
+    input: &DeriveInput<'_>,
+    case: &CaseRef<'_, '_>,
+) -> Result<(), AllocError>
+    ensures { OnOk result (out.new ≡ lay out.old (tokens.pattern_trees (spec.side (naming operand) (declaration_view input.now) (case_view case.now)))) }
+{
+    case_path(out, input, case.ident)?;
+    case_fields(alloc, out, operand, case)
 }

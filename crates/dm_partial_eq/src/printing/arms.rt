@@ -15,12 +15,12 @@ ghost use Rattle.dm_operands.specs.CaseViews.{case_view, field_ref_view};
 
 use crate::arms::with_rest;
 use crate::comparing::Comparing;
-use crate::printing::made::print;
 use dm_ast::DeriveInput;
 use dm_layout::Layout;
 use dm_operands::cases::{CaseRef, FieldRef, is_compared};
 use dm_operands::sides::Operand;
 use dm_print_types::token::{close, joint, open, punct};
+use dm_sides::made::print;
 use dm_sides::pattern::{numbered, side};
 use dm_stream::{Delim, Seq};
 use std::alloc::{AllocError, Global};

@@ -1,8 +1,11 @@
+use Rattle.dm_derive.specs.Answers.{trait_view}
 use Rattle.dm_derive.proofs.Deriving.{printed, not-printed}
 use Rattle.dm_derive.proofs.derive.print_known.Goals as goal
 
 pub returns-in-Ok : goal.returns-in-Ok
-returns-in-Ok c = printed c.args.trait_name.now c.args.decl.now c.in-Ok.input c.print.result c.requires c.in-Ok.ensures c.print.ensures
+returns-in-Ok c = λ name known.
+    printed (trait_view c.args.derived) name c.args.decl.now c.in-Ok.input c.printed.result known c.in-Ok.ensures c.printed.ensures
 
 pub returns-in-Err : goal.returns-in-Err
-returns-in-Err c = not-printed c.args.trait_name.now c.args.decl.now c.in-Err.error c.requires c.in-Err.ensures
+returns-in-Err c = λ name known.
+    not-printed (trait_view c.args.derived) name c.args.decl.now c.in-Err.error known c.in-Err.ensures

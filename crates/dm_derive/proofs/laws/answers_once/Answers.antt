@@ -1,5 +1,4 @@
-use Rattle.dm_partial_eq.proofs.Expansions.{text-once}
-use Rattle.dm_derive.proofs.Deriving.{read-one, answers-once}
+use Rattle.dm_derive.proofs.Deriving.{read-one, text-once, answers-once}
 use Rattle.dm_derive.proofs.laws.answers_once.Goals as goal
 
 pub returns-clause-declaration : goal.returns-clause-declaration

@@ -3,7 +3,7 @@ use Rattle.dm_ast.specs.Declarations.{declaration_view}
 use Rattle.dm_operands.specs.CaseViews.{case_view}
 use Rattle.dm_operators.specs.Table.{form_view, operator_view}
 use Rattle.dm_operations.specs.Items.{item_for}
-use Rattle.dm_operations.proofs.Answering.{prints, text_alone}
+use Rattle.dm_operations.proofs.Answering.{prints}
 use Rattle.dm_operations.proofs.expand.written.Goals as goal
 
 pub returns : goal.returns
@@ -11,6 +11,5 @@ returns c =
     let o = operator_view c.args.operator.now in
     let d = declaration_view c.args.input.now in
     let p = c.args.plan.now in
-    prints o d p (item_for (form_view p.form) o d (map case_view p.cases.items)) c.text_of.result
-    c.requires.is_operator c.requires.readable c.requires.unrefused c.requires.planned refl
-    (text_alone c.made.result c.text_of.result _ c.made.ensures c.text_of.ensures)
+    prints o d p (item_for (form_view p.form) o d (map case_view p.cases.items)) c.printed_item.result
+    c.requires.is_operator c.requires.readable c.requires.unrefused c.requires.planned refl (rw c.as_slice.ensures.value at c.printed_item.ensures)

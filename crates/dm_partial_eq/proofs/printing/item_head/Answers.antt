@@ -1,6 +1,6 @@
 use Rattle.dm_output.specs.Views.{item_view}
 use Rattle.dm_output.specs.Tokens.{head_trees}
-use Rattle.dm_partial_eq.proofs.PrintLaws.{made-laid}
+use Rattle.dm_sides.proofs.MadeLaws.{made-laid}
 use Rattle.dm_partial_eq.proofs.printing.item_head.Goals as goal
 
 pub returns : goal.returns

@@ -1,7 +1,7 @@
 use Rattle.dm_output.specs.Views.{expr_view}
 use Rattle.dm_output.specs.Tokens.{expr_trees}
 use Rattle.dm_partial_eq.specs.Emitted.{both}
-use Rattle.dm_partial_eq.proofs.PrintLaws.{made-laid}
+use Rattle.dm_sides.proofs.MadeLaws.{made-laid}
 use Rattle.dm_partial_eq.proofs.printing.subject.Goals as goal
 
 pub returns : goal.returns

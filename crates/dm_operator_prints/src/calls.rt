@@ -1,0 +1,94 @@
+//! Calls that the bodies of operators' methods make.
+#![tactic(auto, using(crate::proofs::Values::value_steps))]
+
+ghost use Rattle.std.specs.Prelude.{◌≡◌, [], ◌∷◌, ◌++◌, OnOk, IfOk, string_bytes};
+ghost use Rattle.dm_ast.specs.Tree.{no_self};
+ghost use Rattle.dm_ast.specs.Implementors.{plain_path};
+ghost use Rattle.dm_output.specs.Tokens as tokens;
+ghost use Rattle.dm_ast.specs.TypeTokens as syntax;
+ghost use Rattle.dm_generics.specs.Words.{words};
+ghost use Rattle.dm_print_types.specs.Laying.{lay};
+ghost use Rattle.dm_operators.specs.Operators as ops;
+ghost use Rattle.dm_operators.specs.Bodies as spec;
+ghost use Rattle.dm_operators.specs.Table.{operator_view};
+
+use dm_layout::Layout;
+use dm_operators::operator::Operator;
+use dm_print_types::token::{fixed, joint, literal, word};
+use dm_stream::{LitKind, Literal, Span, Text};
+use std::alloc::{AllocError, Global};
+
+/// Adds `derive_more::core::ops::TRAIT::METHOD`.
+pub(crate) fn method_path(out: &mut Layout, operator: &Operator) -> Result<(), AllocError>
+    ensures { OnOk result (out.new ≡ lay out.old (tokens.path_expr_trees no_self (plain_path (words (ops.method_names (operator_view operator.now)))))) }
+{
+    fixed(out, "derive_more :: core :: ops ::")?;
+    word(out, operator.trait_name)?;
+    joint(out, ':', ':')?;
+    word(out, operator.method)
+}
+
+fn quoted_text(alloc: Global, text: &str) -> Result<String, AllocError>
+    ensures { IfOk result (λ s. string_bytes s ≡ 34 ∷ (text.now ++ 34 ∷ [])) }
+{
+    format!(in alloc; "\"{text}\"")
+}
+
+/// Adds a text as a string literal.
+fn quoted(alloc: Global, out: &mut Layout, text: &str) -> Result<(), AllocError>
+    ensures { OnOk result (out.new ≡ lay out.old (syntax.literal (spec.quoted text.now))) }
+{
+    let quoted = Literal {
+        kind: LitKind::Str,
+        text: Text::owned(quoted_text(alloc, text)?),
+        span: Span::nowhere(),
+    };
+    literal(out, &quoted)
+}
+
+/// Adds what two values of a variant without fields give.
+#[tactic(auto, unfolding(dm_operators::specs::Bodies::binary_unit))]
+pub(crate) fn binary_unit(
+    alloc: Global,
+    out: &mut Layout,
+    operator: &Operator,
+) -> Result<(), AllocError>
+    ensures { OnOk result (out.new ≡ lay out.old (tokens.expr_trees (spec.binary_unit (operator_view operator.now)))) }
+{
+    fixed(out, "derive_more :: core :: result :: Result :: Err (")?;
+    fixed(out, "derive_more :: BinaryError :: Unit (")?;
+    fixed(out, "derive_more :: UnitError :: new (")?;
+    quoted(alloc, out, operator.method)?;
+    fixed(out, ")))")
+}
+
+/// Adds what two values of different variants give.
+#[tactic(auto, unfolding(dm_operators::specs::Bodies::mismatch))]
+pub(crate) fn mismatch(
+    alloc: Global,
+    out: &mut Layout,
+    operator: &Operator,
+) -> Result<(), AllocError>
+    ensures { OnOk result (out.new ≡ lay out.old (tokens.expr_trees (spec.mismatch (operator_view operator.now)))) }
+{
+    fixed(out, "derive_more :: core :: result :: Result :: Err (")?;
+    fixed(out, "derive_more :: BinaryError :: Mismatch (")?;
+    fixed(out, "derive_more :: WrongVariantError :: new (")?;
+    quoted(alloc, out, operator.method)?;
+    fixed(out, ")))")
+}
+
+/// Adds what a value of a variant without fields gives.
+#[tactic(auto, unfolding(dm_operators::specs::Bodies::unary_unit))]
+pub(crate) fn unary_unit(
+    alloc: Global,
+    out: &mut Layout,
+    operator: &Operator,
+) -> Result<(), AllocError>
+    ensures { OnOk result (out.new ≡ lay out.old (tokens.expr_trees (spec.unary_unit (operator_view operator.now)))) }
+{
+    fixed(out, "derive_more :: core :: result :: Result :: Err (")?;
+    fixed(out, "derive_more :: UnitError :: new (")?;
+    quoted(alloc, out, operator.method)?;
+    fixed(out, "))")
+}

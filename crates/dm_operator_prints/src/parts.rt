@@ -1,0 +1,165 @@
+//! What stands for each field of the value that an operator gives.
+#![tactic(auto, using(crate::proofs::Values::value_steps))]
+
+ghost use Rattle.std.specs.Prelude.{◌≡◌, [], ◌∷◌, cond, OnOk, IfOk, string_bytes};
+ghost use Rattle.dm_stream.specs.Layout.{nowhere};
+ghost use Rattle.dm_stream.specs.declared.tokens.LitKind.TheVariants as kinds;
+ghost use Rattle.dm_ast.specs.TypeTokens as syntax;
+ghost use Rattle.dm_output.specs.Tokens as tokens;
+ghost use Rattle.dm_generics.specs.Numerals.{numeral};
+ghost use Rattle.dm_print_types.specs.Laying.{lay};
+ghost use Rattle.dm_operands.specs.Bodies as bodies;
+ghost use Rattle.dm_operands.specs.CaseViews.{field_ref_view};
+ghost use Rattle.dm_operands.specs.Numbered.{self_name};
+ghost use Rattle.dm_operators.specs.Bodies as spec;
+ghost use Rattle.dm_operators.specs.Table.{form_view, operator_view};
+ghost use Rattle.dm_operator_prints.specs.Parts.{part_by};
+
+use crate::calls::method_path;
+use dm_layout::Layout;
+use dm_operands::cases::{self, FieldRef};
+use dm_operands::sides::Operand;
+use dm_operators::operator::{Form, Operator};
+use dm_print_types::token::{close, fixed, literal, open, punct, word};
+use dm_sides::pattern::{field_name, numbered};
+use dm_stream::{Delim, LitKind, Literal, Span, Text};
+use std::alloc::{AllocError, Global};
+
+/// How the operation on a field is called.
+#[derive(Clone, Copy, Debug, PartialEq, Eq)]
+pub(crate) enum Part {
+    /// With the left operand's field, and the right operand's or the right side. A field that is left out stays as it is.
+    Binary(Form),
+    /// With the variable of the only operand's field.
+    Inner,
+    /// With the field of self, whose fields stand so.
+    Own(cases::Form),
+}
+
+fn right_operand(alloc: Global, out: &mut Layout, form: Form, n: usize) -> Result<(), AllocError>
+    ensures { OnOk result (out.new ≡ lay out.old (tokens.expr_trees (spec.right_operand (form_view form) n))) }
+{
+    match form {
+        Form::Structural => numbered(alloc, out, Operand::Right, n),
+        Form::Scalar => word(out, "__rhs"),
+        Form::Unary => word(out, "__rhs"),
+    }
+}
+
+/// Adds the operation on a field of the left operand.
+pub(crate) fn binary_call(
+    alloc: Global,
+    out: &mut Layout,
+    form: Form,
+    operator: &Operator,
+    n: usize,
+) -> Result<(), AllocError>
+    ensures { OnOk result (out.new ≡ lay out.old (tokens.expr_trees (spec.binary_call (form_view form) (operator_view operator.now) n))) }
+{
+    method_path(out, operator)?;
+    open(out, Delim::Paren)?;
+    numbered(alloc, out, Operand::Mine, n)?;
+    punct(out, ',')?;
+    right_operand(alloc, out, form, n)?;
+    close(out, Delim::Paren)
+}
+
+fn binary_part(
+    alloc: Global,
+    out: &mut Layout,
+    form: Form,
+    operator: &Operator,
+    n: usize,
+    left_out: bool,
+) -> Result<(), AllocError>
+    ensures { OnOk result (out.new ≡ lay out.old (tokens.expr_trees (cond left_out (bodies.name (self_name n)) (spec.binary_call (form_view form) (operator_view operator.now) n)))) }
+{
+    if left_out {
+        return numbered(alloc, out, Operand::Mine, n);
+    }
+    binary_call(alloc, out, form, operator, n)
+}
+
+fn inner_part(
+    alloc: Global,
+    out: &mut Layout,
+    operator: &Operator,
+    n: usize,
+) -> Result<(), AllocError>
+    ensures { OnOk result (out.new ≡ lay out.old (tokens.expr_trees (spec.operation_call (operator_view operator.now) (bodies.name (spec.inner_name n) ∷ [])))) }
+{
+    method_path(out, operator)?;
+    open(out, Delim::Paren)?;
+    numbered(alloc, out, Operand::Inner, n)?;
+    close(out, Delim::Paren)
+}
+
+/// The digits of a number.
+fn digits(alloc: Global, n: usize) -> Result<String, AllocError>
+    ensures { IfOk result (λ s. string_bytes s ≡ numeral n) }
+{
+    format!(in alloc; "{n}")
+}
+
+/// Adds a field's number.
+fn index(alloc: Global, out: &mut Layout, n: usize) -> Result<(), AllocError>
+    ensures { OnOk result (out.new ≡ lay out.old (syntax.literal (record { kind = kinds.Int; text = numeral n; span = nowhere }))) }
+{
+    let number = Literal {
+        kind: LitKind::Int,
+        text: Text::owned(digits(alloc, n)?),
+        span: Span::nowhere(),
+    };
+    literal(out, &number)
+}
+
+/// Adds what stands behind the dot.
+fn member_of(
+    alloc: Global,
+    out: &mut Layout,
+    form: cases::Form,
+    n: usize,
+    field: &FieldRef<'_, '_>,
+) -> Result<(), AllocError>
+    ensures { OnOk result (out.new ≡ lay out.old (tokens.member_trees (spec.member_of form n (field_ref_view field.now)))) }
+{
+    match form {
+        cases::Form::Named => field_name(out, &field.field.ident),
+        cases::Form::Unnamed => index(alloc, out, n),
+        cases::Form::Unit => index(alloc, out, n),
+    }
+}
+
+fn own_part(
+    alloc: Global,
+    out: &mut Layout,
+    operator: &Operator,
+    form: cases::Form,
+    n: usize,
+    field: &FieldRef<'_, '_>,
+) -> Result<(), AllocError>
+    ensures { OnOk result (out.new ≡ lay out.old (tokens.expr_trees (spec.own_part (operator_view operator.now) form n (field_ref_view field.now)))) }
+{
+    method_path(out, operator)?;
+    fixed(out, "(self .")?;
+    member_of(alloc, out, form, n, field)?;
+    close(out, Delim::Paren)
+}
+
+/// Adds what stands for a field.
+pub(crate) fn part_of(
+    alloc: Global,
+    out: &mut Layout,
+    operator: &Operator,
+    part: Part,
+    n: usize,
+    field: &FieldRef<'_, '_>,
+) -> Result<(), AllocError>
+    ensures { OnOk result (out.new ≡ lay out.old (tokens.expr_trees (part_by part (operator_view operator.now) n (field_ref_view field.now)))) }
+{
+    match part {
+        Part::Binary(form) => binary_part(alloc, out, form, operator, n, field.left_out),
+        Part::Inner => inner_part(alloc, out, operator, n),
+        Part::Own(form) => own_part(alloc, out, operator, form, n, field),
+    }
+}
