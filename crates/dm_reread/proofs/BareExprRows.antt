@@ -11,7 +11,7 @@ use Rattle.dm_reread.specs.BareTypes.{bare_ident, bare_self, bare_path}
 use Rattle.dm_reread.specs.Bare.{bare_expr, bare_exprs}
 use Rattle.dm_reread.specs.BareReading.{bare_next, bare_posts, bare_answer}
 use Rattle.dm_reread.specs.Next.{Word, k_match, k_unsafe, k_true, k_false, k_mut, k_return, Next, oror, andand, equals, differs, star, amp, dot, asks, bangs, less, bar, colons, in_parens, in_braces, literal, a_name, a_word, next}
-use Rattle.dm_reread.specs.Reading.{Posts, no_posts, p_member, p_call, p_map, p_map_err, p_question, apply, then, read_args, Readers, is_map, is_map_err, called, after_path, path_base, qualified_base, tuple_of, unsafe_of, match_of, word_base, group_from, read_base, method_from, closure_bar, closure_from, map_from, map_err_from, call_from, after_member, member_from, read_posts, read_post, ref_from_pre, read_ref, read_pre, after_pre, read_cmp, after_cmp, read_and, after_and, or_from, read_or, more_ands, more_ors}
+use Rattle.dm_reread.specs.Reading.{Posts, no_posts, p_member, p_call, p_map, p_map_err, p_question, apply, then, read_args, Readers, is_map, is_map_err, called, after_path, path_base, qualified_base, tuple_of, unsafe_of, match_of, word_base, group_from, read_base, method_from, closure_bar, closure_from, map_from, map_err_from, call_from, after_member, member_from, read_posts, read_post, ref_from_pre, read_mut_ref, read_ref, read_pre, after_pre, read_cmp, after_cmp, read_and, after_and, or_from, read_or, more_ands, more_ors}
 use Rattle.dm_reread.proofs.BareNext.{next-bare, some-bare, passing, map-cond, chained, provided-bare, either, whole-bare, goes-on-bare}
 use Rattle.dm_reread.proofs.BareRows.{Natural, plain-path-bare, args-bare, macro-bare}
 
@@ -152,8 +152,13 @@ module _ (r : Readers) (N : Natural r) where
   ref-pre-bare : (b w : Bool) (ts : Trees) → ref_from_pre r b w (unplaced ts) ≡ bare_answer bare_expr (ref_from_pre r b w ts)
   ref-pre-bare b w ts = simp (N.pre, passing)
 
+  mut-ref-bare : (b : Bool) (ts : Trees) (n : Next) →
+      read_mut_ref r b (unplaced ts) (bare_next n) ≡ bare_answer bare_expr (read_mut_ref r b ts n)
+  mut-ref-bare b ts (in_parens inside us) = simp (ref-pre-bare, goes-on-bare, passing)
+  mut-ref-bare b ts _ = ref-pre-bare b true ts
+
   ref-bare : (b : Bool) (ts : Trees) (n : Next) → read_ref r b (unplaced ts) (bare_next n) ≡ bare_answer bare_expr (read_ref r b ts n)
-  ref-bare b ts (a_word k_mut us) = ref-pre-bare b true us
+  ref-bare b ts (a_word k_mut us) = rw (next-bare us) (mut-ref-bare b us (next us))
   ref-bare b ts (in_parens inside us) = simp (ref-pre-bare, goes-on-bare, some-bare, passing)
   ref-bare b ts _ = ref-pre-bare b false ts
 

@@ -12,7 +12,7 @@ use Rattle.dm_stream.specs.Trees.{Trees, no_trees, token, group}
 use Rattle.dm_lexer.specs.Written.{unplaced_token, unplaced}
 use Rattle.dm_reread.specs.BareTypes.{bare_ident, bare_literal}
 use Rattle.dm_reread.specs.BareReading.{bare_next, bare_answer}
-use Rattle.dm_reread.specs.Next.{Word, of_path, kind, k_as, k_wild, Next, dot, asks, plus, comma, colon, semicolon, assigns, leads, in_parens, literal, a_word, word_next, alone_next, pair_next, joint_next, punct_next, token_next, group_next, next}
+use Rattle.dm_reread.specs.Next.{Word, of_path, kind, k_as, k_wild, Next, dot, asks, plus, comma, colon, semicolon, assigns, leads, in_parens, literal, a_word, word_next, alone_next, pair_next, last_next, joint_next, punct_next, token_next, group_next, next}
 use Rattle.dm_reread.specs.Leaves.{Answer}
 use Rattle.dm_reread.specs.Reading.{then, provided, is_int, is_some_trees, comma_after, semicolon_after, leads_after, assigns_after, colon_after, plus_after, as_after, wild_after, int_after, whole, goes_on}
 use Rattle.dm_reread.specs.Whole.{size}
@@ -33,8 +33,12 @@ alone-bare ch ts = simp next-cond
 pair-bare : (a b : ℕ) (ts : Trees) → pair_next a b (unplaced ts) ≡ bare_next (pair_next a b ts)
 pair-bare a b ts = simp next-cond
 
+last-bare : (s : Spacing) (a b : ℕ) (ts : Trees) → last_next s a b (unplaced ts) ≡ bare_next (last_next s a b ts)
+last-bare Alone a b ts = pair-bare a b ts
+last-bare Joint a b ts = refl
+
 joint-bare : (ch : ℕ) (ts : Trees) → joint_next ch (unplaced ts) ≡ bare_next (joint_next ch ts)
-joint-bare ch (token (t.Punct p) ts) = pair-bare ch p.ch ts
+joint-bare ch (token (t.Punct p) ts) = last-bare p.spacing ch p.ch ts
 joint-bare ch _ = refl
 
 punct-bare : (s : Spacing) (ch : ℕ) (ts : Trees) → punct_next s ch (unplaced ts) ≡ bare_next (punct_next s ch ts)

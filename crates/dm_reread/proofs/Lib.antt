@@ -40,3 +40,7 @@ pub mod HeadLeaf
 pub mod ReadBack
 pub mod LeafExamples
 pub mod TypeLeafUnplaced
+pub mod FreeSteps
+pub mod FreePlain
+pub mod FreeTypes
+pub mod FreeDeclarations

@@ -16,7 +16,7 @@ use Rattle.dm_reread.specs.Reading.{Readers, goes_on, more_ands, more_ors, read_
 use Rattle.dm_reread.specs.Grammar.{at_or, at_and, at_cmp, at_pre, at_post, is_group, Stops, Fits, IsPlainPath, IsPath, IsExpr, Each}
 use Rattle.dm_reread.specs.Need.{need, needs}
 use Rattle.dm_reread.proofs.Words.{plainly, word-next, name-path, derive-more-name}
-use Rattle.dm_reread.proofs.Passing.{pre-stops, cmp-stops, and-stops, ands-stop, ors-stop, and-or, cmp-and, pre-cmp, is_return, return-pre, or-some, ref_ready, ref-pre, opaque-stops, some-opaque}
+use Rattle.dm_reread.proofs.Passing.{pre-stops, cmp-stops, and-stops, ands-stop, ors-stop, and-or, cmp-and, pre-cmp, is_return, return-pre, or-some, ref_ready, ref-pre, mut-ref-pre, opaque-stops, some-opaque}
 use Rattle.dm_reread.proofs.Posts.{closure_trees}
 use Rattle.dm_reread.proofs.Laws.{Laws, tail, colons_tail}
 use Rattle.dm_reread.proofs.PostRows.{post-row}
@@ -105,10 +105,14 @@ ref-row : (g : LeafGrammar) (r : Readers) (n : ℕ) (L : Laws g r n) (b w : Bool
     Fits at_pre a → T (not (is_group a)) →
     need a ≤ n → Stops at_pre b (next rest) →
     read_pre r b (join (expr_trees (ref_expr w a)) rest) (next (join (expr_trees (ref_expr w a)) rest)) ≡ Some (ref_expr w a, rest)
-ref-row g r n L b true a rest h f c m s = rw (L.pre b a rest h f m s) refl
+ref-row g r n L b true a rest h f c m s =
+    let here : Trees = join (expr_trees a) rest in
+    let begins : T (ref_ready (next here)) = ready g b a rest h f (second (goes_on (next rest)) (not (is_group a)) c) in
+    mut-ref-pre r b here (next here) begins ∙ rw (L.pre b a rest h f m s) refl
 ref-row g r n L b false a rest h f c m s =
     let here : Trees = join (expr_trees a) rest in
-    ref-pre r b here (next here) (ready g b a rest h f (second (goes_on (next rest)) (not (is_group a)) c)) ∙ rw (L.pre b a rest h f m s) refl
+    let begins : T (ref_ready (next here)) = ready g b a rest h f (second (goes_on (next rest)) (not (is_group a)) c) in
+    ref-pre r b here (next here) begins ∙ rw (L.pre b a rest h f m s) refl
 
 pub pre-row : (g : LeafGrammar) (r : Readers) (n : ℕ) (L : Laws g r n) (b : Bool) (e : ExprTree) (rest : Trees) → IsExpr g b e →
     Fits at_pre e → need e ≤ suc n →

@@ -7,7 +7,7 @@ use Rattle.dm_output.specs.declared.expr.Member.TheVariants as m
 use Rattle.dm_output.specs.Output.{ref_opaque, expr_body, PatternTree, path_pattern, no_patterns, pattern_then, ExprTree, path_expr, no_exprs}
 use Rattle.dm_reread.specs.Next.{Next, ended, oror, andand, equals, differs, star, colons, bangs, semicolon, in_parens, in_braces, a_word, k_let, k_use, k_const, k_if, k_mut, k_return, amp, dot, asks, bar, leads, next}
 use Rattle.dm_reread.specs.Leaves.{ends_qualified}
-use Rattle.dm_reread.specs.Reading.{Readers, is_some_trees, provided, after_path, after_pre, after_cmp, after_and, more_ands, more_ors, more_segments, read_args, first_arg, then, no_posts, p_member, p_map_err, group_from, tuple_of, after_member, read_posts, goes_on, ref_from_pre, read_ref, read_base, read_post, read_and, or_from, read_pre, read_block, read_body, after_stmt, read_arms, some_arm, read_patterns, comma_after, after_pattern_path, pattern_of_path, more_bars, map_from, map_err_from, method_from}
+use Rattle.dm_reread.specs.Reading.{Readers, is_some_trees, provided, after_path, after_pre, after_cmp, after_and, more_ands, more_ors, more_segments, read_args, first_arg, then, no_posts, p_member, p_map_err, group_from, tuple_of, after_member, read_posts, goes_on, ref_from_pre, read_mut_ref, read_ref, read_base, read_post, read_and, or_from, read_pre, read_block, read_body, after_stmt, read_arms, some_arm, read_patterns, comma_after, after_pattern_path, pattern_of_path, more_bars, map_from, map_err_from, method_from}
 use Rattle.dm_reread.specs.Grammar.{no_start, EndsPattern, is_single, at_or, at_and, at_cmp, at_pre, at_post, Stops}
 
 pub pre-stops : (r : Readers) (b : Bool) (e : ExprTree) (ts : Trees) (n : Next) → Stops at_cmp b n → after_pre r b e ts n ≡ Some (e, ts)
@@ -166,6 +166,15 @@ ref-pre r b ts (in_parens i us) h = chosen (goes_on (next us)) h
     chosen true h = refl
     chosen false h = absurd h
 ref-pre r b ts _ h = refl
+
+-- where `mut` stands between, it may begin there too
+pub mut-ref-pre : (r : Readers) (b : Bool) (ts : Trees) (n : Next) → T (ref_ready n) → read_mut_ref r b ts n ≡ ref_from_pre r b true ts
+mut-ref-pre r b ts (in_parens i us) h = chosen (goes_on (next us)) h
+  where
+    chosen : (c : Bool) → T c → provided c (ref_from_pre r b true ts) ≡ ref_from_pre r b true ts
+    chosen true h = refl
+    chosen false h = absurd h
+mut-ref-pre r b ts _ h = refl
 
 pub opaque-stops : (b : Bool) (n : Next) → Stops at_pre b n → goes_on n ≡ false
 opaque-stops b (in_parens i ts) h = absurd h

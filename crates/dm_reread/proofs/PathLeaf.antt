@@ -13,7 +13,7 @@ use Rattle.dm_ast.specs.TypeTokens.{type_trees, behind_self_trees, each_segment}
 use Rattle.dm_output.specs.Tokens.{path_expr_trees}
 use Rattle.dm_expr.specs.Cuts.{Front, after, and_then, closed_at, split_at}
 use Rattle.dm_expr.specs.Reach.{is_there}
-use Rattle.dm_reread.specs.Next.{Next, colons, pair_next, joint_next, punct_next, next}
+use Rattle.dm_reread.specs.Next.{Next, colons, pair_next, last_next, joint_next, punct_next, next}
 use Rattle.dm_reread.specs.Leaves.{Answer, ends_qualified}
 use Rattle.dm_reread.specs.Reading.{whole}
 use Rattle.dm_reread.specs.TypeLeaves.{read_type}
@@ -96,8 +96,13 @@ two_apart a b ts s h = by ((a == 58) && (b == 58)) refl
     by true e = absurd (not_first ((a == 58) && (b == 58)) (colons ts) _ refl e h)
     by false e = still_false (nat_eq a 58) (is_joint s) (nat_eq b 58) e
 
+last_apart : (a b : ℕ) (ts : Trees) (s z : Spacing) → T (ends_qualified (last_next z a b ts)) →
+    ((nat_eq a 58 && is_joint s) && nat_eq b 58) ≡ false
+last_apart a b ts s Alone h = two_apart a b ts s h
+last_apart a b ts s Joint h = absurd h
+
 joint_apart : (p : Punct) (ts : Trees) → T (ends_qualified (joint_next p.ch ts)) → sees_colons (token (t.Punct p) ts) ≡ false
-joint_apart p (token (t.Punct q) ts) h = two_apart p.ch q.ch ts p.spacing h
+joint_apart p (token (t.Punct q) ts) h = last_apart p.ch q.ch ts p.spacing q.spacing h
 joint_apart p (token (t.Ident i) ts) h = absurd h
 joint_apart p (token (t.Literal l) ts) h = absurd h
 joint_apart p (token (t.Lifetime l) ts) h = absurd h

@@ -16,7 +16,7 @@ use Rattle.dm_ast.specs.Spelling.{at_end, is_joint, is_word, one_of, sees, sees_
 use Rattle.dm_ast.specs.TypeGrammar.{is_path_word, sees_path_word, behind_colons, sees_turbofish, sees_arguments, sees_bound, ends_bounds}
 use Rattle.dm_read.proofs.Tokens.{word_is}
 use Rattle.dm_type_eq.proofs.Cutting.{and_kept}
-use Rattle.dm_reread.specs.Next.{Next, oror, andand, equals, differs, star, amp, dot, asks, bangs, plus, less, hash, bar, comma, colon, semicolon, assigns, leads, arrow, colons, dots, other, next, alone_next, pair_next, joint_next, punct_next, Word, of_path, kind, word_next}
+use Rattle.dm_reread.specs.Next.{Next, oror, andand, equals, differs, star, amp, dot, asks, bangs, plus, less, hash, bar, comma, colon, semicolon, assigns, leads, arrow, colons, dots, other, next, alone_next, pair_next, last_next, joint_next, punct_next, Word, of_path, kind, word_next}
 use Rattle.dm_reread.specs.Leaves.{ends_type}
 
 -- `,`, `;` and `=`
@@ -282,8 +282,12 @@ ends_pair a b ts h =
     (skip ((a == 61) && (b == 61)) (equals ts) _ refl
     (skip ((a == 61) && (b == 62)) (leads ts) _ refl (skip ((a == 58) && (b == 58)) (colons ts) _ refl h)))))))
 
+ends_last : (a b : ℕ) (ts : Trees) (s : Spacing) → T (ends_type (last_next s a b ts)) → ⊥
+ends_last a b ts Alone h = ends_pair a b ts h
+ends_last a b ts Joint h = h
+
 ends_joint : (c : ℕ) (ts : Trees) → T (ends_type (joint_next c ts)) → ⊥
-ends_joint c (token (t.Punct p) ts) h = ends_pair c p.ch ts h
+ends_joint c (token (t.Punct p) ts) h = ends_last c p.ch ts p.spacing h
 ends_joint c (token (t.Ident i) ts) h = h
 ends_joint c (token (t.Literal l) ts) h = h
 ends_joint c (token (t.Lifetime l) ts) h = h

@@ -98,8 +98,13 @@ pair_next a b ts =
     (cond ((a == 33) && (b == 61)) (differs ts) (cond ((a == 38) && (b == 38)) (andand ts) (cond ((a == 124) && (b == 124)) (oror ts)
     (cond ((a == 46) && (b == 46)) (dots ts) (cond ((a == 45) && (b == 62)) (arrow ts) other)))))))
 
+-- the second punct of two stands alone
+abbrev pub last_next : Spacing → ℕ → ℕ → Trees → Next
+last_next Alone a b ts = pair_next a b ts
+last_next Joint a b ts = other
+
 abbrev pub second_next : ℕ → Token → Trees → Next
-second_next a (t.Punct p) ts = pair_next a p.ch ts
+second_next a (t.Punct p) ts = last_next p.spacing a p.ch ts
 second_next a k ts = other
 
 abbrev pub joint_next : ℕ → Trees → Next

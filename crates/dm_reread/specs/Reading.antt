@@ -1,6 +1,6 @@
 -- A reader of expressions, patterns and blocks: a function from trees to what is read and what is left. Each row is a step over the
 -- readers of less fuel.
-use Rattle.std.specs.Prelude.{cond, ℕ, zero, suc, ◌==◌, ◌&&◌, Bool, true, false, List, [], ◌∷◌, codes, Option, Some, None}
+use Rattle.std.specs.Prelude.{cond, ℕ, zero, suc, ◌==◌, ◌&&◌, not, Bool, true, false, List, [], ◌∷◌, codes, Option, Some, None}
 use Rattle.std.specs.Str.{bytes_eq}
 use Rattle.dm_stream.specs.declared.tokens.Ident.{Ident}
 use Rattle.dm_stream.specs.declared.tokens.Literal.{Literal}
@@ -424,7 +424,8 @@ abbrev pub is_map_err : Ident → Bool
 is_map_err i = is_word (codes "map_err") i
 
 abbrev pub method_from : Readers → Ident → Trees → Trees → Answer Posts
-method_from r i inside ts = then (read_args r false inside) (λ a. then (r.posts ts) (λ s. Some (p_call i a.0 s.0, s.1)))
+method_from r i inside ts =
+    then (read_args r false inside) (λ a. provided (not a.1) (then (r.posts ts) (λ s. Some (p_call i a.0 s.0, s.1))))
 
 -- a closure behind its first bar: `v`, a bar, and an expression
 abbrev pub closure_bar : Readers → Next → Option ExprTree
@@ -478,8 +479,13 @@ goes_on _ = false
 abbrev pub ref_from_pre : Readers → Bool → Bool → Trees → Answer ExprTree
 ref_from_pre r b is_mut ts = then (r.pre b ts) (λ a. Some (ref_expr is_mut a.0, a.1))
 
+-- behind `&` and `mut`: a group alone is no operand
+abbrev pub read_mut_ref : Readers → Bool → Trees → Next → Answer ExprTree
+read_mut_ref r b ts (in_parens inside us) = provided (goes_on (next us)) (ref_from_pre r b true ts)
+read_mut_ref r b ts _ = ref_from_pre r b true ts
+
 abbrev pub read_ref : Readers → Bool → Trees → Next → Answer ExprTree
-read_ref r b ts (a_word k_mut us) = ref_from_pre r b true us
+read_ref r b ts (a_word k_mut us) = read_mut_ref r b us (next us)
 read_ref r b ts (in_parens inside us) =
     cond (goes_on (next us)) (ref_from_pre r b false ts) (provided (is_some_trees inside) (Some (ref_opaque inside, us)))
 read_ref r b ts _ = ref_from_pre r b false ts

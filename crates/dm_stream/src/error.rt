@@ -31,12 +31,12 @@ pub enum Kind {
     /// Traits: the trait is not derived for this kind of declaration. The range is that of the word `struct`, `enum` or
     /// `union`, or of a variant.
     WrongShape,
-    /// Traits that are still to come: every field is skipped. The range is that of the word `struct`, `enum` or `union`, or
+    /// Traits (operators, `Not`, `Neg`): every field is skipped. The range is that of the word `struct`, `enum` or `union`, or
     /// of a variant.
     AllSkipped,
     /// Traits: an attribute of the trait is not spelled as one. The range is that of the attribute.
     AttrSyntax,
-    /// Traits that are still to come: an attribute stands where it says nothing. The range is that of the attribute.
+    /// Traits (operators, `Not`, `Neg`): an attribute stands where it says nothing. The range is that of the attribute.
     AttrNotAllowed,
     /// Traits that are still to come: an attribute is spelled as in earlier versions of derive_more. The range is that of the
     /// attribute.

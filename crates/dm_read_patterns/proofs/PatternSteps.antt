@@ -1,0 +1,225 @@
+-- The rows of patterns.
+use Rattle.std.proofs.Common.{◌≡◌, ◌≢◌, ℕ, Bool, true, false, cond, List, [], ◌∷◌, map, length, get_or, Option, Some, None, refl, sym, ap, ◌∙◌}
+use Rattle.std.proofs.lemmas.Grind.{common_steps}
+use Rattle.dm_stream.specs.declared.tokens.Delim.TheVariants.{Paren, Brace}
+use Rattle.dm_stream.specs.declared.tokens.Ident.{Ident}
+use Rattle.dm_stream.specs.declared.tokens.Literal.{Literal}
+use Rattle.dm_stream.specs.Trees.{Trees, no_trees, token, group}
+use Rattle.dm_ast.specs.declared.ty.PathSegment.{PathSegment}
+use Rattle.dm_ast.specs.Keywords.{is_name}
+use Rattle.dm_ast.specs.Spelling.{at_end}
+use Rattle.dm_ast.specs.Tree.{PathTree, path_tree, segment, no_segments, segment_then, absent, angle, parens, segments_of, segment_view}
+use Rattle.dm_ast.proofs.View as syntax
+use Rattle.dm_output.specs.declared.pattern.Binding.{Binding}
+use Rattle.dm_output.specs.declared.pattern.Binding.TheVariants as binding
+use Rattle.dm_output.specs.Output.{PatternTree, bind, path_pattern, str_pattern, pair_pattern}
+use Rattle.dm_output.proofs.View.{view_steps}
+use Rattle.dm_read_patterns.specs.declared.front.Sign.TheVariants as sign
+use Rattle.dm_read_patterns.specs.declared.front.Keyword.TheVariants as keyword
+use Rattle.dm_read_patterns.specs.declared.list.Turn.{Turn}
+use Rattle.dm_read_patterns.specs.declared.list.Turn.TheVariants.{One, End}
+use Rattle.dm_reread.specs.Next.{k_mut, k_wild, k_ref, Next, ended, bar, dots, in_parens, in_braces, literal, a_name, a_word, next}
+use Rattle.dm_reread.specs.Leaves.{Answer}
+use Rattle.dm_reread.specs.Reading.{then, provided, whole, Readers, comma_after, colon_after, is_str, bind_name, ref_from, pattern_of_path, after_pattern_path, pattern_path, pair_from, read_pattern}
+use Rattle.dm_read_patterns.specs.Fronts.{is_sign, is_keyword, is_literal_next, is_group_next}
+use Rattle.dm_read_patterns.specs.Turns.{rows, declared_at, bar_turn_at, pattern_turn, named_pattern_part, dots_turn, one_named_pattern, named_pattern_turn_at}
+use Rattle.dm_read_patterns.specs.PatternRows.{before_comma, behind_colon, field, last, pair, text, segment_name, segments_name, declared_name, name_or_path}
+use Rattle.dm_read_patterns.proofs.Lists.{bars_are, patterns_are, named_patterns_are}
+
+-- ---- turns
+
+pub pattern_end : (n : ℕ) (ts : Trees) → at_end ts ≡ true → pattern_turn n ts ≡ Some (End tt, ts)
+pattern_end n no_trees e = refl
+pattern_end n (token k ts) e = absurd (cc)
+pattern_end n (group d from inside upto ts) e = absurd (cc)
+
+abbrev PartTurn : Type 0
+PartTurn = Turn PatternTree (Unit {0}) × Trees
+
+one_before : (o : Answer PatternTree) →
+    then {B = PartTurn} o (λ a. then (comma_after (next a.1)) (λ us. Some (One a.0, us))) ≡
+    then {A = PatternTree × Trees} {B = PartTurn} (then o (λ a. then (comma_after (next a.1)) (λ us. Some (a.0, us))))
+    (λ a. Some (One a.0, a.1))
+one_before None = refl
+one_before (Some a) = by (comma_after (next a.1))
+  where
+    by : (o : Option Trees) →
+        then {B = PartTurn} o (λ us. Some (One a.0, us)) ≡
+        then {A = PatternTree × Trees} {B = PartTurn} (then o (λ us. Some (a.0, us))) (λ a. Some (One a.0, a.1))
+    by None = refl
+    by (Some us) = refl
+
+pub pattern_more : (n : ℕ) (ts : Trees) → at_end ts ≡ false →
+    pattern_turn n ts ≡ then {A = PatternTree × Trees} {B = PartTurn} (before_comma n ts) (λ a. Some (One a.0, a.1))
+pattern_more n no_trees e = absurd (cc)
+pattern_more n (token k ts) e = one_before ((rows n).pattern (token k ts))
+pattern_more n (group d from inside upto ts) e = one_before ((rows n).pattern (group d from inside upto ts))
+
+pub bars_end : (n : ℕ) (ts : Trees) (m : Next) → is_sign sign.Bar m ≡ false → bar_turn_at n ts m ≡ Some (End tt, ts)
+bars_end n ts (bar us) e = absurd (cc)
+bars_end n ts _ e = refl
+
+pub fields_end : (n : ℕ) (ts : Trees) → at_end ts ≡ true → named_pattern_turn_at n ts (next ts) ≡ Some (End false, ts)
+fields_end n no_trees e = refl
+fields_end n (token k ts) e = absurd (cc)
+fields_end n (group d from inside upto ts) e = absurd (cc)
+
+pub dots_end : (ts : Trees) → ts ≡ no_trees → dots_turn ts ≡ Some (End true, ts)
+dots_end no_trees e = refl
+dots_end (token k ts) e = absurd (cc)
+dots_end (group d from inside upto ts) e = absurd (cc)
+
+pub dots_open : (ts : Trees) → at_end ts ≡ false → dots_turn ts ≡ None
+dots_open no_trees e = absurd (cc)
+dots_open (token k ts) e = refl
+dots_open (group d from inside upto ts) e = refl
+
+abbrev FieldTurn : Type 0
+FieldTurn = Turn (Ident × PatternTree) Bool × Trees
+
+field_before : (i : Ident) (o : Answer PatternTree) →
+    then {B = FieldTurn} o (λ a. then (comma_after (next a.1)) (λ us. Some (One (i, a.0), us))) ≡
+    then {A = PatternTree × Trees} {B = FieldTurn} (then o (λ a. then (comma_after (next a.1)) (λ us. Some (a.0, us)))) (λ a. Some (One (i, a.0), a.1))
+field_before i None = refl
+field_before i (Some a) = by (comma_after (next a.1))
+  where
+    by : (o : Option Trees) →
+        then {B = FieldTurn} o (λ us. Some (One (i, a.0), us)) ≡
+        then {A = PatternTree × Trees} {B = FieldTurn} (then o (λ us. Some (a.0, us))) (λ a. Some (One (i, a.0), a.1))
+    by None = refl
+    by (Some us) = refl
+
+field_colon : (n : ℕ) (i : Ident) (o : Option Trees) →
+    then {B = FieldTurn} o (λ ts. then ((rows n).pattern ts) (λ a. then (comma_after (next a.1)) (λ us. Some (One (i, a.0), us)))) ≡
+    then {A = PatternTree × Trees} {B = FieldTurn} (then o (before_comma n)) (λ a. Some (One (i, a.0), a.1))
+field_colon n i None = refl
+field_colon n i (Some ts) = field_before i ((rows n).pattern ts)
+
+named_out : (i : Ident) (o : Answer PatternTree) →
+    then {A = PatternTree × Trees} {B = FieldTurn} o (λ a. Some (One (i, a.0), a.1)) ≡
+    then {A = (Ident × PatternTree) × Trees} {B = FieldTurn} (then o (λ a. Some ((i, a.0), a.1))) (λ a. Some (One a.0, a.1))
+named_out i None = refl
+named_out i (Some a) = refl
+
+field_named : (n : ℕ) (o : Answer Ident) →
+    then o (λ s. named_pattern_part n s.0 (next s.1)) ≡
+    then {A = (Ident × PatternTree) × Trees} {B = FieldTurn} (then o (λ s. then (behind_colon n s.1) (λ a. Some ((s.0, a.0), a.1)))) (λ a. Some (One a.0, a.1))
+field_named n None = refl
+field_named n (Some s) = field_colon n s.0 (colon_after (next s.1)) ∙ named_out s.0 (behind_colon n s.1)
+
+field_here : (n : ℕ) (ts : Trees) →
+    one_named_pattern n (next ts) ≡ then {A = (Ident × PatternTree) × Trees} {B = FieldTurn} (field n ts) (λ a. Some (One a.0, a.1))
+field_here n ts = field_named n (declared_at (next ts))
+
+not_ended : (n : ℕ) (ts : Trees) (m : Next) → is_sign sign.Dots m ≡ false → (m ≡ ended → ⊥) → named_pattern_turn_at n ts m ≡ one_named_pattern n m
+not_ended n ts ended e f = absurd (f refl)
+not_ended n ts (dots us) e f = absurd (cc)
+not_ended n ts _ e f = refl
+
+pub field_more : (n : ℕ) (ts : Trees) → at_end ts ≡ false → is_sign sign.Dots (next ts) ≡ false → (next ts ≡ ended → ⊥) →
+    named_pattern_turn_at n ts (next ts) ≡ then {A = (Ident × PatternTree) × Trees} {B = FieldTurn} (field n ts) (λ a. Some (One a.0, a.1))
+field_more n ts e f g = not_ended n ts (next ts) f g ∙ field_here n ts
+
+-- ---- rows
+
+pub bind_is : (how : Binding) (n : Next) →
+    bind_name how n ≡ then {A = Ident × Trees} {B = PatternTree × Trees} (declared_at n) (λ s. Some (bind how s.0, s.1))
+bind_is how (a_name i ts) = by (is_name i)
+  where
+    by : (b : Bool) →
+        provided b (Some (bind how i, ts)) ≡
+        then {A = Ident × Trees} {B = PatternTree × Trees} (provided b (Some (i, ts))) (λ s. Some (bind how s.0, s.1))
+    by true = refl
+    by false = refl
+bind_is how _ = refl
+
+pub no_mut : (n : Next) → is_keyword keyword.Mut n ≡ false → ref_from n ≡ bind_name binding.Ref n
+no_mut (a_word k_mut ts) e = absurd (cc)
+no_mut _ e = refl
+
+pub no_group_behind : (r : Readers) (p : PathTree) (ts : Trees) (n : Next) → is_group_next Paren n ≡ false → is_group_next Brace n ≡ false →
+    after_pattern_path r p ts n ≡ Some (pattern_of_path p, ts)
+no_group_behind r p ts (in_parens inside us) e f = absurd (cc)
+no_group_behind r p ts (in_braces inside us) e f = absurd (cc)
+no_group_behind r p ts _ e f = refl
+
+pub whole_open : {A : Type 0} (x : A) (ts : Trees) → at_end ts ≡ false → whole (Some (x, ts)) ≡ None
+whole_open x no_trees e = absurd (cc)
+whole_open x (token k ts) e = refl
+whole_open x (group d from inside upto ts) e = refl
+
+pair_last : (a : PatternTree) (ts : Trees) (o : Option Trees) (f : Trees → Option PatternTree) →
+    then o (λ us. then (f us) (λ c. Some (pair_pattern a c, ts))) ≡
+    then {A = PatternTree} {B = PatternTree × Trees} (then (then o f) (λ c. Some (pair_pattern a c))) (λ e. Some (e, ts))
+pair_last a ts None f = refl
+pair_last a ts (Some us) f = by (f us)
+  where
+    by : (o : Option PatternTree) →
+        then o (λ c. Some (pair_pattern a c, ts)) ≡
+        then {A = PatternTree} {B = PatternTree × Trees} (then o (λ c. Some (pair_pattern a c))) (λ e. Some (e, ts))
+    by None = refl
+    by (Some c) = refl
+
+pub pair_is : (n : ℕ) (inside ts : Trees) →
+    pair_from (rows n) inside ts ≡ then {A = PatternTree} {B = PatternTree × Trees} (pair n inside) (λ e. Some (e, ts))
+pair_is n inside ts = by ((rows n).pattern inside)
+  where
+    by : (o : Answer PatternTree) →
+        then o (λ a. then (comma_after (next a.1)) (λ us. then (whole ((rows n).pattern us)) (λ c. Some (pair_pattern a.0 c, ts)))) ≡
+        then {A = PatternTree} {B = PatternTree × Trees} (then o (λ a. then (last n a.1) (λ c. Some (pair_pattern a.0 c)))) (λ e. Some (e, ts))
+    by None = refl
+    by (Some a) = pair_last a.0 ts (comma_after (next a.1)) (λ us. whole ((rows n).pattern us))
+
+pub text_is : (r : Readers) (l : Literal) (ts : Trees) →
+    read_pattern r (literal l ts) ≡ then {A = PatternTree} {B = PatternTree × Trees} (text l) (λ e. Some (e, ts))
+text_is r l ts = by (is_str l.kind)
+  where
+    by : (b : Bool) →
+        provided b (Some (str_pattern l, ts)) ≡
+        then {A = PatternTree} {B = PatternTree × Trees} (provided b (Some (str_pattern l))) (λ e. Some (e, ts))
+    by true = refl
+    by false = refl
+
+pub path_first : (r : Readers) (n : Next) → is_keyword keyword.Wild n ≡ false → is_keyword keyword.Ref n ≡ false → is_group_next Paren n ≡ false →
+    is_literal_next n ≡ false →
+    read_pattern r n ≡ pattern_path r n
+path_first r (a_word k_wild ts) e f g h = absurd (cc)
+path_first r (a_word k_ref ts) e f g h = absurd (cc)
+path_first r (in_parens inside ts) e f g h = absurd (cc)
+path_first r (literal l ts) e f g h = absurd (cc)
+path_first r _ e f g h = refl
+
+pub ruleset pattern_steps = (common_steps, pattern_end, pattern_more, bars_end, fields_end, dots_end, dots_open, field_more, bind_is, no_mut, no_group_behind, whole_open, pair_is, text_is, path_first, bars_are, patterns_are, named_patterns_are)
+
+-- ---- names alone
+
+pub none_alone : (l : List PathSegment) → length l ≢ 1 → segments_name (segments_of (map segment_view l)) ≡ None
+none_alone [] n = refl
+none_alone (x ∷ []) n = absurd (n refl)
+none_alone (x ∷ y ∷ l) n = refl
+
+pub one_alone : (l : List PathSegment) (s : PathSegment) → length l ≡ 1 → s ≡ get_or l 0 s →
+    segments_name (segments_of (map segment_view l)) ≡ segment_name (segment_view s)
+one_alone [] s n e = absurd (cc)
+one_alone (x ∷ []) s n e = let f : s ≡ x = e in ap (λ y. segment_name (segment_view y)) (sym f)
+one_alone (x ∷ y ∷ l) s n e = absurd (cc)
+
+pub ruleset alone_steps = (syntax.view_steps, none_alone, one_alone)
+
+-- a name alone
+named : (i : Ident) (p : PathTree) (b : Bool) → cond b (bind binding.Plain i) (path_pattern p) ≡ name_or_path (provided b (Some i)) p
+named i p true = refl
+named i p false = refl
+
+pub name_or_path_is : (p : PathTree) → pattern_of_path p ≡ name_or_path (declared_name p) p
+name_or_path_is (path_tree false (segment_then (segment i absent) no_segments)) =
+    named i (path_tree false (segment_then (segment i absent) no_segments)) (is_name i)
+name_or_path_is (path_tree false (segment_then (segment i absent) (segment_then t ss))) = refl
+name_or_path_is (path_tree false (segment_then (segment i (angle d xs u)) no_segments)) = refl
+name_or_path_is (path_tree false (segment_then (segment i (angle d xs u)) (segment_then t ss))) = refl
+name_or_path_is (path_tree false (segment_then (segment i (parens xs u o)) no_segments)) = refl
+name_or_path_is (path_tree false (segment_then (segment i (parens xs u o)) (segment_then t ss))) = refl
+name_or_path_is (path_tree false no_segments) = refl
+name_or_path_is (path_tree true ss) = refl
+
+pub ruleset path_steps = (view_steps, name_or_path_is)

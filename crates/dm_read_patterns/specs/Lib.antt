@@ -1,0 +1,7 @@
+pub mod Fronts
+pub mod Reads
+pub mod Repeating
+pub mod Places
+pub mod Turns
+pub mod PatternNests
+pub mod PatternRows

@@ -1,0 +1,51 @@
+//! Patterns that nest down to a depth.
+#![tactic(auto, using(crate::proofs::Nesting::nesting_steps))]
+
+ghost use Rattle.std.specs.Prelude.{map};
+ghost use Rattle.dm_output.specs.Output.{patterns_of};
+ghost use Rattle.dm_output.specs.Views.{pattern_view};
+ghost use Rattle.dm_read_patterns.specs.Reads.{Reads};
+ghost use Rattle.dm_read_patterns.specs.Turns.{rows};
+
+use crate::pattern::Patterns;
+use crate::place::Place;
+use dm_output::Pattern;
+use dm_stream::{Error, Seq};
+
+/// A pattern, with at most `room` patterns in one another. Deeper ones want memory: that of the stack.
+pub fn pattern<'a>(
+    place: &mut Place<'_, 'a>,
+    fuel: usize,
+    room: usize,
+) -> Result<Pattern<'a>, Error>
+    ensures { Reads pattern_view (rows fuel).pattern place.old result place.new }
+{
+    if room == 0 {
+        return Err(Error::NoMemory);
+    }
+    if fuel == 0 {
+        return Err(place.refused());
+    }
+    let rules = Patterns {
+        fuel: fuel - 1,
+        room: room - 1,
+        pattern,
+    };
+    rules.row(place)
+}
+
+/// The patterns behind the first of an arm, with `|` before each.
+pub fn alternatives<'a>(
+    place: &mut Place<'_, 'a>,
+    fuel: usize,
+    room: usize,
+) -> Result<Seq<Pattern<'a>>, Error>
+    ensures { Reads (λ v. patterns_of (map pattern_view v)) (rows fuel).bars place.old result place.new }
+{
+    let rules = Patterns {
+        fuel,
+        room,
+        pattern,
+    };
+    rules.alternatives(place)
+}

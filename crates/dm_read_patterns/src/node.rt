@@ -1,0 +1,30 @@
+//! Parts put together. What they are is open here, so nothing has to be known of how they are dropped.
+#![tactic(auto)]
+
+ghost use Rattle.std.specs.Prelude.{◌≡◌, ◌∷◌, IfOk};
+
+use dm_stream::Seq;
+use std::alloc::{AllocError, Global};
+
+/// The part in front of the others.
+pub fn fronted<T: Drop>(alloc: Global, first: T, others: Seq<T>) -> Result<Seq<T>, AllocError>
+    ensures { IfOk result (λ all. all ≡ first ∷ others) }
+{
+    let mut all = Seq::new(alloc);
+    all.add(first)?;
+    all.append(others)?;
+    Ok(all)
+}
+
+/// Two parts in boxes.
+pub fn two_boxes<T: Drop>(
+    alloc: Global,
+    first: T,
+    second: T,
+) -> Result<(Box<T>, Box<T>), AllocError>
+    ensures { IfOk result (λ r. (r.0.value ≡ first) × (r.1.value ≡ second)) }
+{
+    let first = Box::new(alloc, first)?;
+    let second = Box::new(alloc, second)?;
+    Ok((first, second))
+}
