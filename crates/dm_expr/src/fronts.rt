@@ -112,8 +112,8 @@ pub(crate) fn punct_size<'t, 'a>(p: char, c: Cursor<'t, 'a>) -> Option<(usize, C
     if found.ch == p { Some((1, rest)) } else { None }
 }
 
-/// The number of trees of a balanced pair, and the place behind it.
-pub(crate) fn pair_size<'t, 'a>(
+/// The number of trees of a [balanced_pair], and the place behind it.
+pub fn pair_size<'t, 'a>(
     opener: char,
     closer: char,
     c: Cursor<'t, 'a>,

@@ -12,7 +12,7 @@ mod laws;
 mod runs;
 mod units;
 
-pub use fronts::{balanced_pair, path_sep, punct, punct_with_spacing, token_tree};
+pub use fronts::{balanced_pair, pair_size, path_sep, punct, punct_with_spacing, token_tree};
 pub use laws::nothing_is_lost;
 pub use runs::{discriminant_end, take_until1};
 pub use units::{Unit, next_unit};

@@ -51,6 +51,10 @@ sign_found sign.Dots s ts = refl
 pub other_sign : (f s : Sign) (n : Next) (ts : Trees) → n ≡ sign_next f ts → (number f == number s) ≡ false → is_sign s n ≡ false
 other_sign f s n ts e h = ap (is_sign s) e ∙ sign_found f s ts ∙ h
 
+-- what is seen is this sign where both are one
+pub seen_sign : (f s : Sign) (n : Next) (ts : Trees) (b : Bool) → n ≡ sign_next f ts → b ≡ same_sign f s → b ≡ is_sign s n
+seen_sign f s n ts b e h = h ∙ sym (sign_found f s ts) ∙ ap (is_sign s) (sym e)
+
 pub no_sign : (s : Sign) (n : Next) → is_any_sign n ≡ false → is_sign s n ≡ false
 no_sign s ended e = refl
 no_sign s (in_parens inside ts) e = refl
@@ -61,6 +65,9 @@ no_sign s (a_name i ts) e = refl
 no_sign s (a_word w ts) e = refl
 no_sign s other e = refl
 no_sign s _ e = absurd (cc)
+
+pub unseen_sign : (s : Sign) (n : Next) → is_any_sign n ≡ false → false ≡ is_sign s n
+unseen_sign s n e = sym (no_sign s n e)
 
 -- ---- puncts
 
@@ -314,4 +321,4 @@ pub ruleset pair_steps = (common_steps, second_punct, no_second_punct)
 
 pub ruleset sign_steps = (common_steps, punct_first, no_punct_first)
 
-pub ruleset place_steps = (common_steps, other_sign, no_sign, keyword_first, other_first, no_keyword, name_first, no_path_word, no_name, literal_first, no_literal, group_first, no_group)
+pub ruleset place_steps = (common_steps, seen_sign, unseen_sign, other_sign, no_sign, keyword_first, other_first, no_keyword, name_first, no_path_word, no_name, literal_first, no_literal, group_first, no_group)

@@ -1,7 +1,9 @@
 -- What rules over a place ensure.
-use Rattle.std.specs.Prelude.{◌≡◌, Bool, true, false, Option, Some, None, Result, Ok, Err}
+use Rattle.std.specs.Prelude.{◌≡◌, ℕ, Bool, true, false, Option, Some, None, Result, Ok, Err}
 use Rattle.dm_stream.specs.declared.error.Error.{Error}
 use Rattle.dm_stream.specs.declared.error.Error.TheVariants as error
+use Rattle.dm_stream.specs.declared.error.Kind.TheVariants.{Syntax}
+use Rattle.dm_stream.specs.Cursors.{front_span}
 use Rattle.dm_stream.specs.Trees.{Trees}
 use Rattle.dm_reread.specs.Next.{Next, next}
 use Rattle.dm_reread.specs.Leaves.{Answer}
@@ -27,3 +29,7 @@ Passes after old (Err e) new = after (next old) ≡ None
 abbrev pub Takes : (Next → Bool) → (Trees → Next) → Trees → Bool → Trees → Type 0
 Takes is made old true new = next old ≡ made new
 Takes is made old false new = (is (next old) ≡ false) × (new ≡ old)
+
+-- the refusal of what comes first, or of a list's end
+abbrev pub RefusesFront : Trees → Error → Type 0
+RefusesFront ts e = (limit : ℕ) × (e ≡ error.Refused (record { kind = Syntax; span = front_span ts limit }))

@@ -5,14 +5,15 @@ ghost use Rattle.std.specs.Prelude.{◌≡◌, false, MatchResult};
 ghost use Rattle.dm_stream.specs.Trees.{no_trees};
 ghost use Rattle.dm_ast.specs.Spelling.{at_end};
 ghost use Rattle.dm_reread.specs.Next.{next};
-ghost use Rattle.dm_reread.specs.Reading.{comma_after, colon_after};
+ghost use Rattle.dm_reread.specs.Reading as plain;
+ghost use Rattle.dm_reread.specs.Reading.{comma_after, colon_after, semicolon_after, leads_after, assigns_after, plus_after, as_after, wild_after, int_after};
 ghost use Rattle.dm_read_patterns.specs.Reads.{Passes, Reads};
 ghost use Rattle.dm_read_patterns.specs.Turns.{declared_at};
 
-use crate::front::Sign;
+use crate::front::{Keyword, Sign};
 use crate::place::Place;
 use dm_read::words::is_name;
-use dm_stream::{Error, Ident};
+use dm_stream::{Error, Ident, LitKind, Literal};
 
 impl<'t, 'a> Place<'t, 'a> {
     /// `,`.
@@ -33,6 +34,79 @@ impl<'t, 'a> Place<'t, 'a> {
             return Err(self.refused());
         }
         Ok(())
+    }
+
+    /// `;`.
+    pub fn semicolon(&mut self) -> Result<(), Error>
+        ensures { Passes semicolon_after self.old result self.new }
+    {
+        if !self.take(Sign::Semicolon) {
+            return Err(self.refused());
+        }
+        Ok(())
+    }
+
+    /// `=>`.
+    pub fn leads(&mut self) -> Result<(), Error>
+        ensures { Passes leads_after self.old result self.new }
+    {
+        if !self.take(Sign::Leads) {
+            return Err(self.refused());
+        }
+        Ok(())
+    }
+
+    /// `=` alone.
+    pub fn assigns(&mut self) -> Result<(), Error>
+        ensures { Passes assigns_after self.old result self.new }
+    {
+        if !self.take(Sign::Assigns) {
+            return Err(self.refused());
+        }
+        Ok(())
+    }
+
+    /// `+`.
+    pub fn plus(&mut self) -> Result<(), Error>
+        ensures { Passes plus_after self.old result self.new }
+    {
+        if !self.take(Sign::Plus) {
+            return Err(self.refused());
+        }
+        Ok(())
+    }
+
+    /// `as`.
+    pub fn word_as(&mut self) -> Result<(), Error>
+        ensures { Passes as_after self.old result self.new }
+    {
+        if !self.take_keyword(Keyword::As) {
+            return Err(self.refused());
+        }
+        Ok(())
+    }
+
+    /// `_`.
+    pub fn wild(&mut self) -> Result<(), Error>
+        ensures { Passes wild_after self.old result self.new }
+    {
+        if !self.take_keyword(Keyword::Wild) {
+            return Err(self.refused());
+        }
+        Ok(())
+    }
+
+    /// An integer.
+    pub fn int(&mut self) -> Result<Literal<'a>, Error>
+        ensures { Reads (λ l. l) (λ ts. int_after (next ts)) self.old result self.new }
+    {
+        let Some(found) = self.literal() else {
+            return Err(self.refused());
+        };
+        if !is_int(found.kind) {
+            return Err(self.refused());
+        }
+        Ok(found.clone_in(self.alloc())?)
     }
 
     /// The end.
@@ -57,5 +131,25 @@ impl<'t, 'a> Place<'t, 'a> {
             return Err(self.refused());
         }
         Ok(ident.clone_in(self.alloc())?)
+    }
+}
+
+/// Whether a literal is an integer.
+pub fn is_int(kind: LitKind) -> bool
+    ensures { result ≡ plain.is_int kind }
+{
+    match kind {
+        LitKind::Int => true,
+        _ => false,
+    }
+}
+
+/// Whether a literal is a string in quotes.
+pub fn is_str(kind: LitKind) -> bool
+    ensures { result ≡ plain.is_str kind }
+{
+    match kind {
+        LitKind::Str => true,
+        _ => false,
     }
 }

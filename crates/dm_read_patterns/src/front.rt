@@ -7,35 +7,56 @@ ghost use Rattle.dm_stream.specs.Trees.{Trees};
 ghost use Rattle.dm_reread.specs.Next.{Word, next, alone_next, pair_next, other};
 ghost use Rattle.dm_reread.specs.Next as words;
 ghost use Rattle.dm_read_patterns.specs.Fronts as keywords;
-ghost use Rattle.dm_read_patterns.specs.Fronts.{sign_next, number, is_any_sign, word_of, keyword_number, keyword_or, same_keyword, is_path_kind};
+ghost use Rattle.dm_read_patterns.specs.Fronts.{sign_next, number, same_sign, is_any_sign, word_of, keyword_number, keyword_or, same_keyword, is_path_kind};
 ghost use Rattle.dm_read_patterns.specs.declared.front.Kind.TheVariants as kinds;
 
 use dm_read::words::is_path_word;
 use dm_stream::{Cursor, Ident, Punct, Spacing};
 
-/// One punct, or two that are read as one.
+/// One punct that stands alone, or two that are read as one: the first touches the second, and the second stands alone.
 #[derive(Clone, Copy)]
 pub enum Sign {
+    /// `||`
     OrOr,
+    /// `&&`
     AndAnd,
+    /// `==`
     Equals,
+    /// `!=`
     Differs,
+    /// `*`
     Star,
+    /// `&`
     Amp,
+    /// `.`
     Dot,
+    /// `?`
     Asks,
+    /// `!`
     Bangs,
+    /// `+`
     Plus,
+    /// `<`
     Less,
+    /// `#`
     Hash,
+    /// `|`
     Bar,
+    /// `,`
     Comma,
+    /// `:`
     Colon,
+    /// `;`
     Semicolon,
+    /// `=`
     Assigns,
+    /// `=>`
     Leads,
+    /// `->`
     Arrow,
+    /// `::`
     Colons,
+    /// `..`
     Dots,
 }
 
@@ -50,6 +71,7 @@ pub enum Keyword {
     If,
     Ref,
     Mut,
+    /// `_`
     Wild,
     Return,
     Use,
@@ -100,7 +122,8 @@ impl Sign {
     /// Whether both are one sign.
     #[tactic(auto, using(crate::proofs::Numbers::sign_steps))]
     pub fn is(self, sign: Sign) -> bool
-        ensures { MatchBool result (self ≡ sign) ((number self == number sign) ≡ false) }
+        ensures same { result ≡ same_sign self sign }
+        ensures found { MatchBool result (self ≡ sign) ((number self == number sign) ≡ false) }
     {
         self.number() == sign.number()
     }
@@ -129,9 +152,7 @@ impl Keyword {
             Keyword::Impl => 15,
         }
     }
-}
 
-impl Keyword {
     /// Whether both are one keyword.
     #[tactic(auto, using(crate::proofs::Numbers::keyword_steps))]
     fn is(self, keyword: Keyword) -> bool

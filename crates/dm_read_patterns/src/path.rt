@@ -85,7 +85,7 @@ fn path_behind<'a>(
     Ok(path_of(leading_colon, fronted(place.alloc(), first, others)?))
 }
 
-/// A path.
+/// A path without arguments, as `::a::b`. `fuel` is more than the number of its segments.
 pub fn path<'a>(fuel: usize, place: &mut Place<'_, 'a>) -> Result<Path<'a>, Error>
     ensures { Reads path_view (λ ts. plain.plain_path (rows fuel) (next ts)) place.old result place.new }
 {

@@ -12,6 +12,7 @@ ghost use Rattle.dm_read_patterns.specs.PatternNests.{PatternNests};
 ghost use Rattle.dm_read_patterns.specs.PatternRows as spec;
 ghost use Rattle.dm_read_patterns.specs.Turns.{rows};
 
+use crate::expect::is_str;
 use crate::front::{Keyword, Sign};
 use crate::list::{Rule, Turn, repeated};
 use crate::node::two_boxes;
@@ -23,7 +24,7 @@ use crate::place::Place;
 use dm_ast::Path;
 use dm_input::join::{ended, joined};
 use dm_output::{Binding, NamedPattern, Pattern};
-use dm_stream::{Delim, Error, LitKind, Literal, Seq};
+use dm_stream::{Delim, Error, Literal, Seq};
 
 /// The rules of patterns.
 #[derive(Clone, Copy)]
@@ -336,13 +337,4 @@ fn text<'a>(found: &Literal<'a>, place: &Place<'_, 'a>) -> Result<Pattern<'a>, E
         return Err(place.refused());
     }
     Ok(str_pattern(found.clone_in(place.alloc())?))
-}
-
-fn is_str(kind: LitKind) -> bool
-    ensures { result ≡ plain.is_str kind }
-{
-    match kind {
-        LitKind::Str => true,
-        _ => false,
-    }
 }

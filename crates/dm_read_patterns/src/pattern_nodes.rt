@@ -69,7 +69,7 @@ pub(crate) fn pair_of<'a>(first: Box<Pattern<'a>>, second: Box<Pattern<'a>>) -> 
 
 /// The name of a segment without arguments.
 #[tactic(auto, using(dm_ast::proofs::View::view_steps))]
-fn segment_alone<'p, 'a>(segment: &'p PathSegment<'a>) -> Option<&'p Ident<'a>>
+pub fn segment_alone<'p, 'a>(segment: &'p PathSegment<'a>) -> Option<&'p Ident<'a>>
     ensures { option_copied result ≡ segment_name (segment_view segment.now) }
 {
     match &segment.arguments {

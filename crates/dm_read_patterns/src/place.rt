@@ -6,7 +6,7 @@ ghost use Rattle.dm_stream.specs.Cursors.{left, sound};
 ghost use Rattle.dm_ast.specs.Spelling as spelling;
 ghost use Rattle.dm_reread.specs.Next.{next, a_name, literal, group_next};
 ghost use Rattle.dm_read_patterns.specs.Fronts.{sign_next, is_sign, is_keyword, keyword_next, is_name_next, is_literal_next, is_group_next};
-ghost use Rattle.dm_read_patterns.specs.Reads.{Takes};
+ghost use Rattle.dm_read_patterns.specs.Reads.{Takes, RefusesFront};
 
 use crate::front::{Keyword, Sign, first_sign, kind_of};
 use dm_read::token;
@@ -72,8 +72,20 @@ impl<'t, 'a> Place<'t, 'a> {
     }
 
     /// The refusal of the next token, or of the end.
-    pub fn refused(&self) -> Error {
+    pub fn refused(&self) -> Error
+        ensures { RefusesFront self.now result }
+    {
         token::refused(self.at)
+    }
+
+    /// Whether a sign comes next.
+    pub fn sees(&self, wanted: Sign) -> bool
+        ensures { result ≡ is_sign wanted (next self.now) }
+    {
+        match first_sign(self.at) {
+            Some((found, _)) => found.is(wanted),
+            None => false,
+        }
     }
 
     /// Passes a sign where it comes next: whether it stood there.

@@ -119,6 +119,7 @@ is_head l k h g =
         marks = refl;
       };
       within = refl;
+      plain = refl;
     }
 
 -- `impl A for B {}`

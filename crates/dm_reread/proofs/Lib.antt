@@ -37,6 +37,7 @@ pub mod RunLeaf
 pub mod PathLeaf
 pub mod HeadLeafParts
 pub mod HeadLeaf
+pub mod ExactLeaves
 pub mod ReadBack
 pub mod LeafExamples
 pub mod TypeLeafUnplaced

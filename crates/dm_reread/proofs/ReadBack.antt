@@ -2,17 +2,14 @@
 use Rattle.dm_reread.specs.Leaves.{LeafLaws}
 use Rattle.dm_reread.specs.ItemGrammar.{ItemLaws}
 use Rattle.dm_reread.specs.ReadBack.{leaves, item_leaves, leaf_grammar, item_grammar, ItemsComeBack, OneReading}
-use Rattle.dm_reread.proofs.TypeLeaf.{type_back}
-use Rattle.dm_reread.proofs.PathLeaf.{qualified_back}
-use Rattle.dm_reread.proofs.RunLeaf.{run_back}
-use Rattle.dm_reread.proofs.HeadLeaf.{head_back}
+use Rattle.dm_reread.proofs.ExactLeaves.{exact_type_back, exact_qualified_back, exact_head_back, closed_run_back}
 use Rattle.dm_reread.proofs.ItemsBack.{items-back, unique-items}
 
 pub leaf_laws : LeafLaws leaf_grammar leaves
-leaf_laws = record { type = type_back; qualified = qualified_back; run = run_back }
+leaf_laws = record { type = exact_type_back; qualified = exact_qualified_back; run = closed_run_back }
 
 pub item_laws : ItemLaws item_grammar item_leaves
-item_laws = record { parts = leaf_laws; head = head_back }
+item_laws = record { parts = leaf_laws; head = exact_head_back }
 
 pub output_back : ItemsComeBack
 output_back is h = items-back item_grammar item_leaves item_laws is h

@@ -1,8 +1,8 @@
 -- The reader of what stands between `impl` and the brace, by the readers of declarations. And which heads it reads back.
-use Rattle.std.specs.Prelude.{◌≡◌, Bool, true, false, cond, codes, List, [], ◌∷◌, Option, Some, None}
+use Rattle.std.specs.Prelude.{◌≡◌, Bool, true, false, not, ◌&&◌, ◌||◌, cond, codes, List, [], ◌∷◌, Option, Some, None}
 use Rattle.dm_stream.specs.Trees.{Trees, no_trees}
 use Rattle.dm_ast.specs.Tree.{TypeTree, type_tree, path, no_self, PathTree}
-use Rattle.dm_ast.specs.Declarations.{Listed, ParamTree, PredicateTree}
+use Rattle.dm_ast.specs.Declarations.{Listed, ParamTree, lifetime_param, type_param, const_param, PredicateTree}
 use Rattle.dm_ast.specs.Spelling.{Where, Marks, Spelling, first_too_deep, sees_word, Nothing, ◌then◌, keyword}
 use Rattle.dm_ast.specs.TypeGrammar.{type_spelled, path_spelled}
 use Rattle.dm_ast.specs.DeclarationGrammar.{generics, where_clause}
@@ -53,6 +53,28 @@ read_head ts =
     reading.then (read_generics ts) (λ ps. reading.then (read_named ps.1) (λ x. reading.then (read_where x.1) (λ c.
     Some (head_in ps.0.1 x.0 c.0, c.1))))
 
+-- ---- parameters of implementations
+
+-- without attributes and default
+abbrev pub is_plain : ParamTree → Bool
+is_plain (lifetime_param [] l bs) = true
+is_plain (type_param [] i bs None) = true
+is_plain (const_param [] i x None) = true
+is_plain _ = false
+
+abbrev pub is_lifetime : ParamTree → Bool
+is_lifetime (lifetime_param as' l bs) = true
+is_lifetime _ = false
+
+-- all of them plain, and lifetimes first: whether one may still come
+abbrev pub are_plain : Bool → List ParamTree → Bool
+are_plain lifetimes [] = true
+are_plain lifetimes (p ∷ ps) = (is_plain p && (lifetimes || not (is_lifetime p))) && are_plain (is_lifetime p) ps
+
+-- a head with such parameters
+abbrev pub plain_head : Trees → Answer HeadTree
+plain_head ts = reading.then (read_head ts) (λ a. reading.provided (are_plain true a.0.params) (Some a))
+
 -- ---- heads in the grammar's words
 
 -- whether `<` stands there
@@ -80,8 +102,9 @@ head_spelled h w =
     generics (is_some_params h.params) (listed h.params) w then
     (trait_spelled h.trait_path w then (type_spelled h.ty false w then where_clause (clause_of h.predicates) w))
 
--- a head whose own tokens spell it within the deepest level
+-- a head whose own tokens spell it within the deepest level, with parameters as implementations have them
 pub record IsHead (h : HeadTree) : Type 0 where
   pub marks : Marks
   pub spelled : head_spelled h top (between_trees h) no_trees marks
   pub within : first_too_deep marks ≡ None
+  pub plain : are_plain true h.params ≡ true

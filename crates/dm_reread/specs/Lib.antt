@@ -16,4 +16,5 @@ pub mod TypeLeaves
 pub mod RunLeaves
 pub mod PathLeaves
 pub mod HeadLeaves
+pub mod ExactLeaves
 pub mod ReadBack

@@ -6,18 +6,19 @@ use Rattle.dm_output.specs.Tokens.{in_turn, item_trees}
 use Rattle.dm_reread.specs.Leaves.{Leaves, LeafGrammar}
 use Rattle.dm_reread.specs.Items.{ItemLeaves, read_items}
 use Rattle.dm_reread.specs.ItemGrammar.{ItemGrammar, IsItem, AreItems}
-use Rattle.dm_reread.specs.TypeLeaves.{read_type, IsType}
-use Rattle.dm_reread.specs.PathLeaves.{read_qualified, IsQualified}
-use Rattle.dm_reread.specs.RunLeaves.{read_run, IsRun}
-use Rattle.dm_reread.specs.HeadLeaves.{read_head, IsHead}
+use Rattle.dm_reread.specs.TypeLeaves.{IsType}
+use Rattle.dm_reread.specs.PathLeaves.{IsQualified}
+use Rattle.dm_reread.specs.RunLeaves.{IsRun}
+use Rattle.dm_reread.specs.HeadLeaves.{IsHead}
+use Rattle.dm_reread.specs.ExactLeaves.{exact_type, exact_qualified, exact_head, closed_run}
 
 -- the readers of types, qualified paths and values
 abbrev pub leaves : Leaves
-leaves = record { type = read_type; qualified = read_qualified; run = read_run }
+leaves = record { type = exact_type; qualified = exact_qualified; run = closed_run }
 
 -- and of heads
 abbrev pub item_leaves : ItemLeaves
-item_leaves = record { parts = leaves; head = read_head }
+item_leaves = record { parts = leaves; head = exact_head }
 
 -- the types, paths and values of the grammar
 abbrev pub leaf_grammar : LeafGrammar

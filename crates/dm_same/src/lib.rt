@@ -4,4 +4,5 @@
 mod alike;
 mod same_types;
 
+pub use alike::{Alike, all_alike};
 pub use same_types::same_type;

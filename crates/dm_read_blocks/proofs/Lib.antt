@@ -1,0 +1,9 @@
+pub mod Lists
+pub mod BlockLists
+pub mod RuleSteps
+pub mod GroupSteps
+pub mod ArgumentSteps
+pub mod NodeSteps
+pub mod ArmSteps
+pub mod StatementSteps
+pub mod BlockSteps

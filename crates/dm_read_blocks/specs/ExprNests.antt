@@ -1,0 +1,16 @@
+-- A function value that reads the expressions in expressions.
+use Rattle.std.specs.Prelude.{ℕ, Result}
+use denote.Ref.{MutBor}
+use Rattle.dm_stream.specs.declared.error.Error.{Error}
+use Rattle.dm_stream.specs.Trees.{Trees}
+use Rattle.dm_output.specs.declared.expr.Expr.{Expr}
+use Rattle.dm_output.specs.Views.{expr_view}
+use Rattle.dm_read_patterns.specs.Reads.{Reads}
+use Rattle.dm_read_patterns.specs.Turns.{rows}
+use Rattle.dm_read_blocks.specs.declared.sort.Sort.{Sort}
+use Rattle.dm_read_blocks.specs.Sorts.{sorted}
+
+pub record ExprNests (room : ℕ) (pre : MutBor Trees → ℕ → ℕ → Sort → Type 0) (post : MutBor Trees → ℕ → ℕ → Sort → Result Expr Error → MutBor Trees → Type 0) : Type 0 where
+  pub callable : (old : MutBor Trees) (fuel : ℕ) (sort : Sort) → pre old fuel room sort
+  pub reads : (old new : MutBor Trees) (fuel : ℕ) (sort : Sort) (r : Result Expr Error) → post old fuel room sort r new →
+      Reads expr_view (sorted sort (rows fuel)) old.now r new.now

@@ -1,0 +1,4 @@
+pub mod Sorts
+pub mod ExprNests
+pub mod Turns
+pub mod Rows

@@ -1,0 +1,121 @@
+-- One turn of each list of arguments, fields, statements and arms, as the plain reader reads its parts.
+use Rattle.std.specs.Prelude.{ℕ, Bool, true, false, Some, None}
+use Rattle.dm_stream.specs.declared.tokens.Ident.{Ident}
+use Rattle.dm_stream.specs.Trees.{Trees, no_trees}
+use Rattle.dm_ast.specs.Keywords.{is_name}
+use Rattle.dm_output.specs.Output.{ExprTree, PatternTrees, pattern_then, MaybeExpr, no_expr, some_expr, ArmTree, ArmBodyTree, StmtTree, let_stmt, check_stmt, import_stmt, do_stmt, const_stmt}
+use Rattle.dm_reread.specs.Next.{k_let, k_use, k_const, k_wild, Next, ended, a_name, a_word, next}
+use Rattle.dm_reread.specs.Leaves.{Answer}
+use Rattle.dm_reread.specs.Reading.{then, provided, comma_after, colon_after, semicolon_after, assigns_after, leads_after, plus_after, as_after, wild_after, int_after, plain_path, read_guard, read_body, base_from}
+use Rattle.dm_reread.specs.ReadBack.{leaves}
+use Rattle.dm_read_patterns.specs.declared.list.Turn.{Turn}
+use Rattle.dm_read_patterns.specs.declared.list.Turn.TheVariants.{One, End}
+use Rattle.dm_read_patterns.specs.Turns.{rows, declared_at}
+
+-- ---- arguments
+
+abbrev pub arg_behind : ℕ → Trees → Answer (Turn ExprTree Bool)
+arg_behind n no_trees = Some (End true, no_trees)
+arg_behind n ts = then ((rows n).expr true ts) (λ a. Some (One a.0, a.1))
+
+abbrev pub arg_turn_at : ℕ → Trees → Next → Answer (Turn ExprTree Bool)
+arg_turn_at n ts ended = Some (End false, ts)
+arg_turn_at n ts m = then (comma_after m) (arg_behind n)
+
+-- a comma, and perhaps an argument
+abbrev pub arg_turn : ℕ → Trees → Answer (Turn ExprTree Bool)
+arg_turn n ts = arg_turn_at n ts (next ts)
+
+-- ---- fields with values
+
+-- `:`, a value and a comma
+abbrev pub value_behind : ℕ → Trees → Answer ExprTree
+value_behind n ts =
+    then (colon_after (next ts)) (λ us. then ((rows n).expr true us) (λ a. then (comma_after (next a.1)) (λ vs. Some (a.0, vs))))
+
+abbrev pub field_value : ℕ → Next → Answer (Ident × ExprTree)
+field_value n m = then (declared_at m) (λ s. then (value_behind n s.1) (λ a. Some ((s.0, a.0), a.1)))
+
+abbrev pub field_turn_at : ℕ → Trees → Next → Answer (Turn (Ident × ExprTree) (Unit {0}))
+field_turn_at n ts ended = Some (End tt, ts)
+field_turn_at n ts m = then (field_value n m) (λ a. Some (One a.0, a.1))
+
+-- a field with its value and a comma
+abbrev pub field_turn : ℕ → Trees → Answer (Turn (Ident × ExprTree) (Unit {0}))
+field_turn n ts = field_turn_at n ts (next ts)
+
+-- ---- arms
+
+-- patterns with `|` between
+abbrev pub arm_patterns : ℕ → Trees → Answer PatternTrees
+arm_patterns n ts = then ((rows n).pattern ts) (λ a. then ((rows n).bars a.1) (λ s. Some (pattern_then a.0 s.0, s.1)))
+
+-- `=>`, a body and a comma
+abbrev pub arm_body : ℕ → Trees → Answer ArmBodyTree
+arm_body n ts =
+    then (leads_after (next ts)) (λ us. then (read_body (rows n) us (next us)) (λ d. then (comma_after (next d.1)) (λ vs. Some (d.0, vs))))
+
+-- a guard, perhaps, and the body
+abbrev pub arm_behind : ℕ → Trees → Answer (MaybeExpr × ArmBodyTree)
+arm_behind n ts = then (read_guard (rows n) ts (next ts)) (λ g. then (arm_body n g.1) (λ d. Some ((g.0, d.0), d.1)))
+
+abbrev pub one_arm : ℕ → Trees → Answer ArmTree
+one_arm n ts =
+    then (arm_patterns n ts) (λ p. then (arm_behind n p.1) (λ g. Some (record { patterns = p.0; guard = g.0.0; body = g.0.1 }, g.1)))
+
+abbrev pub arm_turn : ℕ → Trees → Answer (Turn ArmTree (Unit {0}))
+arm_turn n no_trees = Some (End tt, no_trees)
+arm_turn n ts = then (one_arm n ts) (λ a. Some (One a.0, a.1))
+
+-- ---- statements
+
+-- a name's value
+abbrev pub let_value : ℕ → Ident → Trees → Answer StmtTree
+let_value n i ts = then (assigns_after (next ts)) (λ us. then ((rows n).expr true us) (λ a. Some (let_stmt i a.0, a.1)))
+
+-- a type that is checked
+abbrev pub check_of : Trees → Answer StmtTree
+check_of ts = then (colon_after (next ts)) (λ us. then (leaves.type us) (λ a. Some (check_stmt a.0, a.1)))
+
+-- what stands behind `let`
+abbrev pub let_of : ℕ → Next → Answer StmtTree
+let_of n (a_name i ts) = provided (is_name i) (let_value n i ts)
+let_of n (a_word k_wild ts) = check_of ts
+let_of n _ = None
+
+-- what stands behind `use`
+abbrev pub use_of : ℕ → Next → Answer StmtTree
+use_of n m =
+    then (plain_path (rows n) m) (λ p. then (as_after (next p.1)) (λ us. then (wild_after (next us)) (λ vs. Some (import_stmt p.0, vs))))
+
+-- the value of a constant, behind its type
+abbrev pub const_value : Ident → Trees → Answer StmtTree
+const_value i ts =
+    then (leaves.type ts) (λ a. then (assigns_after (next a.1)) (λ us. then (base_from (next us)) (λ o.
+    then (plus_after (next o.1)) (λ vs. then (int_after (next vs)) (λ l. Some (const_stmt i a.0 o.0 l.0, l.1))))))
+
+-- what stands behind `const`
+abbrev pub const_of : Next → Answer StmtTree
+const_of m = then (declared_at m) (λ s. then (colon_after (next s.1)) (λ us. const_value s.0 us))
+
+-- a statement where a semicolon ends it
+abbrev pub stmt_turn : Answer StmtTree → Answer (Turn StmtTree MaybeExpr)
+stmt_turn o = then o (λ s. then (semicolon_after (next s.1)) (λ us. Some (One s.0, us)))
+
+abbrev pub value_end : ExprTree → Trees → Next → Answer (Turn StmtTree MaybeExpr)
+value_end e ts ended = Some (End (some_expr e), ts)
+value_end e ts m = then (semicolon_after m) (λ us. Some (One (do_stmt e), us))
+
+-- an expression: the last, or a statement
+abbrev pub value_turn : ℕ → Trees → Answer (Turn StmtTree MaybeExpr)
+value_turn n ts = then ((rows n).expr true ts) (λ a. value_end a.0 a.1 (next a.1))
+
+abbrev pub block_turn_at : ℕ → Trees → Next → Answer (Turn StmtTree MaybeExpr)
+block_turn_at n ts ended = Some (End no_expr, ts)
+block_turn_at n ts (a_word k_let us) = stmt_turn (let_of n (next us))
+block_turn_at n ts (a_word k_use us) = stmt_turn (use_of n (next us))
+block_turn_at n ts (a_word k_const us) = stmt_turn (const_of (next us))
+block_turn_at n ts _ = value_turn n ts
+
+abbrev pub block_turn : ℕ → Trees → Answer (Turn StmtTree MaybeExpr)
+block_turn n ts = block_turn_at n ts (next ts)

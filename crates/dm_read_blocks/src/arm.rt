@@ -1,0 +1,157 @@
+//! Arms of `match`.
+#![tactic(auto, using(crate::proofs::ArmSteps::arm_steps))]
+
+ghost use Rattle.std.specs.Prelude.{map, option_map, true};
+ghost use Rattle.dm_output.specs.Output as tree;
+ghost use Rattle.dm_output.specs.Views.{expr_view, pattern_view, arm_view, body_view};
+ghost use Rattle.dm_reread.specs.Next.{next};
+ghost use Rattle.dm_reread.specs.Reading as plain;
+ghost use Rattle.dm_read_patterns.specs.Reads.{Reads, ReadsWhole};
+ghost use Rattle.dm_read_patterns.specs.Turns.{rows};
+ghost use Rattle.dm_read_blocks.specs.ExprNests.{ExprNests};
+ghost use Rattle.dm_read_blocks.specs.Turns as turns;
+ghost use Rattle.dm_read_blocks.specs.Rows as spec;
+
+use crate::nodes::{arm_of, block_body, expr_body};
+use crate::rules::Exprs;
+use crate::sort::Sort;
+use dm_input::join::{ended, joined};
+use dm_output::{Arm, ArmBody, Expr, Pattern};
+use dm_read_patterns::front::Keyword;
+use dm_read_patterns::list::{Rule, Turn, repeated};
+use dm_read_patterns::nested::{alternatives, pattern};
+use dm_read_patterns::node::fronted;
+use dm_read_patterns::place::Place;
+use dm_stream::{Delim, Error, Seq};
+
+/// Patterns with `|` between, which nest at most so deep.
+fn patterns<'a>(
+    place: &mut Place<'_, 'a>,
+    fuel: usize,
+    room: usize,
+) -> Result<Seq<Pattern<'a>>, Error>
+    ensures { Reads (λ v. tree.patterns_of (map pattern_view v)) (turns.arm_patterns fuel) place.old result place.new }
+{
+    let first = pattern(place, fuel, room)?;
+    let (first, others) = joined(first, alternatives(place, fuel, room))?;
+    Ok(fronted(place.alloc(), first, others)?)
+}
+
+/// Arms, to the end.
+#[derive(Drop)]
+struct ArmRule<'g, F> {
+    rules: &'g Exprs<F>,
+}
+
+impl<
+    'g,
+    'a,
+    F: Copy + for<'t> Fn(&mut Place<'t, 'a>, usize, usize, Sort) -> Result<Expr<'a>, Error>,
+> Rule<'a> for ArmRule<'g, F> {
+    ghost use Rattle.dm_output.specs.Output.{ArmTree};
+    ghost use Rattle.dm_output.specs.Views.{arm_view};
+    ghost use Rattle.dm_read_blocks.specs.ExprNests.{ExprNests};
+    ghost use Rattle.dm_read_blocks.specs.Turns.{arm_turn};
+
+    type Part = Arm<'a>;
+
+    type Last = ();
+
+    ghost Tree = { ArmTree };
+
+    ghost Tail = { Unit {0} };
+
+    ghost view = { arm_view };
+
+    ghost last = { λ u. u };
+
+    ghost usable = { λ r. ExprNests r.rules.now.room (F.pre r.rules.now.expr) (F.post r.rules.now.expr) };
+
+    ghost reader = { λ r. arm_turn };
+
+    fn turn(&self, fuel: usize, place: &mut Place<'_, 'a>) -> Result<Turn<Arm<'a>, ()>, Error> {
+        if place.at_end() {
+            return Ok(Turn::End(()));
+        }
+        Ok(Turn::One(self.rules.with(fuel).arm(place)?))
+    }
+}
+
+impl<
+    'a,
+    F: Copy + for<'t> Fn(&mut Place<'t, 'a>, usize, usize, Sort) -> Result<Expr<'a>, Error>,
+> Exprs<F> {
+    /// `if` and a condition, or nothing.
+    fn guard(&self, place: &mut Place<'_, 'a>) -> Result<Option<Expr<'a>>, Error>
+        requires { ExprNests self.now.room (F.pre self.now.expr) (F.post self.now.expr) }
+        ensures { Reads (λ o. tree.maybe_expr (option_map expr_view o)) (λ ts. plain.read_guard (rows self.now.fuel) ts (next ts)) place.old result place.new }
+    {
+        if !place.take_keyword(Keyword::If) {
+            return Ok(None);
+        }
+        Ok(Some(self.whole(true, place)?))
+    }
+
+    /// A block, or an expression.
+    fn body(&self, place: &mut Place<'_, 'a>) -> Result<ArmBody<'a>, Error>
+        requires { ExprNests self.now.room (F.pre self.now.expr) (F.post self.now.expr) }
+        ensures { Reads body_view (λ ts. plain.read_body (rows self.now.fuel) ts (next ts)) place.old result place.new }
+    {
+        if let Some(mut inside) = place.group(Delim::Brace) {
+            return Ok(block_body(self.block(&mut inside)?));
+        }
+        Ok(expr_body(self.whole(true, place)?))
+    }
+
+    /// `=>`, a body and a comma.
+    fn arm_body(&self, place: &mut Place<'_, 'a>) -> Result<ArmBody<'a>, Error>
+        requires { ExprNests self.now.room (F.pre self.now.expr) (F.post self.now.expr) }
+        ensures { Reads body_view (turns.arm_body self.now.fuel) place.old result place.new }
+    {
+        place.leads()?;
+        let found = self.body(place)?;
+        ended(found, place.comma())
+    }
+
+    /// What stands behind an arm's patterns.
+    fn behind_patterns(
+        &self,
+        place: &mut Place<'_, 'a>,
+    ) -> Result<(Option<Expr<'a>>, ArmBody<'a>), Error>
+        requires { ExprNests self.now.room (F.pre self.now.expr) (F.post self.now.expr) }
+        ensures { Reads (λ v. (tree.maybe_expr (option_map expr_view v.0), body_view v.1)) (turns.arm_behind self.now.fuel) place.old result place.new }
+    {
+        let guard = self.guard(place)?;
+        joined(guard, self.arm_body(place))
+    }
+
+    /// An arm.
+    fn arm(&self, place: &mut Place<'_, 'a>) -> Result<Arm<'a>, Error>
+        requires { ExprNests self.now.room (F.pre self.now.expr) (F.post self.now.expr) }
+        ensures { Reads arm_view (turns.one_arm self.now.fuel) place.old result place.new }
+    {
+        let found = patterns(place, self.fuel, self.room)?;
+        let (found, behind) = joined(found, self.behind_patterns(place))?;
+        Ok(arm_of(found, behind))
+    }
+
+    /// Arms, to the end.
+    fn arms(&self, place: &mut Place<'_, 'a>) -> Result<Seq<Arm<'a>>, Error>
+        requires { ExprNests self.now.room (F.pre self.now.expr) (F.post self.now.expr) }
+        ensures { ReadsWhole (λ v. tree.arms_of (map arm_view v)) (rows self.now.fuel).arms place.old result }
+    {
+        let (found, _) = repeated(&ArmRule { rules: self }, self.fuel, place)?;
+        Ok(found)
+    }
+
+    /// Arms in braces.
+    pub fn braced_arms(&self, place: &mut Place<'_, 'a>) -> Result<Seq<Arm<'a>>, Error>
+        requires { ExprNests self.now.room (F.pre self.now.expr) (F.post self.now.expr) }
+        ensures { Reads (λ v. tree.arms_of (map arm_view v)) (λ ts. spec.braced_arms self.now.fuel (next ts)) place.old result place.new }
+    {
+        let Some(mut inside) = place.group(Delim::Brace) else {
+            return Err(place.refused());
+        };
+        self.arms(&mut inside)
+    }
+}

@@ -1,0 +1,175 @@
+//! Blocks: statements, and perhaps an expression behind them.
+#![tactic(auto, using(crate::proofs::BlockSteps::block_steps))]
+
+ghost use Rattle.std.specs.Prelude.{map, true};
+ghost use Rattle.dm_output.specs.Views.{expr_view, stmt_view, block_view};
+ghost use Rattle.dm_reread.specs.Next.{next};
+ghost use Rattle.dm_read_patterns.specs.Reads.{Reads, ReadsWhole};
+ghost use Rattle.dm_read_patterns.specs.Repeating.{turn_view};
+ghost use Rattle.dm_read_patterns.specs.Turns.{rows};
+ghost use Rattle.dm_read_blocks.specs.ExprNests.{ExprNests};
+ghost use Rattle.dm_read_blocks.specs.Turns as turns;
+ghost use Rattle.dm_read_blocks.specs.Rows as spec;
+ghost use Rattle.dm_read_blocks.specs.Rows.{boxed_view};
+
+use crate::nodes::{block_of, do_of, let_of};
+use crate::rules::Exprs;
+use crate::sort::Sort;
+use crate::statement::{check, constant, import};
+use dm_input::join::{ended, joined};
+use dm_output::{Block, Expr, Stmt};
+use dm_read_patterns::front::Keyword;
+use dm_read_patterns::list::{Rule, Turn, repeated};
+use dm_read_patterns::node::boxed;
+use dm_read_patterns::place::Place;
+use dm_stream::Error;
+
+/// What ends a block: perhaps an expression.
+type Last<'a> = Option<Box<Expr<'a>>>;
+
+/// Statements, each with a semicolon behind it, and perhaps an expression behind them.
+#[derive(Drop)]
+struct BlockRule<'g, F> {
+    rules: &'g Exprs<F>,
+}
+
+impl<
+    'g,
+    'a,
+    F: Copy + for<'t> Fn(&mut Place<'t, 'a>, usize, usize, Sort) -> Result<Expr<'a>, Error>,
+> Rule<'a> for BlockRule<'g, F> {
+    ghost use Rattle.dm_output.specs.Output.{StmtTree, MaybeExpr};
+    ghost use Rattle.dm_output.specs.Views.{stmt_view};
+    ghost use Rattle.dm_read_blocks.specs.ExprNests.{ExprNests};
+    ghost use Rattle.dm_read_blocks.specs.Turns.{block_turn};
+    ghost use Rattle.dm_read_blocks.specs.Rows.{boxed_view};
+
+    type Part = Stmt<'a>;
+
+    type Last = Last<'a>;
+
+    ghost Tree = { StmtTree };
+
+    ghost Tail = { MaybeExpr };
+
+    ghost view = { stmt_view };
+
+    ghost last = { boxed_view };
+
+    ghost usable = { λ r. ExprNests r.rules.now.room (F.pre r.rules.now.expr) (F.post r.rules.now.expr) };
+
+    ghost reader = { λ r. block_turn };
+
+    fn turn(
+        &self,
+        fuel: usize,
+        place: &mut Place<'_, 'a>,
+    ) -> Result<Turn<Stmt<'a>, Last<'a>>, Error> {
+        if place.at_end() {
+            return Ok(Turn::End(None));
+        }
+        let rules = self.rules.with(fuel);
+        if place.take_keyword(Keyword::Let) {
+            return Ok(Turn::One(rules.let_ended(place)?));
+        }
+        if place.take_keyword(Keyword::Use) {
+            return Ok(Turn::One(import_ended(fuel, place)?));
+        }
+        if place.take_keyword(Keyword::Const) {
+            return Ok(Turn::One(constant_ended(place)?));
+        }
+        rules.value_turn(place)
+    }
+}
+
+/// An import and a semicolon, behind `use`.
+fn import_ended<'a>(fuel: usize, place: &mut Place<'_, 'a>) -> Result<Stmt<'a>, Error>
+    ensures { Reads stmt_view (λ ts. spec.ended_stmt (turns.use_of fuel (next ts))) place.old result place.new }
+{
+    let found = import(fuel, place)?;
+    ended(found, place.semicolon())
+}
+
+/// A constant and a semicolon, behind `const`.
+fn constant_ended<'a>(place: &mut Place<'_, 'a>) -> Result<Stmt<'a>, Error>
+    ensures { Reads stmt_view (λ ts. spec.ended_stmt (turns.const_of (next ts))) place.old result place.new }
+{
+    let found = constant(place)?;
+    ended(found, place.semicolon())
+}
+
+/// An expression at a block's end is the last part, and else one with a semicolon behind it is a statement.
+fn value_end<'a>(
+    value: Expr<'a>,
+    place: &mut Place<'_, 'a>,
+) -> Result<Turn<Stmt<'a>, Last<'a>>, Error>
+    ensures { Reads (turn_view stmt_view boxed_view) (λ ts. turns.value_end (expr_view value.entry) ts (next ts)) place.old result place.new }
+{
+    if place.at_end() {
+        return Ok(Turn::End(Some(boxed(place.alloc(), value)?)));
+    }
+    let value = ended(value, place.semicolon())?;
+    Ok(Turn::One(do_of(value)))
+}
+
+impl<
+    'a,
+    F: Copy + for<'t> Fn(&mut Place<'t, 'a>, usize, usize, Sort) -> Result<Expr<'a>, Error>,
+> Exprs<F> {
+    /// `=` and an expression.
+    fn assigned(&self, place: &mut Place<'_, 'a>) -> Result<Expr<'a>, Error>
+        requires { ExprNests self.now.room (F.pre self.now.expr) (F.post self.now.expr) }
+        ensures { Reads expr_view (spec.assigned self.now.fuel) place.old result place.new }
+    {
+        place.assigns()?;
+        self.whole(true, place)
+    }
+
+    /// A name and its value.
+    fn named_let(&self, place: &mut Place<'_, 'a>) -> Result<Stmt<'a>, Error>
+        requires { ExprNests self.now.room (F.pre self.now.expr) (F.post self.now.expr) }
+        ensures { Reads stmt_view (spec.named_let self.now.fuel) place.old result place.new }
+    {
+        let name = place.declared()?;
+        let (name, value) = joined(name, self.assigned(place))?;
+        Ok(let_of(name, value))
+    }
+
+    /// A name's value, or a type that is checked, behind `let`.
+    fn bound(&self, place: &mut Place<'_, 'a>) -> Result<Stmt<'a>, Error>
+        requires { ExprNests self.now.room (F.pre self.now.expr) (F.post self.now.expr) }
+        ensures { Reads stmt_view (λ ts. turns.let_of self.now.fuel (next ts)) place.old result place.new }
+    {
+        if place.take_keyword(Keyword::Wild) {
+            return check(place);
+        }
+        self.named_let(place)
+    }
+
+    /// The same, and a semicolon.
+    fn let_ended(&self, place: &mut Place<'_, 'a>) -> Result<Stmt<'a>, Error>
+        requires { ExprNests self.now.room (F.pre self.now.expr) (F.post self.now.expr) }
+        ensures { Reads stmt_view (λ ts. spec.ended_stmt (turns.let_of self.now.fuel (next ts))) place.old result place.new }
+    {
+        let found = self.bound(place)?;
+        ended(found, place.semicolon())
+    }
+
+    /// A turn that begins with an expression.
+    fn value_turn(&self, place: &mut Place<'_, 'a>) -> Result<Turn<Stmt<'a>, Last<'a>>, Error>
+        requires { ExprNests self.now.room (F.pre self.now.expr) (F.post self.now.expr) }
+        ensures { Reads (turn_view stmt_view boxed_view) (turns.value_turn self.now.fuel) place.old result place.new }
+    {
+        let found = self.whole(true, place)?;
+        value_end(found, place)
+    }
+
+    /// The inside of a block, to the end.
+    pub fn block(&self, place: &mut Place<'_, 'a>) -> Result<Block<'a>, Error>
+        requires { ExprNests self.now.room (F.pre self.now.expr) (F.post self.now.expr) }
+        ensures { ReadsWhole block_view (rows self.now.fuel).block place.old result }
+    {
+        let (stmts, last) = repeated(&BlockRule { rules: self }, self.fuel, place)?;
+        Ok(block_of(stmts, last))
+    }
+}

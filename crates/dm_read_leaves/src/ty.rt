@@ -1,0 +1,33 @@
+//! Types.
+#![tactic(auto, using(crate::proofs::TypeSteps::type_steps))]
+
+ghost use Rattle.dm_ast.specs.Tree.{ty_view};
+ghost use Rattle.dm_reread.specs.TypeLeaves.{read_type};
+ghost use Rattle.dm_reread.specs.ExactLeaves.{exact_type};
+ghost use Rattle.dm_read_patterns.specs.Reads.{Reads};
+
+use crate::exact::exact;
+use dm_ast::Ty;
+use dm_input::Input;
+use dm_read_patterns::place::Place;
+use dm_read_types::entry;
+use dm_stream::Error;
+
+/// The type in front, however it is spaced.
+pub(crate) fn front_type<'a>(place: &mut Place<'_, 'a>) -> Result<Ty<'a>, Error>
+    ensures { Reads ty_view read_type place.old result place.new }
+{
+    let mut input = Input::new(place.alloc(), 0, place.cursor());
+    let found = entry::ty(&mut input)?;
+    place.go(input.cursor());
+    Ok(found)
+}
+
+/// A type, spaced as types are printed. Refuses with `Syntax`, at a token's range or the end, and with `TooDeep` where it nests too deep.
+pub fn ty<'a>(place: &mut Place<'_, 'a>) -> Result<Ty<'a>, Error>
+    ensures { Reads ty_view exact_type place.old result place.new }
+{
+    let begun = place.cursor();
+    let found = front_type(place)?;
+    exact(found, begun, place)
+}
