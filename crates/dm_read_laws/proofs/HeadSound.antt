@@ -1,62 +1,56 @@
 -- What stands between `impl` and the brace, where it is read with the tokens that were passed, is of the grammar; and so all leaves are.
-use Rattle.std.proofs.Common.{◌≡◌, ℕ, ◌+◌, Bool, true, false, not, ◌&&◌, List, [], ◌∷◌, ◌++◌, map, length, cond, codes, Option, option_map, Some, None, Ok, Err, refl, sym, ap, ap₂, ◌∙◌, subst, append-nil, arith}
-use Rattle.std.specs.Str.{bytes_eq}
+use Rattle.std.proofs.Common.{◌≡◌, ℕ, ◌+◌, Bool, true, false, List, [], ◌∷◌, ◌++◌, map, length, codes, Option, option_map, Some, None, refl, sym, ap, ap₂, ◌∙◌, subst, append-nil, arith}
 use Rattle.std.proofs.lemmas.Bool.{and_parts}
 use Rattle.std.proofs.lemmas.List.{length-append, length-map}
-use Rattle.std.proofs.lemmas.Slice.Eq.{bytes_eq-Decides}
+use Rattle.std.proofs.lemmas.Option.{same_Some}
 use Rattle.dm_stream.specs.declared.tokens.Span.{Span}
-use Rattle.dm_stream.specs.declared.tokens.Delim.TheVariants.{Brace}
 use Rattle.dm_stream.specs.declared.tokens.Token.TheVariants as t
 use Rattle.dm_stream.specs.declared.tokens.Entry.{Entry}
 use Rattle.dm_stream.specs.declared.tokens.Entry.TheVariants as entry
 use Rattle.dm_stream.specs.Layout.{nowhere}
 use Rattle.dm_stream.specs.Trees.{Trees, no_trees, token, join, join-no_trees, flatten}
 use Rattle.dm_stream.proofs.Trees.{flatten-join}
-use Rattle.dm_ast.specs.Tree.{TypeTree, type_tree, path, no_self, PathTree, BoundTree}
-use Rattle.dm_ast.specs.Declarations.{Listed, ParamTree, lifetime_param, type_param, const_param, PredicateTree, lifetime_predicate, type_predicate}
+use Rattle.dm_ast.specs.Tree.{TypeTree, type_tree, path, no_self, PathTree}
+use Rattle.dm_ast.specs.Declarations.{Listed, ParamTree, PredicateTree}
 use Rattle.dm_ast.specs.Spelling.{Where, Marks, Spelling, ◌then◌, TokenAt, first_too_deep, sees_word, keyword}
 use Rattle.dm_ast.specs.TypeGrammar.{type_spelled, bound}
 use Rattle.dm_ast.specs.TypeTokens as spell
 use Rattle.dm_ast.specs.TypeTokens.{type_trees}
 use Rattle.dm_ast.specs.DeclarationGrammar.{no_params, generics, where_clause}
-use Rattle.dm_ast.specs.Readers.{Outcome, Parser, tail, entry_span}
+use Rattle.dm_ast.specs.Readers.{Parser, tail, entry_span}
 use Rattle.dm_ast.specs.Runs.{run, read_run}
-use Rattle.dm_output.specs.Output.{ItemTree}
-use Rattle.dm_output.specs.Tokens as k
-use Rattle.dm_output.specs.Tokens.{param_trees, predicate_trees, params_trees, where_trees, trait_trees, head_trees, item_trees, enclosed}
+use Rattle.dm_output.specs.Tokens.{param_trees, predicate_trees, params_trees, where_trees, trait_trees}
 use Rattle.dm_same.specs.SameTypes.{all_same, same_entry}
 use Rattle.dm_read.specs.DeclarationReaders as decl
-use Rattle.dm_stream.specs.declared.error.Kind.{Kind}
-use Rattle.dm_stream.specs.declared.error.Kind.TheVariants.{TooDeep, Syntax}
-use Rattle.dm_read.proofs.Deciding.{Covers, covers_then, covers_none, IsRead, IsRefused, Decides, Reader, deep_behind, deep_front}
+use Rattle.dm_read.proofs.Deciding.{Covers, covers_then, covers_none, IsRead, Reader, deep_behind, deep_front}
 use Rattle.dm_read_types.specs.WholeReaders.{whole_type, whole_bound, parts}
 use Rattle.dm_read_types.proofs.TypeTheorem.{type_decided, bound_decided}
 use Rattle.dm_read_decl.proofs.DeclarationParts.{AreDecided}
 use Rattle.dm_read_decl.proofs.DeclarationGenerics.{reads_generics, reads_where}
 use Rattle.dm_read_decl.proofs.DeclarationRules.{parts_decided}
 use Rattle.dm_read_decl.proofs.Runs.{reads_run}
-use Rattle.dm_type_eq.specs.Unplaced.{unplaced_option, unplaced_attribute, unplaced_lifetimes, unplaced_constant, unplaced_type, unplaced_bound}
 use Rattle.dm_type_eq.proofs.Cutting.{cut_end}
 use Rattle.dm_type_eq.proofs.Respelling.{Lowered, lowered_within}
-use Rattle.dm_reread.specs.BareTypes.{bare_ident, bare_lifetime, bare_attribute, bare_bound, bare_type, bare_path, bare_constant}
-use Rattle.dm_reread.specs.Bare.{bare_listed, bare_param, bare_predicate}
+use Rattle.dm_reread.specs.BareTypes.{bare_type, bare_path}
+use Rattle.dm_reread.specs.Bare.{bare_param, bare_predicate}
 use Rattle.dm_reread.specs.BareReading.{NaturalItems, bare_head}
 use Rattle.dm_reread.specs.Leaves.{Answer}
 use Rattle.dm_reread.specs.Reading as reading
-use Rattle.dm_reread.specs.Reading.{provided}
 use Rattle.dm_reread.specs.Items.{HeadTree, between_trees}
 use Rattle.dm_reread.specs.TypeLeaves.{top, read_type}
 use Rattle.dm_reread.specs.HeadLeaves.{read_generics, read_where, path_in, trait_first, predicates_in, head_in, read_named, read_head, are_plain, plain_head, is_some_params, listed, clause_of, trait_spelled, head_spelled, IsHead}
 use Rattle.dm_reread.specs.ExactLeaves.{passed, has_entries, exact_head}
 use Rattle.dm_reread.specs.ReadBack.{leaf_grammar, leaves, item_grammar, item_leaves}
-use Rattle.dm_reread.proofs.BareItemTokens.{item-bare}
-use Rattle.dm_reread.proofs.TypeLeaf.{whole_decided}
+use Rattle.dm_reread.proofs.TypeLeaf.{decided_answer, whole_decided}
 use Rattle.dm_read_laws.specs.Sound.{IsBare, Spells, SoundLeaves, SoundItems}
-use Rattle.dm_read_laws.proofs.ExactSound.{some_same, then_some, provided_some, is_read, join_bare, natural_answer, passed_front, exact_answer, exact_spells}
-use Rattle.dm_read_laws.proofs.TypeSound.{same_map, same_option, same_attribute, same_lifetimes, same_constant, same_type, same_path, same_bound, type_is_read, type_sound}
+use Rattle.dm_read_laws.proofs.Answers.{then_by, tested_some, cond_some, same_answer}
+use Rattle.dm_read_laws.proofs.SoundSteps.{word_parts}
+use Rattle.dm_read_laws.proofs.ExactSound.{is_read, natural_answer, passed_front, exact_answer, exact_spells}
+use Rattle.dm_read_laws.proofs.NaturalLeaves.{between_bare}
+use Rattle.dm_read_laws.proofs.TypeSound.{type_is_read, type_sound}
 use Rattle.dm_read_laws.proofs.PathSound.{qualified_sound}
 use Rattle.dm_read_laws.proofs.RunSound.{run_sound}
-use Rattle.dm_read_laws.proofs.HeadAgain.{plain_list, plain_param, plain_predicate, plain_params, plain_clause, generic_trees, clause_trees, before_for, before_for_trees, between, all_trees, between_again}
+use Rattle.dm_read_laws.proofs.HeadAgain.{bare_params, generic_trees, clause_trees, bare_clause, before_for, before_for_trees, between, all_trees, between_again}
 
 -- ---- the readers of declarations decide parameters and predicates
 
@@ -103,23 +97,12 @@ module _ {A B : Spelling} {ts others : Trees} {m : Marks} (s : (A then B) ts oth
 covers_length : (ts others : Trees) (m : Marks) (c : Covers ts others m) → length c.front ≡ length m
 covers_length ts others m c = sym (length-map c.front entry_span) ∙ ap length c.ranges ∙ length-map m (λ x. x.1)
 
-not_refused : {A : Type 0} (S : A → Spelling) (ts others : Trees) (x : A) (m : Marks) (c : Kind) (span : Span) → IsRefused S ts c span → S x ts others m →
-    first_too_deep m ≡ None → ⊥
-not_refused S ts others x m TooDeep span h s w = let f : first_too_deep m ≡ Some span = h x others m s in cc
-not_refused S ts others x m Syntax span h s w = h x others m s
-not_refused S ts others x m _ span h s w = absurd h
-
-module _ {A : Type 0} (S : A → Spelling) (ts others : Trees) (x : A) (m : Marks) where
-  covers_by : (o : Outcome A) → Decides S ts o → S x ts others m → first_too_deep m ≡ None → Covers ts others m
-  covers_by (Ok p) d s w =
-      let e = d.only x others m s in
-      subst (λ z. Covers ts z m) (sym e.left) (subst (λ n. Covers ts p.1 n) (sym e.marks) d.covers)
-  covers_by (Err r) d s w = absurd (not_refused S ts others x m r.kind r.span d s w)
-
 -- what is spelled, by what its reader decides
 covers_spelled : {A : Type 0} (S : A → Spelling) (p : Parser A) → Reader S p → (x : A) (ts others : Trees) (m : Marks) → S x ts others m →
     first_too_deep m ≡ None → Covers ts others m
-covers_spelled S p h x ts others m s w = covers_by S ts others x m (p ts) (h ts) s w
+covers_spelled S p h x ts others m s w =
+    let r : IsRead S ts x others = is_read S p h ts others x (decided_answer S ts others x m (p ts) (h ts) s w) in
+    subst (λ n. Covers ts others n) (sym (r.only x others m s).marks) r.covers
 
 covers_token : (w : Where) (c : t.the_data) (ts others : Trees) (m : Marks) → TokenAt w c ts others m → Covers ts others m
 covers_token w c ts others m s =
@@ -152,18 +135,13 @@ between_covers angled ps o x c =
 
 -- ---- a path before `for`
 
-not_raw : (b c : Bool) → (not b && c) ≡ true → (b ≡ false) × (c ≡ true)
-not_raw true c e = absurd (cc)
-not_raw false c e = (refl, e)
-
 for_word : (ts : Trees) → sees_word (codes "for") ts ≡ true → (m : Marks) × keyword top (codes "for") ts (tail ts) m × (first_too_deep m ≡ None)
 for_word (token (t.Ident i) ts) e =
-    let h = not_raw i.raw (bytes_eq i.name (codes "for")) e in
-    let n : i.name ≡ codes "for" = (bytes_eq-Decides i.name (codes "for")).0 h.1 in (
+    let h = word_parts (codes "for") i e in (
       (0, i.span) ∷ [],
       record {
         range = i.span;
-        there = record { spelled = ap₂ (λ x y. token (t.Ident record { name = x; raw = y; span = i.span }) ts) n h.0; marks = refl };
+        there = record { spelled = ap₂ (λ x y. token (t.Ident record { name = x; raw = y; span = i.span }) ts) h.1 h.0; marks = refl };
       },
       refl,
     )
@@ -178,7 +156,7 @@ record IsPath (x : TypeTree) (p : PathTree) : Type 0 where
   is : x ≡ type_tree (path no_self p) range
 
 is_path : (x : TypeTree) (p : PathTree) → path_in x ≡ Some p → IsPath x p
-is_path (type_tree (path no_self q) range) p e = record { range = range; is = ap (λ o. type_tree (path no_self o) range) (some_same q p e) }
+is_path (type_tree (path no_self q) range) p e = record { range = range; is = ap (λ o. type_tree (path no_self o) range) (same_Some q p e) }
 is_path _ p e = absurd (cc)
 
 -- the trait and the type
@@ -217,9 +195,9 @@ for_trait ts mid us y p x m r q w f s =
     }
 
 module _ (ts mid us : Trees) (y : TypeTree) (r : IsRead (λ z. type_spelled z false top) ts y mid) (o : Option PathTree) (x : TypeTree) where
-  alone : ◌≡◌ {A = Named × Trees} ((None, y), mid) ((o, x), us) → IsNamed o x ts us
+  alone : ◌≡◌ {A = Answer Named} (Some ((None, y), mid)) (Some ((o, x), us)) → IsNamed o x ts us
   alone e =
-      subst (λ (z : Named × Trees). IsNamed z.0.0 z.0.1 ts z.1) e
+      same_answer (λ (z : Named × Trees). IsNamed z.0.0 z.0.1 ts z.1) ((None, y), mid) ((o, x), us) e
       (record {
         range = nowhere;
         middle = ts;
@@ -236,22 +214,23 @@ module _ (ts mid us : Trees) (y : TypeTree) (r : IsRead (λ z. type_spelled z fa
 
   with_trait : sees_word (codes "for") mid ≡ true → reading.then (path_in y) behind_for ≡ Some ((o, x), us) → IsNamed o x ts us
   with_trait f e =
-      let a = then_some {A = PathTree} {B = Named × Trees} (path_in y) behind_for ((o, x), us) e in
-      let b = then_some {A = TypeTree × Trees} {B = Named × Trees} (read_type (tail mid)) (λ v. Some ((Some a.value, v.0), v.1)) ((o, x), us) a.gives in
       let w = for_word mid f in
-      subst (λ (z : Named × Trees). IsNamed z.0.0 z.0.1 ts z.1) (some_same ((Some a.value, b.value.0), b.value.1) ((o, x), us) b.gives)
-      (for_trait ts mid b.value.1 y a.value b.value.0 w.0 r (is_path y a.value a.there) w.1 w.2
-      (type_is_read (tail mid) b.value.1 b.value.0 b.there))
+      then_by {A = PathTree} {B = Named × Trees} (path_in y) behind_for ((o, x), us) (IsNamed o x ts us) e
+      (λ p h e'. then_by {A = TypeTree × Trees} {B = Named × Trees} (read_type (tail mid)) (λ v. Some ((Some p, v.0), v.1)) ((o, x), us)
+      (IsNamed o x ts us) e'
+      (λ v i e''.
+      same_answer (λ (z : Named × Trees). IsNamed z.0.0 z.0.1 ts z.1) ((Some p, v.0), v.1) ((o, x), us) e''
+      (for_trait ts mid v.1 y p v.0 w.0 r (is_path y p h) w.1 w.2 (type_is_read (tail mid) v.1 v.0 i))))
 
-  by_for : (b : Bool) → sees_word (codes "for") mid ≡ b → trait_first y mid ≡ Some ((o, x), us) → IsNamed o x ts us
-  by_for true f e = with_trait f (sym (ap (λ z. cond z (reading.then (path_in y) behind_for) (Some ((None, y), mid))) f) ∙ e)
-  by_for false f e =
-      alone (some_same ((None, y), mid) ((o, x), us) (sym (ap (λ z. cond z (reading.then (path_in y) behind_for) (Some ((None, y), mid))) f) ∙ e))
+  by_for : trait_first y mid ≡ Some ((o, x), us) → IsNamed o x ts us
+  by_for e =
+      cond_some {A = Named × Trees} (sees_word (codes "for") mid) (reading.then (path_in y) behind_for) (Some ((None, y), mid)) ((o, x), us)
+      (IsNamed o x ts us) e with_trait (λ f. alone)
 
 named_read : (ts us : Trees) (o : Option PathTree) (x : TypeTree) → read_named ts ≡ Some ((o, x), us) → IsNamed o x ts us
 named_read ts us o x e =
-    let a = then_some {A = TypeTree × Trees} {B = Named × Trees} (read_type ts) (λ v. trait_first v.0 v.1) ((o, x), us) e in
-    by_for ts a.value.1 us a.value.0 (type_is_read ts a.value.1 a.value.0 a.there) o x (sees_word (codes "for") a.value.1) refl a.gives
+    then_by {A = TypeTree × Trees} {B = Named × Trees} (read_type ts) (λ v. trait_first v.0 v.1) ((o, x), us) (IsNamed o x ts us) e
+    (λ v h f. by_for ts v.1 us v.0 (type_is_read ts v.1 v.0 h) o x f)
 
 -- ---- all that is read
 
@@ -309,19 +288,23 @@ behind_generics : (ts mid us : Trees) (h : HeadTree) (angled : Bool) (ps : Liste
     reading.then (read_named mid) (λ x. reading.then {A = Clause × Trees} {B = HeadTree × Trees} (read_where x.1) (λ c. Some (head_in ps x.0 c.0, c.1))) ≡
     Some (h, us) → IsHeadRead h ts us
 behind_generics ts mid us h angled ps g e =
-    let b = then_some {A = Named × Trees} {B = HeadTree × Trees} (read_named mid)
-    (λ x. reading.then (read_where x.1) (λ c. Some (head_in ps x.0 c.0, c.1))) (h, us) e in
-    let c = then_some {A = Clause × Trees} {B = HeadTree × Trees} (read_where b.value.1) (λ v. Some (head_in ps b.value.0 v.0, v.1)) (h, us) b.gives in
-    subst (λ (z : HeadTree × Trees). IsHeadRead z.0 ts z.1) (some_same (head_in ps b.value.0 c.value.0, c.value.1) (h, us) c.gives)
-    (head_parts ts mid b.value.1 c.value.1 angled ps b.value.0.0 b.value.0.1 c.value.0 g (named_read mid b.value.1 b.value.0.0 b.value.0.1 b.there)
-    (is_read (λ v. where_clause v top) (decl.read_where parts top) where_decided b.value.1 c.value.1 c.value.0 c.there))
+    then_by {A = Named × Trees} {B = HeadTree × Trees} (read_named mid)
+    (λ x. reading.then (read_where x.1) (λ c. Some (head_in ps x.0 c.0, c.1))) (h, us) (IsHeadRead h ts us) e
+    (λ x i e'. then_by {A = Clause × Trees} {B = HeadTree × Trees} (read_where x.1) (λ c. Some (head_in ps x.0 c.0, c.1)) (h, us)
+    (IsHeadRead h ts us) e'
+    (λ c j f.
+    same_answer (λ (z : HeadTree × Trees). IsHeadRead z.0 ts z.1) (head_in ps x.0 c.0, c.1) (h, us) f
+    (head_parts ts mid x.1 c.1 angled ps x.0.0 x.0.1 c.0 g (named_read mid x.1 x.0.0 x.0.1 i)
+    (is_read (λ v. where_clause v top) (decl.read_where parts top) where_decided x.1 c.1 c.0 j))))
 
 head_read : (ts us : Trees) (h : HeadTree) → read_head ts ≡ Some (h, us) → IsHeadRead h ts us
 head_read ts us h e =
-    let a = then_some {A = Params × Trees} {B = HeadTree × Trees} (read_generics ts)
-    (λ ps. reading.then (read_named ps.1) (λ x. reading.then (read_where x.1) (λ c. Some (head_in ps.0.1 x.0 c.0, c.1)))) (h, us) e in
-    behind_generics ts a.value.1 us h a.value.0.0 a.value.0.1
-    (is_read (λ v. generics v.0 v.1 top) (decl.read_generics parts top) generics_decided ts a.value.1 a.value.0 a.there) a.gives
+    then_by {A = Params × Trees} {B = HeadTree × Trees} (read_generics ts)
+    (λ ps. reading.then (read_named ps.1) (λ x. reading.then (read_where x.1) (λ c. Some (head_in ps.0.1 x.0 c.0, c.1)))) (h, us)
+    (IsHeadRead h ts us) e
+    (λ ps i f.
+    behind_generics ts ps.1 us h ps.0.0 ps.0.1
+    (is_read (λ v. generics v.0 v.1 top) (decl.read_generics parts top) generics_decided ts ps.1 ps.0 i) f)
 
 -- ---- how many tokens and delimiters more than the head's own: those of a comma behind the last, of empty brackets and of a lone `where`
 
@@ -440,48 +423,13 @@ trait_own (Some p) = refl
 
 -- ---- without ranges
 
-same_list : (bs : Listed BoundTree) → bare_listed bs ≡ plain_list bs
-same_list bs = ap (λ x. record { items = x; trailing = bs.trailing }) (same_map bare_bound unplaced_bound same_bound bs.items)
-
-same_param : (p : ParamTree) → bare_param p ≡ plain_param p
-same_param (lifetime_param attrs x bs) =
-    ap₂ (λ y z. lifetime_param y (bare_lifetime x) z) (same_map bare_attribute unplaced_attribute same_attribute attrs) (same_lifetimes bs)
-same_param (type_param attrs i bs default) =
-    ap (λ y. type_param y (bare_ident i) (option_map bare_listed bs) (option_map bare_type default))
-    (same_map bare_attribute unplaced_attribute same_attribute attrs) ∙
-    ap₂ (λ y z. type_param (map unplaced_attribute attrs) (bare_ident i) y z) (same_option bare_listed plain_list same_list bs)
-    (same_option bare_type unplaced_type same_type default)
-same_param (const_param attrs i x default) =
-    ap (λ y. const_param y (bare_ident i) (bare_type x) (option_map bare_constant default))
-    (same_map bare_attribute unplaced_attribute same_attribute attrs) ∙
-    ap₂ (λ y z. const_param (map unplaced_attribute attrs) (bare_ident i) y z) (same_type x) (same_option bare_constant unplaced_constant same_constant default)
-
-same_predicate : (p : PredicateTree) → bare_predicate p ≡ plain_predicate p
-same_predicate (lifetime_predicate x ls) = refl
-same_predicate (type_predicate ls x bs) =
-    ap (λ y. type_predicate y (bare_type x) (bare_listed bs)) (same_lifetimes ls) ∙
-    ap₂ (λ y z. type_predicate (unplaced_lifetimes ls) y z) (same_type x) (same_list bs)
-
-clause_plain : (c : Clause) → map plain_predicate (predicates_in c) ≡ predicates_in c → plain_clause c ≡ c
+clause_plain : (c : Clause) → map bare_predicate (predicates_in c) ≡ predicates_in c → bare_clause c ≡ c
 clause_plain None e = refl
 clause_plain (Some ps) e = ap (λ x. Some (record { items = x; trailing = ps.trailing })) e
 
-trait_plain : (range : Span) (o : Option PathTree) → option_map bare_path o ≡ o → unplaced_option unplaced_type (as_type range o) ≡ as_type nowhere o
+trait_plain : (range : Span) (o : Option PathTree) → option_map bare_path o ≡ o → option_map bare_type (as_type range o) ≡ as_type nowhere o
 trait_plain range None e = refl
-trait_plain range (Some p) e =
-    let f : bare_path p ≡ p = some_same (bare_path p) p e in
-    ap (λ q. Some (type_tree (path no_self q) nowhere)) (sym (same_path p) ∙ f)
-
--- an implementation with the head, and nothing in its braces
-abbrev with_head : HeadTree → ItemTree
-with_head h =
-    record { attrs = []; params = h.params; trait_path = h.trait_path; ty = h.ty; predicates = h.predicates; assocs = []; methods = [] }
-
-between_bare : (h : HeadTree) → bare_head h ≡ h → IsBare (between_trees h)
-between_bare h e =
-    let all : IsBare (join (head_trees (with_head h)) (enclosed Brace no_trees)) =
-    item-bare (with_head h) ∙ ap (λ x. item_trees (with_head x)) e in
-    (join_bare (k.word (codes "impl")) (between_trees h) (join_bare (head_trees (with_head h)) (enclosed Brace no_trees) all).0).1
+trait_plain range (Some p) e = ap (as_type nowhere) e
 
 -- ---- a head in the grammar's words
 
@@ -549,31 +497,28 @@ module _ (h : HeadTree) (ts us : Trees) (r : IsHeadRead h ts us) (bare : bare_he
   abbrev own_trait : Option TypeTree
   own_trait = as_type nowhere h.trait_path
 
-  params_plain : plain_params r.params ≡ ps
+  params_plain : bare_params r.params ≡ ps
   params_plain =
-      ap (λ xs. record { items = xs; trailing = r.params.trailing })
-      (ap (map plain_param) r.params_are ∙ sym (same_map bare_param plain_param same_param h.params) ∙ ap (λ (x : HeadTree). x.params) bare)
+      ap (λ xs. record { items = xs; trailing = r.params.trailing }) (ap (map bare_param) r.params_are ∙ ap (λ (x : HeadTree). x.params) bare)
 
-  clause_same : plain_clause r.clause ≡ r.clause
+  clause_same : bare_clause r.clause ≡ r.clause
   clause_same =
-      clause_plain r.clause
-      (ap (map plain_predicate) r.predicates_are ∙ sym (same_map bare_predicate plain_predicate same_predicate h.predicates) ∙
-      ap (λ (x : HeadTree). x.predicates) bare ∙ sym r.predicates_are)
+      clause_plain r.clause (ap (map bare_predicate) r.predicates_are ∙ ap (λ (x : HeadTree). x.predicates) bare ∙ sym r.predicates_are)
 
-  type_same : unplaced_type h.ty ≡ h.ty
-  type_same = sym (same_type h.ty) ∙ ap (λ (x : HeadTree). x.ty) bare
+  type_same : bare_type h.ty ≡ h.ty
+  type_same = ap (λ (x : HeadTree). x.ty) bare
 
-  trait_same : unplaced_option unplaced_type read_trait ≡ own_trait
+  trait_same : option_map bare_type read_trait ≡ own_trait
   trait_same = trait_plain r.range h.trait_path (ap (λ (x : HeadTree). x.trait_path) bare)
 
   abbrev trees_again : Trees
-  trees_again = all_trees r.angled (plain_params r.params) (unplaced_option unplaced_type read_trait) (unplaced_type h.ty) (plain_clause r.clause)
+  trees_again = all_trees r.angled (bare_params r.params) (option_map bare_type read_trait) (bare_type h.ty) (bare_clause r.clause)
 
   abbrev Again : Trees → Marks → Type 0
   Again own m =
-      between r.angled (plain_params r.params) (unplaced_option unplaced_type read_trait) (unplaced_type h.ty) (plain_clause r.clause) top own no_trees m
+      between r.angled (bare_params r.params) (option_map bare_type read_trait) (bare_type h.ty) (bare_clause r.clause) top own no_trees m
 
-  own_plain : IsOwn r.angled (plain_params r.params) (unplaced_option unplaced_type read_trait) (unplaced_type h.ty) (plain_clause r.clause) (length r.marks)
+  own_plain : IsOwn r.angled (bare_params r.params) (option_map bare_type read_trait) (bare_type h.ty) (bare_clause r.clause) (length r.marks)
   own_plain =
       let x =
       between_again {v = top} {w = top} (record { level = omega arith; limit = refl }) r.angled r.params read_trait h.ty r.clause
@@ -588,9 +533,9 @@ module _ (h : HeadTree) (ts us : Trees) (r : IsHeadRead h ts us) (bare : bare_he
   own : IsOwn r.angled ps own_trait h.ty r.clause (length r.marks)
   own =
       subst (λ z. IsOwn r.angled ps own_trait h.ty z (length r.marks)) clause_same
-      (subst (λ z. IsOwn r.angled ps own_trait z (plain_clause r.clause) (length r.marks)) type_same
-      (subst (λ z. IsOwn r.angled ps z (unplaced_type h.ty) (plain_clause r.clause) (length r.marks)) trait_same
-      (subst (λ z. IsOwn r.angled z (unplaced_option unplaced_type read_trait) (unplaced_type h.ty) (plain_clause r.clause) (length r.marks)) params_plain
+      (subst (λ z. IsOwn r.angled ps own_trait z (bare_clause r.clause) (length r.marks)) type_same
+      (subst (λ z. IsOwn r.angled ps z (bare_type h.ty) (bare_clause r.clause) (length r.marks)) trait_same
+      (subst (λ z. IsOwn r.angled z (option_map bare_type read_trait) (bare_type h.ty) (bare_clause r.clause) (length r.marks)) params_plain
       own_plain)))
 
   covered : Covers ts us r.marks
@@ -655,11 +600,7 @@ module _ (h : HeadTree) (ts us : Trees) (r : IsHeadRead h ts us) (bare : bare_he
 -- ---- the leaves
 
 plain_read : (ts us : Trees) (h : HeadTree) → plain_head ts ≡ Some (h, us) → (read_head ts ≡ Some (h, us)) × (are_plain true h.params ≡ true)
-plain_read ts us h e =
-    let a = then_some {A = HeadTree × Trees} {B = HeadTree × Trees} (read_head ts) (λ a. provided (are_plain true a.0.params) (Some a)) (h, us) e in
-    let p = provided_some (are_plain true a.value.0.params) (Some a.value) (h, us) a.gives in
-    let s : a.value ≡ (h, us) = some_same a.value (h, us) p.1 in
-    (a.there ∙ ap Some s, ap (λ (x : HeadTree × Trees). are_plain true x.0.params) (sym s) ∙ p.0)
+plain_read ts us h e = tested_some {A = HeadTree × Trees} (λ a. are_plain true a.0.params) (read_head ts) (h, us) e
 
 module _ (N : NaturalItems item_leaves) where
   pub head_sound : (ts us : Trees) (h : HeadTree) → IsBare ts → exact_head ts ≡ Some (h, us) → IsHead h × Spells (between_trees h) ts us
@@ -670,7 +611,7 @@ module _ (N : NaturalItems item_leaves) where
       let n = natural_answer bare_head exact_head ts us h (N.head ts) b e in
       let c : Covers ts us r.marks = covered h ts us r n.0 p.1 in (
         is_head h ts us r n.0 p.1 a.1,
-        exact_spells (between_trees h) ts us (record { front = c.front; splits = c.splits }) a.1 (between_bare h n.0) n.1 b,
+        exact_spells (between_trees h) ts us (record { front = c.front; splits = c.splits }) a.1 (between_bare h ∙ ap between_trees n.0) n.1 b,
       )
 
   pub parts_sound : SoundLeaves leaf_grammar leaves

@@ -1,3 +1,4 @@
+pub mod Answers
 pub mod SoundRows
 pub mod SoundSteps
 pub mod SoundPaths

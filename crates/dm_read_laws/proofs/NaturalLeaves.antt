@@ -1,22 +1,16 @@
 -- The leaves of the plain reader read the same of the same tokens, ranges aside.
 use Rattle.std.proofs.Common.{◌≡◌, ◌-◌, Bool, true, ◌&&◌, List, [], ◌∷◌, map, length, take, Option, option_map, Some, None, refl, sym, ap, ap₂, ◌∙◌}
 use Rattle.std.proofs.lemmas.List.{take-map}
-use Rattle.dm_stream.specs.declared.tokens.Span.{Span}
-use Rattle.dm_stream.specs.declared.tokens.Delim.{Delim}
-use Rattle.dm_stream.specs.declared.tokens.Delim.TheVariants.{Brace}
 use Rattle.dm_stream.specs.declared.tokens.Token.{Token}
 use Rattle.dm_stream.specs.declared.tokens.Token.TheVariants as t
 use Rattle.dm_stream.specs.declared.tokens.Entry.{Entry}
 use Rattle.dm_stream.specs.declared.tokens.Entry.TheVariants as entry
-use Rattle.dm_stream.specs.Layout.{nowhere}
-use Rattle.dm_stream.specs.Trees.{Trees, no_trees, token, group, join, flatten}
+use Rattle.dm_stream.specs.Trees.{Trees, flatten}
 use Rattle.dm_lexer.specs.Written.{unplaced_token, unplaced}
-use Rattle.dm_ast.specs.Tree.{TypeTree, type_tree, path, no_self, MaybeSelf, PathTree}
+use Rattle.dm_ast.specs.Tree.{TypeTree, type_tree, path, no_self, PathTree}
 use Rattle.dm_ast.specs.TypeTokens.{type_trees}
 use Rattle.dm_ast.specs.Declarations.{Listed, ParamTree, lifetime_param, type_param, const_param, PredicateTree}
-use Rattle.dm_ast.specs.Readers.{tail}
 use Rattle.dm_same.specs.SameTypes.{all_same, same_token, same_entry}
-use Rattle.dm_output.specs.Output.{path_expr, ItemTree}
 use Rattle.dm_output.specs.Tokens.{path_expr_trees}
 use Rattle.dm_reread.specs.BareTypes.{bare_type, bare_path}
 use Rattle.dm_reread.specs.Bare.{bare_param, bare_predicate}
@@ -31,21 +25,21 @@ use Rattle.dm_reread.specs.HeadLeaves.{read_generics, read_where, path_in, head_
 use Rattle.dm_reread.specs.ExactLeaves.{passed, has_entries, exactly, closed_run}
 use Rattle.dm_reread.specs.ReadBack.{leaves, item_leaves}
 use Rattle.dm_reread.proofs.BareTypeTokens.{unplaced-join, type-bare}
-use Rattle.dm_reread.proofs.BareTokens.{expr-bare}
-use Rattle.dm_reread.proofs.BareItemTokens.{item-bare}
+use Rattle.dm_reread.proofs.BareTokens.{path-expr-bare}
+use Rattle.dm_reread.proofs.BareItemTokens.{params-bare, where-bare, trait-bare}
 use Rattle.dm_reread.proofs.BareNext.{passing, chained, provided-bare}
 use Rattle.dm_read_laws.proofs.NaturalSteps.{same, both, bare_entry, flatten_bare, length_bare, tail_bare, word_blind}
 use Rattle.dm_read_laws.proofs.NaturalDeclarations.{bare_items_of, type_natural, generics_natural, where_natural}
 use Rattle.dm_read_laws.proofs.NaturalRuns.{run_natural, closed_bare, qualified_natural}
 
 -- what is read, where it passes a test
-tested_bare : {A : Type 0} (a : A → A) (test : A → Bool) → ((x : A) → test (a x) ≡ test x) → (o' o : Answer A) → o' ≡ bare_answer a o →
-    then o' (λ r. provided (test r.0) (Some r)) ≡ bare_answer a (then o (λ r. provided (test r.0) (Some r)))
-tested_bare a test e o' o h =
-    chained (bare_pair a) (bare_pair a) o' o (λ r. provided (test r.0) (Some r)) (λ r. provided (test r.0) (Some r)) h
+tested_bare : {A : Type 0} (a : A → A) (again test : A × Trees → Bool) → ((r : A × Trees) → again (bare_pair a r) ≡ test r) → (o' o : Answer A) →
+    o' ≡ bare_answer a o → then o' (λ r. provided (again r) (Some r)) ≡ bare_answer a (then o (λ r. provided (test r) (Some r)))
+tested_bare a again test e o' o h =
+    chained (bare_pair a) (bare_pair a) o' o (λ r. provided (again r) (Some r)) (λ r. provided (test r) (Some r)) h
     (λ r.
-    ap (λ b. provided b (Some (bare_pair a r))) (e r.0) ∙
-    provided-bare (bare_pair a) (test r.0) (Some (bare_pair a r)) (Some r) refl)
+    ap (λ b. provided b (Some (bare_pair a r))) (e r) ∙
+    provided-bare (bare_pair a) (test r) (Some (bare_pair a r)) (Some r) refl)
 
 -- ---- the tokens that were passed
 
@@ -77,68 +71,18 @@ passed_bare ts us =
 entries_bare : (own ts us : Trees) → has_entries (unplaced own) (passed (unplaced ts) (unplaced us)) ≡ has_entries own (passed ts us)
 entries_bare own ts us = ap₂ (all_same same_entry) (flatten_bare own) (passed_bare ts us) ∙ all_blind (flatten own) (passed ts us)
 
-exactly_bare : {A : Type 0} (a : A → A) (trees_of : A → Trees) → ((x : A) → unplaced (trees_of x) ≡ trees_of (a x)) → (ts : Trees) (o : Answer A) →
-    exactly trees_of (unplaced ts) (bare_answer a o) ≡ bare_answer a (exactly trees_of ts o)
-exactly_bare a trees_of e ts None = refl
-exactly_bare a trees_of e ts (Some r) =
-    ap (λ own. provided (has_entries own (passed (unplaced ts) (unplaced r.1))) (Some (bare_pair a r))) (sym (e r.0)) ∙
-    ap (λ b. provided b (Some (bare_pair a r))) (entries_bare (trees_of r.0) ts r.1) ∙
-    provided-bare (bare_pair a) (has_entries (trees_of r.0) (passed ts r.1)) (Some (bare_pair a r)) (Some r) refl
-
 natural_exactly : {A : Type 0} (a : A → A) (trees_of : A → Trees) → ((x : A) → unplaced (trees_of x) ≡ trees_of (a x)) →
     (read : Trees → Answer A) → ((ts : Trees) → read (unplaced ts) ≡ bare_answer a (read ts)) → (ts : Trees) →
     exactly trees_of (unplaced ts) (read (unplaced ts)) ≡ bare_answer a (exactly trees_of ts (read ts))
-natural_exactly a trees_of e read h ts = ap (exactly trees_of (unplaced ts)) (h ts) ∙ exactly_bare a trees_of e ts (read ts)
+natural_exactly a trees_of e read h ts =
+    tested_bare a (λ r. has_entries (trees_of r.0) (passed (unplaced ts) r.1)) (λ r. has_entries (trees_of r.0) (passed ts r.1))
+    (λ r. ap (λ own. has_entries own (passed (unplaced ts) (unplaced r.1))) (sym (e r.0)) ∙ entries_bare (trees_of r.0) ts r.1)
+    (read (unplaced ts)) (read ts) (h ts)
 
 -- ---- the tokens of what is read
 
-path_expr_bare : (q : MaybeSelf × PathTree) →
-    unplaced (path_expr_trees q.0 q.1) ≡ path_expr_trees (bare_qualified q).0 (bare_qualified q).1
-path_expr_bare q = expr-bare (path_expr q.0 q.1)
-
--- behind a list a group still stands
-not_behind : (d : Delim) (s r : Span) (inside ts : Trees) → no_trees ≡ join ts (group d s inside r no_trees) → ⊥
-not_behind d s r inside no_trees e = absurd (cc)
-not_behind d s r inside (token k ts) e = absurd (cc)
-not_behind d s r inside (group f u within v ts) e = absurd (cc)
-
--- what stands before the same last group is the same
-same_before : (d : Delim) (s r : Span) (inside ts us : Trees) →
-    join ts (group d s inside r no_trees) ≡ join us (group d s inside r no_trees) → ts ≡ us
-same_before d s r inside no_trees no_trees e = refl
-same_before d s r inside no_trees (token k us) e = absurd (cc)
-same_before d s r inside no_trees (group f u within v us) e = absurd (not_behind d s r inside us (cc))
-same_before d s r inside (token k ts) no_trees e = absurd (cc)
-same_before d s r inside (token k ts) (token j us) e =
-    ap₂ token (cc) (same_before d s r inside ts us (cc))
-same_before d s r inside (token k ts) (group f u within v us) e = absurd (cc)
-same_before d s r inside (group f u within v ts) no_trees e =
-    absurd (not_behind d s r inside ts (cc))
-same_before d s r inside (group f u within v ts) (token k us) e = absurd (cc)
-same_before d s r inside (group f u within v ts) (group g w among x us) e =
-    let h : ts ≡ us = same_before d s r inside ts us (cc) in
-    cc
-
--- an implementation with this head and no members: of implementations it is known that the tokens are unplaced alike
-abbrev item_of : HeadTree → ItemTree
-item_of h =
-    record {
-      attrs = [];
-      params = h.params;
-      trait_path = h.trait_path;
-      ty = h.ty;
-      predicates = h.predicates;
-      assocs = [];
-      methods = [];
-    }
-
-abbrev no_members : Trees
-no_members = group Brace nowhere no_trees nowhere no_trees
-
-between_bare : (h : HeadTree) → unplaced (between_trees h) ≡ between_trees (bare_head h)
-between_bare h =
-    same_before Brace nowhere nowhere no_trees (unplaced (between_trees h)) (between_trees (bare_head h))
-    (sym (unplaced-join (between_trees h) no_members) ∙ ap tail (item-bare (item_of h)))
+pub between_bare : (h : HeadTree) → unplaced (between_trees h) ≡ between_trees (bare_head h)
+between_bare h = simp (params-bare, trait-bare, type-bare, where-bare, unplaced-join)
 
 -- ---- heads
 
@@ -181,13 +125,14 @@ are_plain_bare lifetimes (p ∷ ps) = simp (plain_bare, lifetime_bare, are_plain
 
 plain_head_natural : (ts : Trees) → plain_head (unplaced ts) ≡ bare_answer bare_head (plain_head ts)
 plain_head_natural ts =
-    tested_bare bare_head (λ h. are_plain true h.params) (λ h. are_plain_bare true h.params) (read_head (unplaced ts)) (read_head ts)
-    (head_natural ts)
+    tested_bare bare_head (λ r. are_plain true r.0.params) (λ r. are_plain true r.0.params) (λ r. are_plain_bare true r.0.params)
+    (read_head (unplaced ts)) (read_head ts) (head_natural ts)
 
 -- ---- values
 
 closed_natural : (ts : Trees) → closed_run (unplaced ts) ≡ bare_answer unplaced (closed_run ts)
-closed_natural ts = tested_bare unplaced is_closed closed_bare (read_run (unplaced ts)) (read_run ts) (run_natural ts)
+closed_natural ts =
+    tested_bare unplaced (λ r. is_closed r.0) (λ r. is_closed r.0) (λ r. closed_bare r.0) (read_run (unplaced ts)) (read_run ts) (run_natural ts)
 
 -- ---- all of them
 
@@ -195,7 +140,7 @@ natural_leaves : NaturalLeaves leaves
 natural_leaves =
     record {
       type = natural_exactly bare_type type_trees type-bare read_type type_natural;
-      qualified = natural_exactly bare_qualified (λ q. path_expr_trees q.0 q.1) path_expr_bare read_qualified qualified_natural;
+      qualified = natural_exactly bare_qualified (λ q. path_expr_trees q.0 q.1) (λ q. path-expr-bare q.0 q.1) read_qualified qualified_natural;
       run = closed_natural;
     }
 

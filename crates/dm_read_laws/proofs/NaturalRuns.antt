@@ -18,7 +18,7 @@ use Rattle.dm_reread.specs.BareReading.{bare_rest, bare_answer, bare_qualified}
 use Rattle.dm_reread.specs.PathLeaves.{names_at, path_at, qualified_in, read_qualified}
 use Rattle.dm_reread.specs.RunLeaves.{read_run, is_closed}
 use Rattle.dm_reread.proofs.BareTypeTokens.{unplaced-join}
-use Rattle.dm_reread.proofs.BareNext.{passing, whole-bare}
+use Rattle.dm_reread.proofs.BareNext.{map-cond, passing, whole-bare}
 use Rattle.dm_read_laws.proofs.NaturalDeclarations.{type_natural}
 
 -- a front that does not look at ranges
@@ -217,18 +217,14 @@ closed_bare (group d from inside upto ts) = closed_bare ts
 
 -- ---- qualified paths
 
-names_cond : (b : Bool) (x y : Front) → cond b (option_map bare_rest x) (option_map bare_rest y) ≡ option_map bare_rest (cond b x y)
-names_cond true x y = refl
-names_cond false x y = refl
-
 natural_names : IsNatural names_at
 natural_names (token (t.Punct a) (token (t.Punct b) (token (t.Ident i) ts))) =
     ap
     (λ o. cond ((nat_eq a.ch 58 && is_joint a.spacing) && nat_eq b.ch 58) o
     (Some (0, unplaced (token (t.Punct a) (token (t.Punct b) (token (t.Ident i) ts))))))
     (ap (after 3) (natural_names ts) ∙ after_bare 3 (names_at ts)) ∙
-    names_cond ((nat_eq a.ch 58 && is_joint a.spacing) && nat_eq b.ch 58) (after 3 (names_at ts))
-    (Some (0, token (t.Punct a) (token (t.Punct b) (token (t.Ident i) ts))))
+    sym (map-cond bare_rest ((nat_eq a.ch 58 && is_joint a.spacing) && nat_eq b.ch 58) (after 3 (names_at ts))
+    (Some (0, token (t.Punct a) (token (t.Punct b) (token (t.Ident i) ts)))))
 natural_names _ = refl
 
 natural_path_at : IsNatural path_at

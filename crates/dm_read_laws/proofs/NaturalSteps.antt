@@ -19,6 +19,7 @@ use Rattle.dm_read.proofs.Deciding.{pair, const_at}
 use Rattle.dm_reread.specs.BareTypes.{bare_ident, bare_lifetime, bare_literal, bare_stream}
 use Rattle.dm_reread.specs.BareReading.{bare_pair, bare_answer}
 use Rattle.dm_reread.specs.TypeLeaves.{answer_of}
+use Rattle.dm_reread.proofs.BareNext.{map-cond}
 use Rattle.dm_reread.proofs.FreeSteps.{ending}
 
 -- a reader of trees, and one of the same trees without ranges, which reads the same, made bare by a function
@@ -234,16 +235,12 @@ first_literal_bare : (ts : Trees) → first_literal (unplaced ts) ≡ bare_answe
 first_literal_bare (token (t.Literal l) rest) = refl
 first_literal_bare _ = refl
 
-kept_ident_bare : (b : Bool) (r : Ident × Trees) →
-    (if b then Some (bare_pair bare_ident r) else None) ≡ bare_answer bare_ident (if b then Some r else None)
-kept_ident_bare true r = refl
-kept_ident_bare false r = refl
-
 if_ident_bare : (test : Ident → Bool) → ((i : Ident) → test (bare_ident i) ≡ test i) → (o : Option (Ident × Trees)) →
     if_ident test (bare_answer bare_ident o) ≡ bare_answer bare_ident (if_ident test o)
 if_ident_bare test e None = refl
 if_ident_bare test e (Some r) =
-    ap (λ b. if b then Some (bare_pair bare_ident r) else None) (e r.0) ∙ kept_ident_bare (test r.0) r
+    ap (λ b. if b then Some (bare_pair bare_ident r) else None) (e r.0) ∙
+    sym (map-cond (bare_pair bare_ident) (test r.0) (Some r) None)
 
 pub natural_ident : (test : Ident → Bool) → ((i : Ident) → test (bare_ident i) ≡ test i) → Natural bare_ident (read_ident test)
 natural_ident test e =
@@ -342,15 +339,11 @@ marks_bare n no_trees = refl
 marks_bare n (token k rest) = ap₂ (λ s ms. (n, s) ∷ ms) (token_span_bare k) (marks_bare n rest)
 marks_bare n (group d from inside upto rest) = simp (marks_bare (n + 1) inside, marks_bare n rest, map-append)
 
-deep_bare : (b : Bool) (s : Span) (o : Option Span) →
-    cond b (Some nowhere) (option_map (λ _. nowhere) o) ≡ option_map (λ _. nowhere) (cond b (Some s) o)
-deep_bare true s o = refl
-deep_bare false s o = refl
-
 too_deep_bare : (ks : Marks) → first_too_deep (map bare_mark ks) ≡ option_map (λ _. nowhere) (first_too_deep ks)
 too_deep_bare [] = refl
 too_deep_bare (k ∷ ks) =
-    ap (λ o. cond (nat_lt deepest k.0) (Some nowhere) o) (too_deep_bare ks) ∙ deep_bare (nat_lt deepest k.0) k.1 (first_too_deep ks)
+    ap (λ o. cond (nat_lt deepest k.0) (Some nowhere) o) (too_deep_bare ks) ∙
+    sym (map-cond (λ _. nowhere) (nat_lt deepest k.0) (Some k.1) (first_too_deep ks))
 
 shallow_bare : (o : Option Span) (s : Stream) →
     answer_of (if_shallow (option_map (λ _. nowhere) o) (bare_stream s)) ≡ bare_answer bare_stream (answer_of (if_shallow o s))

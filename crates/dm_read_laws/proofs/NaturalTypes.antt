@@ -1,5 +1,5 @@
 -- Types, paths and bounds are read the same of the same tokens, ranges aside.
-use Rattle.std.proofs.Common.{◌≡◌, ℕ, zero, suc, ◌+◌, Bool, true, false, not, ◌&&◌, ◌||◌, if◌then◌else◌, List, [], ◌∷◌, map, codes, Option, option_map, Some, None, refl, sym, ap, ap₂, ◌∙◌, subst}
+use Rattle.std.proofs.Common.{◌≡◌, ℕ, zero, suc, ◌+◌, Bool, true, false, not, ◌&&◌, ◌||◌, List, [], ◌∷◌, map, codes, Option, option_map, Some, None, refl, sym, ap, ap₂, ◌∙◌, subst}
 use Rattle.std.proofs.lemmas.List.{map-append, length-map}
 use Rattle.dm_stream.specs.declared.tokens.Delim.TheVariants.{Paren, Bracket}
 use Rattle.dm_stream.specs.declared.tokens.Ident.{Ident}
@@ -19,6 +19,7 @@ use Rattle.dm_ast.specs.Readers.{Parser}
 use Rattle.dm_read_paths.specs.TypeReaders.{front_kind, node_kind, types_pair, arguments_pair, inputs_pair, bounds_pair, round_by, round_of, square_by, square_of, reference_of, segment_of, angle_of, parens_of, path_of, outlives_of, implements_of, trait_of, one_bound, sees_angled, sees_constant, named_by, binding_of, type_value, constant_value, constraint_of, lifetime_of, constant_of, type_of, path_type, as_path, path_node, call_of, object_of, implied_of, infer_of, never_of, function_of, input_of, some_name, no_name, qualified_by, qualified_of, read_types, read_output, read_round, square_inside, read_square, read_reference, pointed_at, read_pointer, inner_path, read_plain_trait, read_trait, read_bound, read_bounds, read_some_bounds, read_binding_value, behind_name, behind_type, read_argument, read_arguments, read_angled, read_parens, read_segment_arguments, read_own_arguments, read_segment_list, read_path, read_as, read_qualified, read_named_type, read_input, read_inputs, read_maybe_length, read_abi, read_signature, read_function, read_call, node_by, read_node, read_level, read_type}
 use Rattle.dm_reread.specs.BareTypes.{bare_ident, bare_opaque, bare_lifetimes, bare_abi, bare_type, bare_node, bare_types, bare_maybe_type, bare_bound, bare_bounds, bare_trait, bare_inputs, bare_input, bare_path, bare_segments, bare_segment, bare_arguments_of, bare_argument, bare_arguments, bare_maybe_arguments}
 use Rattle.dm_reread.specs.TypeLeaves.{answer_of}
+use Rattle.dm_reread.proofs.BareNext.{map-cond}
 use Rattle.dm_reread.proofs.FreeSteps.{ending}
 use Rattle.dm_read_laws.proofs.NaturalSteps.{Alike, Natural, Blind, same, both, alike_nothing, alike_refused, alike_bind, alike_gives_by, alike_gives, alike_and, alike_next, alike_till, alike_either, at_end_blind, sees_blind, pair_blind, lone_blind, word_blind, lifetime_blind, literal_blind, group_blind, or_blind, natural_ident, natural_lifetime, natural_literal, natural_punct, natural_word, natural_group, alike_flag, alike_perhaps, alike_list, alike_chain, alike_ranged}
 use Rattle.dm_read_laws.proofs.NaturalPlain.{colons_blind, equals_blind, truth_blind, behind_colons_bare, macro_blind, natural_colons, natural_arrow, natural_colon, natural_equals, natural_leading, natural_plain, natural_kept, natural_opaque, natural_attributes, natural_angles, natural_for, natural_constant}
@@ -69,7 +70,7 @@ types_of_bare : (xs : List TypeTree) → types_of (map bare_type xs) ≡ bare_ty
 types_of_bare [] = refl
 types_of_bare (x ∷ xs) = ap (type_then (bare_type x)) (types_of_bare xs)
 
-bounds_of_bare : (bs : List BoundTree) → bounds_of (map bare_bound bs) ≡ bare_bounds (bounds_of bs)
+pub bounds_of_bare : (bs : List BoundTree) → bounds_of (map bare_bound bs) ≡ bare_bounds (bounds_of bs)
 bounds_of_bare [] = refl
 bounds_of_bare (b ∷ bs) = simp (bounds_of_bare bs)
 
@@ -105,14 +106,9 @@ as_path_bare _ = refl
 abbrev bare_binding : Ident × MaybeArguments → Ident × MaybeArguments
 bare_binding b = (bare_ident b.0, bare_maybe_arguments b.1)
 
-some_named : (b : Bool) (i : Ident) (gs : MaybeArguments) →
-    (if b then Some (bare_ident i, bare_maybe_arguments gs) else None) ≡ option_map bare_binding (if b then Some (i, gs) else None)
-some_named true i gs = refl
-some_named false i gs = refl
-
 named_bare : (i : Ident) (gs : ArgumentsTree) → named_by (bare_ident i) (bare_arguments_of gs) ≡ option_map bare_binding (named_by i gs)
-named_bare i absent = some_named (is_name i) i arguments_absent
-named_bare i (angle false gs trailing) = some_named (is_name i) i (some_arguments gs trailing)
+named_bare i absent = sym (map-cond bare_binding (is_name i) (Some (i, arguments_absent)) None)
+named_bare i (angle false gs trailing) = sym (map-cond bare_binding (is_name i) (Some (i, some_arguments gs trailing)) None)
 named_bare i (angle true gs trailing) = refl
 named_bare i (parens xs trailing out) = refl
 

@@ -1,5 +1,6 @@
 -- The qualified path that is read where it has the tokens that were passed is one of the grammar.
 use Rattle.std.proofs.Common.{◌≡◌, ℕ, ◌+◌, ◌<◌, ◌≤◌, Bool, true, false, ◌&&◌, nat_eq, cond, Option, Some, None, T, refl, sym, ap, ap₂, ◌∙◌, subst, arith}
+use Rattle.std.proofs.lemmas.Option.{some_pair_parts}
 use Rattle.dm_stream.specs.declared.tokens.Token.TheVariants as t
 use Rattle.dm_stream.specs.declared.tokens.Span.{Span}
 use Rattle.dm_stream.specs.Layout.{nowhere}
@@ -24,7 +25,9 @@ use Rattle.dm_reread.proofs.LeafFronts.{split_size}
 use Rattle.dm_reread.proofs.TypeLeafUnplaced.{read_is_type}
 use Rattle.dm_read_laws.specs.Sound.{IsBare, Spells, is_qualified}
 use Rattle.dm_read_laws.proofs.Entries.{same_trees}
-use Rattle.dm_read_laws.proofs.ExactSound.{some_same, pair_same, then_some, whole_answer, join_bare, natural_answer, passed_front, joined_front, exact_answer}
+use Rattle.dm_read_laws.proofs.Answers.{then_by, whole_some, same_answer}
+use Rattle.dm_read_laws.proofs.SoundSteps.{bare_own}
+use Rattle.dm_read_laws.proofs.ExactSound.{natural_answer, passed_front, joined_front, exact_answer}
 use Rattle.dm_read_laws.proofs.RunSound.{IsLocal, local_pair}
 use Rattle.dm_read_laws.proofs.TypeSound.{same_self, same_path, type_is_read}
 
@@ -34,7 +37,7 @@ abbrev Counts : Front → ℕ → Trees → Type 0
 Counts f n us = ◌≡◌ {A = Front} f (Some (n, us))
 
 count_same : (k n : ℕ) (us vs : Trees) → Counts (Some (k, us)) n vs → k ≡ n
-count_same k n us vs e = (pair_same k n us vs (some_same (k, us) (n, vs) e)).0
+count_same k n us vs e = (some_pair_parts k n us vs e).0
 
 -- a front with trees in front of it
 record Behind (k n : ℕ) (us : Trees) (f : Front) : Type 0 where
@@ -45,7 +48,7 @@ record Behind (k n : ℕ) (us : Trees) (f : Front) : Type 0 where
 behind : (k n : ℕ) (us : Trees) (f : Front) → Counts (after k f) n us → Behind k n us f
 behind k n us None e = absurd (cc)
 behind k n us (Some (m, vs)) e =
-    let h = pair_same (k + m) n vs us (some_same (k + m, vs) (n, us) e) in
+    let h = some_pair_parts (k + m) n vs us e in
     record { count = m; there = ap (λ x. Some (m, x)) h.1; sum = h.0 }
 
 -- names are three trees each
@@ -120,13 +123,10 @@ record IsPathType (x : TypeTree) (q : MaybeSelf) (p : PathTree) : Type 0 where
   is : x ≡ type_tree (path q p) range
   qualified : T (is_qualified q)
 
-path_type_by : (y : TypeTree) (n : ℕ) (o p : PathTree) (q : MaybeSelf) (range : Span) → ◌≡◌ {A = MaybeSelf × PathTree} (some_self y n, o) (q, p) →
-    IsPathType (type_tree (path (some_self y n) o) range) q p
-path_type_by y n o p q range e =
-    subst (λ (z : MaybeSelf × PathTree). IsPathType (type_tree (path (some_self y n) o) range) z.0 z.1) e (record { range = range; is = refl; qualified = tt })
-
 path_type : (x : TypeTree) (q : MaybeSelf) (p : PathTree) → qualified_in x ≡ Some (q, p) → IsPathType x q p
-path_type (type_tree (path (some_self y n) o) range) q p e = path_type_by y n o p q range (some_same (some_self y n, o) (q, p) e)
+path_type (type_tree (path (some_self y n) o) range) q p e =
+    same_answer (λ (z : MaybeSelf × PathTree). IsPathType (type_tree (path (some_self y n) o) range) z.0 z.1) (some_self y n, o) (q, p) e
+    (record { range = range; is = refl; qualified = tt })
 path_type _ q p e = absurd (cc)
 
 -- ---- the path in front
@@ -155,17 +155,19 @@ path_by_type ts own rest x c e f k =
       own = own;
       cut = e;
       range = k.range;
-      read = subst (λ y. read_type own ≡ Some (y, no_trees)) k.is (whole_answer (read_type own) x f);
+      read = subst (λ y. read_type own ≡ Some (y, no_trees)) k.is (whole_some (read_type own) x f);
       qualified = k.qualified;
     }
 
 path_read : (ts us : Trees) (q : MaybeSelf) (p : PathTree) → read_qualified ts ≡ Some ((q, p), us) → IsPathRead ts us q p
 path_read ts us q p e =
-    let a = then_some {A = Trees × Trees} {B = Qualified × Trees} (split_at (path_at ts) ts) (λ c. then (whole (read_type c.0)) (out_of c.1)) ((q, p), us) e in
-    let b = then_some {A = TypeTree} {B = Qualified × Trees} (whole (read_type a.value.0)) (out_of a.value.1) ((q, p), us) a.gives in
-    let c = then_some {A = Qualified} {B = Qualified × Trees} (qualified_in b.value) (λ q. Some (q, a.value.1)) ((q, p), us) b.gives in
-    subst (λ (z : Qualified × Trees). IsPathRead ts z.1 z.0.0 z.0.1) (some_same (c.value, a.value.1) ((q, p), us) c.gives)
-    (path_by_type ts a.value.0 a.value.1 b.value c.value a.there b.there (path_type b.value c.value.0 c.value.1 c.there))
+    then_by {A = Trees × Trees} {B = Qualified × Trees} (split_at (path_at ts) ts) (λ c. then (whole (read_type c.0)) (out_of c.1)) ((q, p), us)
+    (IsPathRead ts us q p) e
+    (λ c cut e'. then_by {A = TypeTree} {B = Qualified × Trees} (whole (read_type c.0)) (out_of c.1) ((q, p), us) (IsPathRead ts us q p) e'
+    (λ x read e''. then_by {A = Qualified} {B = Qualified × Trees} (qualified_in x) (λ z. Some (z, c.1)) ((q, p), us) (IsPathRead ts us q p) e''
+    (λ z there f.
+    same_answer (λ (a : Qualified × Trees). IsPathRead ts a.1 a.0.0 a.0.1) (z, c.1) ((q, p), us) f
+    (path_by_type ts c.0 c.1 x z cut read (path_type x z.0 z.1 there)))))
 
 module _ (N : NaturalItems item_leaves) where
   pub qualified_sound : (ts us : Trees) (q : MaybeSelf) (p : PathTree) → IsBare ts → exact_qualified ts ≡ Some ((q, p), us) →
@@ -176,9 +178,9 @@ module _ (N : NaturalItems item_leaves) where
       let r : IsPathRead ts us q p = path_read ts us q p a.0 in
       let j : ts ≡ join r.own us = split_joins (path_at ts) ts r.own us r.cut in
       let n = natural_answer {A = Qualified} bare_qualified exact_qualified ts us (q, p) (N.parts.qualified ts) b e in
-      let s = pair_same (bare_self q) q (bare_path p) p n.0 in
+      let s = some_pair_parts (bare_self q) q (bare_path p) p (ap Some n.0) in
       let bare : IsBare own = node-bare nowhere (path q p) ∙ ap₂ (λ x y. path_expr_trees x y) s.0 s.1 in
-      let cut_bare : IsBare r.own = (join_bare r.own us (subst IsBare j b)).0 in
+      let cut_bare : IsBare r.own = bare_own r.own ts us b j in
       let same : own ≡ r.own =
       sym bare ∙ same_trees own r.own (ap (has_entries own) (sym (passed_front ts us (flatten r.own) (joined_front ts r.own us j))) ∙ a.1) ∙ cut_bare in
       let x : TypeTree = type_tree (path q p) r.range in

@@ -1,6 +1,5 @@
 -- The value of a format's argument, where it is read before others, is one run of its own trees, to their end.
 use Rattle.std.proofs.Common.{◌≡◌, ℕ, zero, suc, ◌+◌, ◌≤◌, ◌<◌, Bool, true, false, Some, None, T, refl, sym, ap, ◌∙◌, subst, arith}
-use Rattle.std.proofs.lemmas.Bool.{eqb-true}
 use Rattle.dm_stream.specs.declared.tokens.Spacing.{Spacing}
 use Rattle.dm_stream.specs.declared.tokens.Spacing.TheVariants.{Joint, Alone}
 use Rattle.dm_stream.specs.declared.tokens.Token.{Token}
@@ -12,15 +11,11 @@ use Rattle.dm_expr.specs.declared.units.Unit.TheVariants as unit
 use Rattle.dm_expr.specs.Cuts.{Front, Found, Run, after, and_then, one_if, is_char, is_spaced, waiting, punct_at, spaced_at, path_sep_at, tree_at, closed_at, pair_at, sep_args_at, args_sep_at, or_else, unless, unit_at, run_from, some_run, run_at, split_at}
 use Rattle.dm_expr.proofs.Joining.{split_joins}
 use Rattle.dm_expr.proofs.Running.{passed, unit_positive, run-unit, run-none}
-use Rattle.dm_reread.specs.Next.{other, alone_next, last_next, joint_next, punct_next, next}
-use Rattle.dm_reread.specs.Leaves.{ends_run}
-use Rattle.dm_reread.specs.Reading.{provided}
 use Rattle.dm_reread.specs.RunLeaves.{read_run, is_closed, IsRun}
 use Rattle.dm_reread.specs.ExactLeaves.{closed_run}
 use Rattle.dm_reread.proofs.LeafFronts.{split_size, split_join}
-use Rattle.dm_reread.proofs.RunLeaf.{Comma, comma_end, comma_first}
 use Rattle.dm_read_laws.specs.Sound.{Spells}
-use Rattle.dm_read_laws.proofs.ExactSound.{some_same, then_some, provided_some}
+use Rattle.dm_read_laws.proofs.Answers.{tested_some}
 
 -- ---- fronts of trees alone, and with others behind them
 
@@ -185,16 +180,9 @@ module _ (us : Trees) where
 
   -- ---- runs
 
-  -- a run of just the trees is a run of the trees alone, and no unit begins behind it
-  record IsAlone (v : Trees) : Type 0 where
-    run : run_from true 0 v ≡ (size v, no_trees)
-    over : unit_at true us ≡ None
-
-  none_left : (f : Found) → unit_at true us ≡ f → (run_from true 0 us).0 ≡ 0 → unit_at true us ≡ None
-  none_left None e c = e
-  none_left (Some (u, k, r)) e c =
-      let q : k + (run_from true 0 r).0 ≡ 0 = sym (ap (λ (x : Run). x.0) (run-unit true us r u k e)) ∙ c in
-      absurd (omega (arith, q, unit_positive true us r u k e))
+  -- a run of just the trees is a run of the trees alone
+  abbrev IsAlone : Trees → Type 0
+  IsAlone v = run_from true 0 v ≡ (size v, no_trees)
 
   module _ (n : ℕ) (shorter : (v : Trees) → size v ≤ n → (run_from true 0 (join v us)).0 ≡ size v → IsAlone v) where
     by_unit : (v : Trees) (f : Found) → unit_at true (join v us) ≡ f → 0 < size v → size v ≤ suc n → (run_from true 0 (join v us)).0 ≡ size v → IsAlone v
@@ -205,13 +193,10 @@ module _ (us : Trees) where
         let j : k + (run_from true 0 (join w.rest us)).0 ≡ size v = ap (λ x. k + (run_from true 0 x).0) (sym w.joins) ∙ q in
         let i : IsAlone w.rest =
         shorter w.rest (omega (arith, w.sum, m, unit_positive true (join v us) r u k e)) (omega (arith, j, w.sum)) in
-        record {
-          run = run-unit true v w.rest u k w.there ∙ (ap (passed k) i.run ∙ ap (λ x. (x, no_trees)) w.sum);
-          over = i.over;
-        }
+        run-unit true v w.rest u k w.there ∙ (ap (passed k) i ∙ ap (λ x. (x, no_trees)) w.sum)
 
   run_alone : (n : ℕ) (v : Trees) → size v ≤ n → (run_from true 0 (join v us)).0 ≡ size v → IsAlone v
-  run_alone n no_trees m c = record { run = refl; over = none_left (unit_at true us) refl c }
+  run_alone n no_trees m c = refl
   run_alone zero (token k ts) m c = absurd (omega (arith, m))
   run_alone zero (group d f i g ts) m c = absurd (omega (arith, m))
   run_alone (suc n) (token k ts) m c =
@@ -250,68 +235,12 @@ cut_off ts us v e =
 
 -- the value, and that nothing in it is left open
 closed_answer : (ts us v : Trees) → closed_run ts ≡ Some (v, us) → (read_run ts ≡ Some (v, us)) × (is_closed v ≡ true)
-closed_answer ts us v e =
-    let a = then_some {A = Trees × Trees} {B = Trees × Trees} (read_run ts) (λ a. provided (is_closed a.0) (Some a)) (v, us) e in
-    let p = provided_some (is_closed a.value.0) (Some a.value) (v, us) a.gives in
-    let s : a.value ≡ (v, us) = some_same a.value (v, us) p.1 in
-    (a.there ∙ ap Some s, ap (λ (x : Trees × Trees). is_closed x.0) (sym s) ∙ p.0)
+closed_answer ts us v e = tested_some {A = Trees × Trees} (λ a. is_closed a.0) (read_run ts) (v, us) e
 
 pub run_sound : (ts us v : Trees) → closed_run ts ≡ Some (v, us) → IsRun v × Spells v ts us
 run_sound ts us v e =
     let a = closed_answer ts us v e in
     let c : IsCutOff ts us v = cut_off ts us v a.0 in
     let one : read_run v ≡ Some (v, no_trees) =
-    ap (λ x. split_at (some_run x) v) c.alone.run ∙ (ap (λ x. split_at x v) (some_front (size v) no_trees c.some) ∙ split_all v) in
+    ap (λ x. split_at (some_run x) v) c.alone ∙ (ap (λ x. split_at x v) (some_front (size v) no_trees c.some) ∙ split_all v) in
     (record { one = one; closed = a.1 }, c.joins)
-
--- ---- a run ends at a comma or where the trees do
-
-or_there : (u : unit.the_data) (f : Front) (x : Found) → (x ≡ None → ⊥) → or_else u f x ≡ None → ⊥
-or_there u None x h e = h e
-or_there u (Some r) x h e = absurd (cc)
-
-is_comma : (b : Bool) (ts : Trees) (x : Found) → (x ≡ None → ⊥) → unless (one_if b ts) x ≡ None → b ≡ true
-is_comma true ts x h e = refl
-is_comma false ts x h e = absurd (h e)
-
-comma_token : (k : Token) (ts : Trees) → is_char 44 k ≡ true → Comma (token k ts)
-comma_token (t.Punct p) ts e = comma_first p ts (eqb-true p.ch 44 e)
-comma_token _ ts e = absurd (cc)
-
-no_unit_comma : (us : Trees) → unit_at true us ≡ None → Comma us
-no_unit_comma no_trees e = comma_end
-no_unit_comma (token k ts) e =
-    let us : Trees = token k ts in
-    comma_token k ts
-    (is_comma (is_char 44 k) ts _
-    (or_there unit.SepArgs (sep_args_at us) _
-    (or_there unit.ArgsSep (args_sep_at us) _ (or_there unit.Bars (pair_at 124 124 us) _ (λ h. absurd (cc))))) e)
-no_unit_comma (group d f i g ts) e = absurd (cc)
-
-pub run_end : (ts us v : Trees) → closed_run ts ≡ Some (v, us) → Comma us
-run_end ts us v e = no_unit_comma us (cut_off ts us v (closed_answer ts us v e).0).alone.over
-
--- two puncts that begin with a comma are none that the reader knows
-last_other : (s : Spacing) (c : ℕ) (ts : Trees) → last_next s 44 c ts ≡ other
-last_other Alone c ts = refl
-last_other Joint c ts = refl
-
-comma_other : (ts : Trees) → joint_next 44 ts ≡ other
-comma_other no_trees = refl
-comma_other (token (t.Punct p) ts) = last_other p.spacing p.ch ts
-comma_other (token (t.Ident i) ts) = refl
-comma_other (token (t.Literal l) ts) = refl
-comma_other (token (t.Lifetime l) ts) = refl
-comma_other (group d f i g ts) = refl
-
-comma_seen : (s : Spacing) (c : ℕ) (ts : Trees) → c ≡ 44 → (punct_next s c ts ≡ other → ⊥) → T (ends_run (punct_next s c ts))
-comma_seen Alone c ts e h = subst (λ x. T (ends_run (alone_next x ts))) (sym e) tt
-comma_seen Joint c ts e h = absurd (h (subst (λ x. joint_next x ts ≡ other) (sym e) (comma_other ts)))
-
-next_seen : (us : Trees) → Comma us → (next us ≡ other → ⊥) → T (ends_run (next us))
-next_seen _ comma_end h = tt
-next_seen _ (comma_first p ts e) h = comma_seen p.spacing p.ch ts e h
-
--- the reader sees that comma, but where another punct touches it
-pub run_ends : (ts us v : Trees) → closed_run ts ≡ Some (v, us) → (next us ≡ other → ⊥) → T (ends_run (next us))
-run_ends ts us v e h = next_seen us (run_end ts us v e) h

@@ -16,7 +16,7 @@ use Rattle.dm_reread.specs.Grammar.{at_or, IsName, is_any, Each, EachNamed}
 use Rattle.dm_read_laws.specs.Sound.{IsBare}
 use Rattle.dm_read_laws.proofs.SoundRows.{args_tail, Sound}
 use Rattle.dm_read_laws.proofs.SoundSteps.{Front, Begins, next_begins}
-use Rattle.dm_read_laws.proofs.SoundFronts.{Gives, gives_some, gives_none, gives_then, gives_provided, gives_as, behind, ends_with, sees_comma, reads_expr, reads_args, reads_named}
+use Rattle.dm_read_laws.proofs.SoundFronts.{Gives, gives_some, gives_none, gives_then, gives_provided, gives_as, behind, ends_with, comma_seen, reads_expr, reads_args, reads_named}
 
 -- all arguments: a comma behind the last one makes those of a constructor
 abbrev pub args_trees : ExprTrees → Bool → Trees
@@ -74,7 +74,7 @@ module _ (g : LeafGrammar) (r : Readers) (S : Sound g r) where
       Gives (named_value r i x) (λ es. EachNamed g es × (ts ≡ ended (each_named_expr es)))
   value_row ts us i (colon vs) c f h =
       gives_then (reads_expr g r S true vs h.1) (λ a p.
-      gives_then (sees_comma a.1 p.1.1) (λ ws q.
+      gives_then (comma_seen a.1 (next a.1) (next_begins a.1 p.1.1)) (λ ws q.
       gives_then (reads_named g r S ws q.1) (λ s t.
       gives_some (named_expr_then i a.0 s) (
         (c, (p.0, t.0)),

@@ -15,7 +15,7 @@ use Rattle.dm_reread.proofs.Laws.{bars_tail}
 use Rattle.dm_read_laws.specs.Sound.{IsBare}
 use Rattle.dm_read_laws.proofs.SoundRows.{Sound}
 use Rattle.dm_read_laws.proofs.SoundSteps.{Front, Begins, next_begins}
-use Rattle.dm_read_laws.proofs.SoundFronts.{Gives, gives_some, gives_then, nothing, behind, ends_with, kept, sees_comma, sees_leads, reads_expr, reads_block, reads_arms}
+use Rattle.dm_read_laws.proofs.SoundFronts.{Gives, gives_some, gives_then, nothing, behind, ends_with, kept, comma_seen, leads_seen, reads_expr, reads_block, reads_arms}
 
 module _ (g : LeafGrammar) (r : Readers) (S : Sound g r) where
   reads_pattern : (ts : Trees) → IsBare ts → Gives (r.pattern ts) (λ a. IsPattern a.0 × Front (pattern_trees a.0) ts a.1)
@@ -42,9 +42,9 @@ module _ (g : LeafGrammar) (r : Readers) (S : Sound g r) where
       Gives (arm_from r ps us) (λ s. AreArms g s × (ts ≡ arms_trees s))
   guarded_row ps ts us c f =
       gives_then (guard_row us (next us) f.1 (next_begins us f.1)) (λ a p.
-      gives_then (sees_leads a.1 p.1.1) (λ vs q.
+      gives_then (leads_seen a.1 (next a.1) (next_begins a.1 p.1.1)) (λ vs q.
       gives_then (body_row vs (next vs) q.1 (next_begins vs q.1)) (λ d t.
-      gives_then (sees_comma d.1 t.1.1) (λ ws w.
+      gives_then (comma_seen d.1 (next d.1) (next_begins d.1 t.1.1)) (λ ws w.
       gives_then (reads_arms g r S ws w.1) (λ s z.
       gives_some (arm_then ps a.0 d.0 s) (
         ((c, (p.0, t.0)), z.0),

@@ -2,6 +2,7 @@
 use Rattle.std.specs.Prelude.{◌≡◌, true, codes, Option, Some, None, refl}
 use Rattle.std.specs.Str.{bytes_eq}
 use Rattle.std.proofs.Common.{ap, ◌∙◌, sym, subst}
+use Rattle.std.proofs.lemmas.Bool.{and_parts}
 use Rattle.std.proofs.lemmas.Slice.Eq.{bytes_eq-Decides}
 use Rattle.dm_stream.specs.declared.tokens.Ident.{Ident}
 use Rattle.dm_stream.specs.declared.tokens.Literal.{Literal}
@@ -21,8 +22,8 @@ use Rattle.dm_reread.specs.Reading.{Readers, is_int, is_zero, is_some_trees, stm
 use Rattle.dm_reread.specs.Grammar.{IsName, IsBase, IsExpr, IsStmt, IsBlock}
 use Rattle.dm_read_laws.specs.Sound.{IsBare}
 use Rattle.dm_read_laws.proofs.SoundRows.{Sound}
-use Rattle.dm_read_laws.proofs.SoundSteps.{both_true, Front, Begins, next_begins}
-use Rattle.dm_read_laws.proofs.SoundFronts.{Gives, gives_some, gives_none, gives_then, gives_provided, behind, ends_with, kept, sees_colon, sees_assigns, sees_plus, sees_as, sees_wild, sees_int, reads_expr, reads_block}
+use Rattle.dm_read_laws.proofs.SoundSteps.{Front, Begins, next_begins}
+use Rattle.dm_read_laws.proofs.SoundFronts.{Gives, gives_some, gives_none, gives_then, gives_provided, behind, ends_with, kept, assigns_seen, colon_seen, plus_seen, as_seen, wild_seen, int_seen, reads_expr, reads_block}
 use Rattle.dm_read_laws.proofs.SoundPosts.{int_kind}
 use Rattle.dm_read_laws.proofs.SoundBase.{holds, plain_row}
 
@@ -41,7 +42,7 @@ first_stmt g s (block ss e) ts us c f p = (
 
 zero_same : (l : Literal) → is_zero l ≡ true → l.span ≡ nowhere → l ≡ record { kind = Int; text = codes "0"; span = nowhere }
 zero_same l e s =
-    let p : (is_int l.kind ≡ true) × (bytes_eq l.text (codes "0") ≡ true) = both_true (is_int l.kind) (bytes_eq l.text (codes "0")) e in
+    let p : (is_int l.kind ≡ true) × (bytes_eq l.text (codes "0") ≡ true) = and_parts (is_int l.kind) (bytes_eq l.text (codes "0")) e in
     ap (λ x. record { kind = x; text = l.text; span = l.span }) (int_kind l.kind p.0) ∙
     (ap (λ x. record { kind = Int; text = x; span = l.span }) ((bytes_eq-Decides l.text (codes "0")).0 p.1) ∙
     ap (λ x. record { kind = Int; text = codes "0"; span = x }) s)
@@ -120,8 +121,8 @@ module _ (g : LeafGrammar) (r : Readers) (S : Sound g r) where
   use_row : (ts us : Trees) (x : Next) → Front (k.word (codes "use")) ts us → Begins us x → Gives (use_from r x) (Inside g ts)
   use_row ts us x f b =
       gives_then (plain_row g r S us x f.1 b) (λ a p.
-      gives_then (sees_as a.1 p.1.1) (λ vs q.
-      gives_then (sees_wild vs q.1) (λ ws t.
+      gives_then (as_seen a.1 (next a.1) (next_begins a.1 p.1.1)) (λ vs q.
+      gives_then (wild_seen vs (next vs) (next_begins vs q.1)) (λ ws t.
       ended_row (import_stmt a.0) (join (k.word (codes "use")) (join (path_trees nowhere a.0) (join (k.word (codes "as")) (k.word (codes "_"))))) ts ws
       (next ws) p.0 (import_shape a.0)
       (behind (k.word (codes "use")) (join (path_trees nowhere a.0) (join (k.word (codes "as")) (k.word (codes "_")))) f
@@ -135,10 +136,10 @@ module _ (g : LeafGrammar) (r : Readers) (S : Sound g r) where
       Gives (const_is r i us) (Inside g ts)
   const_is_row i ts us c f =
       gives_then (reads_type us f.1) (λ a p.
-      gives_then (sees_assigns a.1 p.1.1) (λ vs q.
+      gives_then (assigns_seen a.1 (next a.1) (next_begins a.1 p.1.1)) (λ vs q.
       gives_then (begin_row vs (next vs) (next_begins vs q.1)) (λ o w.
-      gives_then (sees_plus o.1 w.1.1) (λ ws y.
-      gives_then (sees_int ws y.1) (λ l z.
+      gives_then (plus_seen o.1 (next o.1) (next_begins o.1 w.1.1)) (λ ws y.
+      gives_then (int_seen ws (next ws) (next_begins ws y.1)) (λ l z.
       ended_row (const_stmt i a.0 o.0 l.0) (const_trees i a.0 o.0 l.0) ts l.1 (next l.1) ((c, p.0), (w.0, int_kind l.0.kind z.1))
       (const_shape i a.0 o.0 l.0)
       (behind (join (k.word (codes "const")) (join (name i) k.colon))
@@ -151,7 +152,7 @@ module _ (g : LeafGrammar) (r : Readers) (S : Sound g r) where
   const_row : (ts us : Trees) (x : Next) → Front (k.word (codes "const")) ts us → Begins us x → Gives (const_from r x) (Inside g ts)
   const_row ts us (a_name i vs) f x =
       gives_provided (is_name i) (λ c.
-      gives_then (sees_colon vs x.0.1) (λ ws q.
+      gives_then (colon_seen vs (next vs) (next_begins vs x.0.1)) (λ ws q.
       const_is_row i ts ws c (behind (k.word (codes "const")) (join (name i) k.colon) f (behind (name i) k.colon x.0 q))))
   const_row ts us _ f x = gives_none
 

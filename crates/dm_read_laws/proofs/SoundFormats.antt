@@ -1,7 +1,7 @@
 -- Formats and macros that were read are in the grammar and have the tokens that were read, over readers of which that holds.
 use Rattle.std.specs.Prelude.{◌≡◌, ℕ, ◌==◌, ◌&&◌, cond, Bool, true, false, IsTrue, List, [], ◌∷◌, codes, Option, Some, None, refl}
 use Rattle.std.proofs.Common.{ap, ◌∙◌, sym}
-use Rattle.std.proofs.lemmas.Bool.{eqb-true}
+use Rattle.std.proofs.lemmas.Bool.{and_parts, eqb-true}
 use Rattle.dm_stream.specs.declared.tokens.Delim.TheVariants.{Paren}
 use Rattle.dm_stream.specs.declared.tokens.Spacing.{Spacing}
 use Rattle.dm_stream.specs.declared.tokens.Spacing.TheVariants.{Joint, Alone}
@@ -25,7 +25,9 @@ use Rattle.dm_reread.proofs.Laws.{fmt_tail}
 use Rattle.dm_reread.proofs.Words.{plainly}
 use Rattle.dm_read_laws.specs.Sound.{IsBare, Spells, SoundLeaves}
 use Rattle.dm_read_laws.proofs.SoundRows.{Sound}
-use Rattle.dm_read_laws.proofs.SoundSteps.{then_by, provided_some, cond_some, same_answer, bare_ident, bare_punct, bare_rest, is_word_same, Front, Begins, next_begins, comma_seen, both_true, punct_same}
+use Rattle.dm_read_laws.proofs.Answers.{then_by, provided_some, cond_some, same_answer}
+use Rattle.dm_read_laws.proofs.SoundSteps.{bare_ident, bare_punct, bare_rest, is_word_same, Front, Begins, next_begins, punct_same}
+use Rattle.dm_read_laws.proofs.SoundFronts.{comma_seen}
 
 -- ---- arguments of a format
 
@@ -66,8 +68,8 @@ alias_sound (token (t.Ident i) (token (t.Punct p) ts)) a bare e =
     cond_some ((is_alone p.spacing && (p.ch == 61)) && is_name i) (Some (i, ts)) None a (IsAliased (token (t.Ident i) (token (t.Punct p) ts)) a) e
     (λ h f.
     let c : ((is_alone p.spacing && (p.ch == 61)) ≡ true) × (is_name i ≡ true) =
-    both_true (is_alone p.spacing && (p.ch == 61)) (is_name i) h in
-    let d : (is_alone p.spacing ≡ true) × ((p.ch == 61) ≡ true) = both_true (is_alone p.spacing) (p.ch == 61) c.0 in
+    and_parts (is_alone p.spacing && (p.ch == 61)) (is_name i) h in
+    let d : (is_alone p.spacing ≡ true) × ((p.ch == 61) ≡ true) = and_parts (is_alone p.spacing) (p.ch == 61) c.0 in
     let b : (p.span ≡ nowhere) × IsBare ts = bare_punct p ts (bare_ident i (token (t.Punct p) ts) bare).1 in
     same_answer (IsAliased (token (t.Ident i) (token (t.Punct p) ts))) (i, ts) a f (
       (c.1, b.1),
@@ -119,9 +121,9 @@ three_words : (called : List ℕ) (a b c : Ident) → IsBare (path_trees nowhere
     path_of a b c ≡ path_of (plainly (codes "derive_more")) (plainly (codes "core")) (plainly called)
 three_words called a b c bare e =
     let w : ((is_word (codes "derive_more") a && is_word (codes "core") b) ≡ true) × (is_word called c ≡ true) =
-    both_true (is_word (codes "derive_more") a && is_word (codes "core") b) (is_word called c) e in
+    and_parts (is_word (codes "derive_more") a && is_word (codes "core") b) (is_word called c) e in
     let v : (is_word (codes "derive_more") a ≡ true) × (is_word (codes "core") b ≡ true) =
-    both_true (is_word (codes "derive_more") a) (is_word (codes "core") b) w.0 in
+    and_parts (is_word (codes "derive_more") a) (is_word (codes "core") b) w.0 in
     let two : Trees = join (k.joint 58 58) (join (name b) (join (k.joint 58 58) (name c))) in
     let one : Trees = join (k.joint 58 58) (name c) in
     let first : (a.span ≡ nowhere) × IsBare two = bare_ident a two bare in
@@ -178,7 +180,7 @@ module _ (g : LeafGrammar) (r : Readers) (S : Sound g r) where
       then_by (comma_after (next vs)) _ x (IsWritten ts x) h.1
       (λ us c e'. then_by (read_fmt r (next us)) _ x (IsWritten ts x) e'
       (λ f j q.
-      let m : Front k.comma vs us = comma_seen vs us (next vs) (next_begins vs b.0.1) c in
+      let m : Front k.comma vs us = (comma_seen vs (next vs) (next_begins vs b.0.1)).at us c in
       let d : IsFmtRead g us f = fmt_sound us (next us) f (next_begins us m.1) j in
       same_answer (IsWritten ts) (write_expr i f) x q
       (λ w. (

@@ -1,20 +1,22 @@
 -- What holds of each answer of a reader, step by step; and tokens that stand one behind the other.
 use Rattle.std.specs.Prelude.{◌≡◌, Bool, true, false, cond, codes, Option, Some, None, refl}
-use Rattle.std.proofs.Common.{ap, ◌∙◌, subst}
+use Rattle.std.proofs.Common.{ap, ◌∙◌}
+use Rattle.std.proofs.lemmas.Option.{none-some}
 use Rattle.dm_stream.specs.Trees.{Trees, no_trees, join}
 use Rattle.dm_output.specs.Output.{ExprTree, ExprTrees}
 use Rattle.dm_ast.specs.TypeTokens as syntax
 use Rattle.dm_output.specs.Tokens as k
 use Rattle.dm_output.specs.Tokens.{expr_trees, ended, each_named_expr, arms_trees, inside_trees}
 use Rattle.dm_reread.specs.Leaves.{LeafGrammar, Answer}
-use Rattle.dm_reread.specs.Next.{next}
-use Rattle.dm_reread.specs.Reading.{then, provided, is_int, whole, comma_after, leads_after, assigns_after, colon_after, plus_after, as_after, wild_after, int_after, Posts, Readers}
+use Rattle.dm_reread.specs.Next.{k_as, k_wild, Next, comma, colon, semicolon, assigns, plus, leads, literal, a_word}
+use Rattle.dm_reread.specs.Reading.{then, provided, is_int, whole, comma_after, semicolon_after, leads_after, assigns_after, colon_after, plus_after, as_after, wild_after, int_after, Posts, Readers}
 use Rattle.dm_reread.specs.Grammar.{Level, at_or, at_and, at_cmp, at_pre, Fits, IsExpr, Each, EachNamed, AreArms, IsBlock}
 use Rattle.dm_reread.proofs.Posts.{posts_trees, ArePosts}
 use Rattle.dm_reread.proofs.Laws.{tail}
 use Rattle.dm_read_laws.specs.Sound.{IsBare, Spells}
 use Rattle.dm_read_laws.proofs.SoundRows.{args_tail, Sound}
-use Rattle.dm_read_laws.proofs.SoundSteps.{some_same, whole_some, bare_rest, spells_then, Front, next_begins, comma_seen, leads_seen, assigns_seen, colon_seen, plus_seen, as_seen, wild_seen, int_seen}
+use Rattle.dm_read_laws.proofs.Answers.{then_by, whole_some, same_answer}
+use Rattle.dm_read_laws.proofs.SoundSteps.{bare_rest, spells_then, Front, Begins}
 
 -- ---- what holds of each answer
 
@@ -22,22 +24,14 @@ pub record Gives {A : Type 0} (o : Option A) (P : A → Type 0) : Type 0 where
   pub at : (a : A) → o ≡ Some a → P a
 
 pub gives_some : {A : Type 0} {P : A → Type 0} (a : A) → P a → Gives (Some a) P
-gives_some {A} {P} a p = record { at = λ b e. subst P (some_same a b e) p }
-
-none_at : {A : Type 0} (P : A → Type 0) (a : A) → None ≡ Some a → P a
-none_at P a e = absurd (cc)
+gives_some {A} {P} a p = record { at = λ b e. same_answer P a b e p }
 
 pub gives_none : {A : Type 0} {P : A → Type 0} → Gives None P
-gives_none {A} {P} = record { at = λ a e. none_at P a e }
-
-then_at : {A B : Type 0} (P : A → Type 0) (Q : B → Type 0) (o : Option A) (f : A → Option B) → Gives o P →
-    ((a : A) → P a → Gives (f a) Q) → (b : B) → then o f ≡ Some b → Q b
-then_at P Q None f h k b e = absurd (cc)
-then_at P Q (Some a) f h k b e = (k a (h.at a refl)).at b e
+gives_none {A} {P} = record { at = λ a e. absurd (none-some a e) }
 
 pub gives_then : {A B : Type 0} {P : A → Type 0} {Q : B → Type 0} {o : Option A} {f : A → Option B} → Gives o P →
     ((a : A) → P a → Gives (f a) Q) → Gives (then o f) Q
-gives_then {A} {B} {P} {Q} {o} {f} h k = record { at = λ b e. then_at P Q o f h k b e }
+gives_then {A} {B} {P} {Q} {o} {f} h k = record { at = λ b e. then_by o f b (Q b) e (λ a i j. (k a (h.at a i)).at b j) }
 
 pub gives_provided : {A : Type 0} {P : A → Type 0} {o : Option A} (b : Bool) → (b ≡ true → Gives o P) → Gives (provided b o) P
 gives_provided true h = h refl
@@ -79,29 +73,41 @@ kept own ts us h p = (p.0, (p.1, bare_rest own ts us h p.1))
 
 -- ---- what a place demands
 
-pub sees_comma : (ts : Trees) → IsBare ts → Gives (comma_after (next ts)) (λ us. Front k.comma ts us)
-sees_comma ts h = record { at = λ us e. comma_seen ts us (next ts) (next_begins ts h) e }
+pub comma_seen : (ts : Trees) (n : Next) → Begins ts n → Gives (comma_after n) (λ us. Front k.comma ts us)
+comma_seen ts (comma us) b = gives_some us b
+comma_seen ts _ b = gives_none
 
-pub sees_colon : (ts : Trees) → IsBare ts → Gives (colon_after (next ts)) (λ us. Front k.colon ts us)
-sees_colon ts h = record { at = λ us e. colon_seen ts us (next ts) (next_begins ts h) e }
+pub semicolon_seen : (ts : Trees) (n : Next) → Begins ts n → Gives (semicolon_after n) (λ us. Front k.semicolon ts us)
+semicolon_seen ts (semicolon us) b = gives_some us b
+semicolon_seen ts _ b = gives_none
 
-pub sees_assigns : (ts : Trees) → IsBare ts → Gives (assigns_after (next ts)) (λ us. Front k.assigns ts us)
-sees_assigns ts h = record { at = λ us e. assigns_seen ts us (next ts) (next_begins ts h) e }
+pub leads_seen : (ts : Trees) (n : Next) → Begins ts n → Gives (leads_after n) (λ us. Front (k.joint 61 62) ts us)
+leads_seen ts (leads us) b = gives_some us b
+leads_seen ts _ b = gives_none
 
-pub sees_plus : (ts : Trees) → IsBare ts → Gives (plus_after (next ts)) (λ us. Front (k.punct 43) ts us)
-sees_plus ts h = record { at = λ us e. plus_seen ts us (next ts) (next_begins ts h) e }
+pub assigns_seen : (ts : Trees) (n : Next) → Begins ts n → Gives (assigns_after n) (λ us. Front k.assigns ts us)
+assigns_seen ts (assigns us) b = gives_some us b
+assigns_seen ts _ b = gives_none
 
-pub sees_leads : (ts : Trees) → IsBare ts → Gives (leads_after (next ts)) (λ us. Front (k.joint 61 62) ts us)
-sees_leads ts h = record { at = λ us e. leads_seen ts us (next ts) (next_begins ts h) e }
+pub colon_seen : (ts : Trees) (n : Next) → Begins ts n → Gives (colon_after n) (λ us. Front k.colon ts us)
+colon_seen ts (colon us) b = gives_some us b
+colon_seen ts _ b = gives_none
 
-pub sees_as : (ts : Trees) → IsBare ts → Gives (as_after (next ts)) (λ us. Front (k.word (codes "as")) ts us)
-sees_as ts h = record { at = λ us e. as_seen ts us (next ts) (next_begins ts h) e }
+pub plus_seen : (ts : Trees) (n : Next) → Begins ts n → Gives (plus_after n) (λ us. Front (k.punct 43) ts us)
+plus_seen ts (plus us) b = gives_some us b
+plus_seen ts _ b = gives_none
 
-pub sees_wild : (ts : Trees) → IsBare ts → Gives (wild_after (next ts)) (λ us. Front (k.word (codes "_")) ts us)
-sees_wild ts h = record { at = λ us e. wild_seen ts us (next ts) (next_begins ts h) e }
+pub as_seen : (ts : Trees) (n : Next) → Begins ts n → Gives (as_after n) (λ us. Front (k.word (codes "as")) ts us)
+as_seen ts (a_word k_as us) b = gives_some us b
+as_seen ts _ b = gives_none
 
-pub sees_int : (ts : Trees) → IsBare ts → Gives (int_after (next ts)) (λ a. Front (syntax.literal a.0) ts a.1 × (is_int a.0.kind ≡ true))
-sees_int ts h = record { at = λ a e. int_seen ts a.1 a.0 (next ts) (next_begins ts h) e }
+pub wild_seen : (ts : Trees) (n : Next) → Begins ts n → Gives (wild_after n) (λ us. Front (k.word (codes "_")) ts us)
+wild_seen ts (a_word k_wild us) b = gives_some us b
+wild_seen ts _ b = gives_none
+
+pub int_seen : (ts : Trees) (n : Next) → Begins ts n → Gives (int_after n) (λ a. Front (syntax.literal a.0) ts a.1 × (is_int a.0.kind ≡ true))
+int_seen ts (literal l us) b = gives_provided (is_int l.kind) (λ c. gives_some (l, us) (b.0, c))
+int_seen ts _ b = gives_none
 
 -- ---- what readers give
 

@@ -1,8 +1,8 @@
 -- Implementations that were read are in the grammar and have the tokens that were read, over readers of any fuel of which that holds.
 use Rattle.std.specs.Prelude.{◌≡◌, ℕ, zero, suc, ◌+◌, ◌*◌, ◌==◌, ◌&&◌, ◌||◌, not, Bool, true, false, List, [], ◌∷◌, codes, map, Option, Some, None, refl}
 use Rattle.std.specs.Str.{bytes_eq}
-use Rattle.std.proofs.Common.{ap, ◌∙◌, sym, subst}
-use Rattle.std.proofs.lemmas.Bool.{eqb-true}
+use Rattle.std.proofs.Common.{ap, ap₂, ◌∙◌, sym, subst}
+use Rattle.std.proofs.lemmas.Bool.{and_parts, eqb-true}
 use Rattle.std.proofs.lemmas.Slice.Eq.{bytes_eq-Decides}
 use Rattle.dm_stream.specs.declared.tokens.Span.{Span}
 use Rattle.dm_stream.specs.declared.tokens.Delim.{Delim}
@@ -11,9 +11,11 @@ use Rattle.dm_stream.specs.declared.tokens.Spacing.{Spacing}
 use Rattle.dm_stream.specs.declared.tokens.Spacing.TheVariants.{Joint, Alone}
 use Rattle.dm_stream.specs.declared.tokens.Ident.{Ident}
 use Rattle.dm_stream.specs.declared.tokens.Punct.{Punct}
+use Rattle.dm_stream.specs.declared.tokens.Token.{Token}
 use Rattle.dm_stream.specs.declared.tokens.Token.TheVariants as t
 use Rattle.dm_stream.specs.Layout.{nowhere}
 use Rattle.dm_stream.specs.Trees.{Trees, no_trees, token, group, join, join_assoc, join-no_trees}
+use Rattle.dm_lexer.specs.Written.{unplaced_token}
 use Rattle.dm_ast.specs.Keywords.{is_name}
 use Rattle.dm_ast.specs.Spelling.{is_word}
 use Rattle.dm_ast.specs.Tree.{TypeTree}
@@ -34,7 +36,9 @@ use Rattle.dm_reread.specs.Items.{HeadTree, head_of, between_trees, ItemLeaves, 
 use Rattle.dm_reread.specs.ItemGrammar.{ItemGrammar, IsAssoc, AreAssocs, IsParam, IsOutput, IsMethod, AreMethods, IsItem, AreItems}
 use Rattle.dm_read_laws.specs.Sound.{IsBare, Spells, SoundLeaves, SoundItems}
 use Rattle.dm_read_laws.proofs.SoundRows.{Sound}
-use Rattle.dm_read_laws.proofs.SoundSteps.{then_by, provided_some, cond_some, whole_some, some_same, same_answer, bare_ident, bare_punct, bare_group, bare_rest, spells_then, spells_whole, is_word_same, both_true, Front, Begins, next_begins, assigns_seen, semicolon_seen, colon_seen}
+use Rattle.dm_read_laws.proofs.Answers.{then_by, provided_some, cond_some, whole_some, same_answer}
+use Rattle.dm_read_laws.proofs.SoundSteps.{bare_token, bare_group, bare_rest, spells_then, spells_whole, is_word_same, Front, Begins, next_begins}
+use Rattle.dm_read_laws.proofs.SoundFronts.{Gives, gives_some, gives_none, assigns_seen, semicolon_seen, colon_seen}
 
 -- ---- trees without ranges that are the same, ranges aside
 
@@ -50,53 +54,28 @@ same_spacing Joint Joint e = refl
 same_spacing Alone Joint e = absurd (cc)
 same_spacing Joint Alone e = absurd (cc)
 
-idents_same : (i j : Ident) → i.raw ≡ j.raw → i.name ≡ j.name → i.span ≡ j.span → i ≡ j
-idents_same i j r n s =
-    ap (λ x. record { name = x; raw = i.raw; span = i.span }) n ∙
-    (ap (λ x. record { name = j.name; raw = x; span = i.span }) r ∙ ap (λ x. record { name = j.name; raw = j.raw; span = x }) s)
+ident_by : (i j : Ident) → (((i.raw && j.raw) || not (i.raw || j.raw)) && bytes_eq i.name j.name) ≡ true →
+    unplaced_token (t.Ident i) ≡ unplaced_token (t.Ident j)
+ident_by i j e =
+    let h = and_parts ((i.raw && j.raw) || not (i.raw || j.raw)) (bytes_eq i.name j.name) e in
+    ap₂ (λ n r. t.Ident (record { name = n; raw = r; span = nowhere })) ((bytes_eq-Decides i.name j.name).0 h.1) (same_flag i.raw j.raw h.0)
 
-puncts_same : (p q : Punct) → p.spacing ≡ q.spacing → p.ch ≡ q.ch → p.span ≡ q.span → p ≡ q
-puncts_same p q f c s =
-    ap (λ x. record { ch = x; spacing = p.spacing; span = p.span }) c ∙
-    (ap (λ x. record { ch = q.ch; spacing = x; span = p.span }) f ∙ ap (λ x. record { ch = q.ch; spacing = q.spacing; span = x }) s)
+punct_by : (p q : Punct) →
+    (((is_alone p.spacing && is_alone q.spacing) || not (is_alone p.spacing || is_alone q.spacing)) && (p.ch == q.ch)) ≡ true →
+    unplaced_token (t.Punct p) ≡ unplaced_token (t.Punct q)
+punct_by p q e =
+    let h = and_parts ((is_alone p.spacing && is_alone q.spacing) || not (is_alone p.spacing || is_alone q.spacing)) (p.ch == q.ch) e in
+    ap₂ (λ c s. t.Punct (record { ch = c; spacing = s; span = nowhere })) (eqb-true p.ch q.ch h.1) (same_spacing p.spacing q.spacing h.0)
 
-abbrev ident_test : Ident → Ident → Bool
-ident_test i j = ((i.raw && j.raw) || not (i.raw || j.raw)) && bytes_eq i.name j.name
-
-abbrev punct_test : Punct → Punct → Bool
-punct_test p q = ((is_alone p.spacing && is_alone q.spacing) || not (is_alone p.spacing || is_alone q.spacing)) && (p.ch == q.ch)
-
-ident_by : (i j : Ident) → i.span ≡ nowhere → j.span ≡ nowhere → ident_test i j ≡ true → i ≡ j
-ident_by i j m n e =
-    let h : (((i.raw && j.raw) || not (i.raw || j.raw)) ≡ true) × (bytes_eq i.name j.name ≡ true) =
-    both_true ((i.raw && j.raw) || not (i.raw || j.raw)) (bytes_eq i.name j.name) e in
-    idents_same i j (same_flag i.raw j.raw h.0) ((bytes_eq-Decides i.name j.name).0 h.1) (m ∙ sym n)
-
-punct_by : (p q : Punct) → p.span ≡ nowhere → q.span ≡ nowhere → punct_test p q ≡ true → p ≡ q
-punct_by p q m n e =
-    let h : (((is_alone p.spacing && is_alone q.spacing) || not (is_alone p.spacing || is_alone q.spacing)) ≡ true) × ((p.ch == q.ch) ≡ true) =
-    both_true ((is_alone p.spacing && is_alone q.spacing) || not (is_alone p.spacing || is_alone q.spacing)) (p.ch == q.ch) e in
-    puncts_same p q (same_spacing p.spacing q.spacing h.0) (eqb-true p.ch q.ch h.1) (m ∙ sym n)
-
-idents_then : (i j : Ident) (ts us : Trees) → IsBare (token (t.Ident i) ts) → IsBare (token (t.Ident j) us) →
-    (ident_test i j && same_words ts us) ≡ true →
+tokens_then : (same : Bool) (j l : Token) (ts us : Trees) → IsBare (token j ts) → IsBare (token l us) → (same && same_words ts us) ≡ true →
+    (same ≡ true → unplaced_token j ≡ unplaced_token l) →
     (IsBare ts → IsBare us → same_words ts us ≡ true → ts ≡ us) →
-    token (t.Ident i) ts ≡ token (t.Ident j) us
-idents_then i j ts us b c e more =
-    let h : (ident_test i j ≡ true) × (same_words ts us ≡ true) = both_true (ident_test i j) (same_words ts us) e in
-    let m : (i.span ≡ nowhere) × IsBare ts = bare_ident i ts b in
-    let n : (j.span ≡ nowhere) × IsBare us = bare_ident j us c in
-    ap (λ x. token (t.Ident x) ts) (ident_by i j m.0 n.0 h.0) ∙ ap (token (t.Ident j)) (more m.1 n.1 h.1)
-
-puncts_then : (p q : Punct) (ts us : Trees) → IsBare (token (t.Punct p) ts) → IsBare (token (t.Punct q) us) →
-    (punct_test p q && same_words ts us) ≡ true →
-    (IsBare ts → IsBare us → same_words ts us ≡ true → ts ≡ us) →
-    token (t.Punct p) ts ≡ token (t.Punct q) us
-puncts_then p q ts us b c e more =
-    let h : (punct_test p q ≡ true) × (same_words ts us ≡ true) = both_true (punct_test p q) (same_words ts us) e in
-    let m : (p.span ≡ nowhere) × IsBare ts = bare_punct p ts b in
-    let n : (q.span ≡ nowhere) × IsBare us = bare_punct q us c in
-    ap (λ x. token (t.Punct x) ts) (punct_by p q m.0 n.0 h.0) ∙ ap (token (t.Punct q)) (more m.1 n.1 h.1)
+    token j ts ≡ token l us
+tokens_then same j l ts us b c e first more =
+    let h = and_parts same (same_words ts us) e in
+    let m = bare_token j ts b in
+    let n = bare_token l us c in
+    ap₂ (λ x y. token x y) (sym m.0 ∙ first h.0 ∙ n.0) (more m.1 n.1 h.1)
 
 groups_then : (d : Delim) (from : Span) (inside : Trees) (upto : Span) (ts : Trees) (start : Span) (behind : Trees) (stop : Span) (us : Trees) →
     IsBare (group d from inside upto ts) → IsBare (group d start behind stop us) →
@@ -105,7 +84,7 @@ groups_then : (d : Delim) (from : Span) (inside : Trees) (upto : Span) (ts : Tre
     (IsBare ts → IsBare us → same_words ts us ≡ true → ts ≡ us) →
     group d from inside upto ts ≡ group d start behind stop us
 groups_then d from inside upto ts start behind stop us b c e within more =
-    let h : (same_words inside behind ≡ true) × (same_words ts us ≡ true) = both_true (same_words inside behind) (same_words ts us) e in
+    let h : (same_words inside behind ≡ true) × (same_words ts us ≡ true) = and_parts (same_words inside behind) (same_words ts us) e in
     let m : ((from ≡ nowhere) × (upto ≡ nowhere)) × (IsBare inside × IsBare ts) = bare_group d from inside upto ts b in
     let n : ((start ≡ nowhere) × (stop ≡ nowhere)) × (IsBare behind × IsBare us) = bare_group d start behind stop us c in
     ap (λ x. group d x inside upto ts) (m.0.0 ∙ sym n.0.0) ∙
@@ -114,8 +93,10 @@ groups_then d from inside upto ts start behind stop us b c e within more =
 
 words_same : (ts us : Trees) → IsBare ts → IsBare us → same_words ts us ≡ true → ts ≡ us
 words_same no_trees no_trees b c e = refl
-words_same (token (t.Ident i) ts) (token (t.Ident j) us) b c e = idents_then i j ts us b c e (words_same ts us)
-words_same (token (t.Punct p) ts) (token (t.Punct q) us) b c e = puncts_then p q ts us b c e (words_same ts us)
+words_same (token (t.Ident i) ts) (token (t.Ident j) us) b c e =
+    tokens_then _ (t.Ident i) (t.Ident j) ts us b c e (ident_by i j) (words_same ts us)
+words_same (token (t.Punct p) ts) (token (t.Punct q) us) b c e =
+    tokens_then _ (t.Punct p) (t.Punct q) ts us b c e (punct_by p q) (words_same ts us)
 words_same (group Paren from inside upto ts) (group Paren start behind stop us) b c e =
     groups_then Paren from inside upto ts start behind stop us b c e (words_same inside behind) (words_same ts us)
 words_same (group Bracket from inside upto ts) (group Bracket start behind stop us) b c e =
@@ -147,7 +128,7 @@ among : (as' : List ItemAttr) (ts : Trees) (a : ItemAttr) → attr_among as' ts 
 among [] ts a e = absurd (cc)
 among (x ∷ xs) ts a e =
     cond_some (same_words (attr_inside x) ts) (Some x) (attr_among xs ts) a (same_words (attr_inside a) ts ≡ true) e
-    (λ h f. subst (λ y. same_words (attr_inside y) ts ≡ true) (some_same x a f) h) (λ h f. among xs ts a f)
+    (λ h f. same_answer (λ y. same_words (attr_inside y) ts ≡ true) x a f h) (λ h f. among xs ts a f)
 
 attr_same : (ts : Trees) (a : ItemAttr) → IsBare ts → attr_among all_attrs ts ≡ Some a → attr_inside a ≡ ts
 attr_same ts a bare e = words_same (attr_inside a) ts (attr_bare a) bare (among all_attrs ts a e)
@@ -202,10 +183,10 @@ module _ (g : LeafGrammar) (l : Leaves) (L : SoundLeaves g l) where
       (λ ws c e'. then_by (l.type ws) _ (x, us) (IsAssocRead g all (x, us)) e'
       (λ a m e''. then_by (semicolon_after (next a.1)) _ (x, us) (IsAssocRead g all (x, us)) e''
       (λ zs s f.
-      let p : Front k.assigns vs ws = assigns_seen vs ws (next vs) (next_begins vs b.0.1) c in
+      let p : Front k.assigns vs ws = (assigns_seen vs (next vs) (next_begins vs b.0.1)).at ws c in
       let d : g.IsType a.0 × Spells (type_trees a.0) ws a.1 = L.type ws a.1 a.0 p.1 m in
       let q : Front k.semicolon a.1 zs =
-      semicolon_seen a.1 zs (next a.1) (next_begins a.1 (bare_rest (type_trees a.0) ws a.1 p.1 d.1)) s in
+      (semicolon_seen a.1 (next a.1) (next_begins a.1 (bare_rest (type_trees a.0) ws a.1 p.1 d.1))).at zs s in
       same_answer (IsAssocRead g all) (record { name = i; ty = a.0 }, zs) (x, us) f (
         (h.0, d.0),
         spells_then (k.word (codes "type")) (join (name i) (join k.assigns (join (type_trees a.0) k.semicolon))) all ts zs w
@@ -259,7 +240,7 @@ module _ (g : LeafGrammar) (l : Leaves) (L : SoundLeaves g l) where
       then_by (colon_after (next vs)) _ p (IsParamRead ts p) h.1
       (λ us c e'. then_by (whole (l.type us)) _ p (IsParamRead ts p) e'
       (λ x m f.
-      let q : Front k.colon vs us = colon_seen vs us (next vs) (next_begins vs b.0.1) c in
+      let q : Front k.colon vs us = (colon_seen vs (next vs) (next_begins vs b.0.1)).at us c in
       let d : g.IsType x × (us ≡ type_trees x) = type_whole us x q.1 m in
       same_answer (IsParamRead ts) (record { name = i; ty = x }) p f
       ((h.0, d.0), b.0.0 ∙ ap (join (name i)) (q.0 ∙ ap (join k.colon) d.1))))
@@ -461,9 +442,9 @@ module _ (g : LeafGrammar) (l : Leaves) (L : SoundLeaves g l) where
 
 -- ---- implementations
 
-impl_seen : (ts us : Trees) (n : Next) → Begins ts n → impl_after n ≡ Some us → Front (k.word (codes "impl")) ts us
-impl_seen ts us (a_word k_impl vs) b e = subst (λ x. Front (k.word (codes "impl")) ts x) (some_same vs us e) b
-impl_seen ts us _ b e = absurd (cc)
+impl_seen : (ts : Trees) (n : Next) → Begins ts n → Gives (impl_after n) (λ us. Front (k.word (codes "impl")) ts us)
+impl_seen ts (a_word k_impl us) b = gives_some us b
+impl_seen ts _ b = gives_none
 
 abbrev members_trees : ItemTree → Trees
 members_trees i = join (in_turn (map assoc_trees i.assocs)) (in_turn (map method_trees i.methods))
@@ -522,7 +503,7 @@ module _ (g : ItemGrammar) (l : ItemLeaves) (S : SoundItems g l) (all : (n : ℕ
       (λ h q f.
       let w : AreAttrs ts a = attrs_sound (suc (size ts)) ts a.1 a.0 bare c in
       let p : Front (k.word (codes "impl")) a.1 vs =
-      impl_seen a.1 vs (next a.1) (next_begins a.1 (bare_rest (attrs_trees a.0) ts a.1 bare w)) m in
+      (impl_seen a.1 (next a.1) (next_begins a.1 (bare_rest (attrs_trees a.0) ts a.1 bare w))).at vs m in
       let d : g.IsHead h.0 × Spells (between_trees h.0) vs h.1 = S.head vs h.1 h.0 p.1 q in
       braces_sound a.0 h.0 ts h.1 us (next h.1) i d.0
       (spells_then (attrs_trees a.0) (join (k.word (codes "impl")) (between_trees h.0)) ts a.1 h.1 w

@@ -13,7 +13,7 @@ use Rattle.dm_output.specs.Tokens.{expr_trees}
 use Rattle.dm_reread.specs.Next.{Next, k_mut, k_return, oror, andand, equals, differs, star, amp, dot, asks, bar, in_parens, literal, a_name, a_word, next}
 use Rattle.dm_reread.specs.Leaves.{LeafGrammar, Answer}
 use Rattle.dm_reread.specs.Reading.{then, whole, closure_from, Posts, no_posts, p_member, p_call, p_map, p_map_err, p_question, apply, Readers, is_int, is_some_trees, is_map, is_map_err, method_from, map_from, map_err_from, after_member, member_from, read_posts, read_args, group_from, tuple_of, read_post, goes_on, ref_from_pre, read_mut_ref, read_ref, read_pre, after_pre, read_cmp, after_cmp, read_and, after_and, or_from, read_or, more_ands, more_ors, step}
-use Rattle.dm_reread.specs.Grammar.{at_and, at_cmp, at_pre, at_post, Fits, is_group, is_two, is_any, IsExpr, Each}
+use Rattle.dm_reread.specs.Grammar.{Level, at_and, at_cmp, at_pre, at_post, Fits, is_group, is_two, is_any, IsExpr, Each}
 use Rattle.dm_reread.proofs.Passing.{not_parens}
 use Rattle.dm_reread.proofs.Posts.{posts_trees}
 use Rattle.dm_reread.proofs.Laws.{tail}
@@ -297,26 +297,24 @@ module _ (g : LeafGrammar) (r : Readers) (S : Sound g r) (O : GoesOn r) where
 
   -- ---- the tails of chains
 
+  -- one more operand behind its sign, and those behind it
+  chain_row : (l : Level) (sign : Trees) (b : Bool) (ts us : Trees) (first : Answer ExprTree) (others : Trees → Answer ExprTrees) →
+      Front sign ts us → Gives first (AnOperand g l b us) → ((vs : Trees) → IsBare vs → Gives (others vs) (AChain g l b sign vs)) →
+      Gives (then first (λ a. then (others a.1) (λ s. Some (expr_then a.0 s.0, s.1)))) (AChain g l b sign ts)
+  chain_row l sign b ts us first others x f m =
+      gives_then f (λ a p.
+      gives_then (m a.1 p.1.1) (λ s q.
+      gives_some (expr_then a.0 s.0, s.1)
+      ((p.0, q.0), behind sign (join (expr_trees a.0) (tail sign s.0)) x (behind (expr_trees a.0) (tail sign s.0) p.1 q.1))))
+
   ands_row : (b : Bool) (ts : Trees) (x : Next) → IsBare ts → Begins ts x → Gives (more_ands r b ts x) (AChain g at_cmp b (k.joint 38 38) ts)
   ands_row b ts (andand us) h x =
-      gives_then (cmp_row b us x.1) (λ a p.
-      gives_then (reads_ands g r S b a.1 p.1.1) (λ s q.
-      gives_some (expr_then a.0 s.0, s.1) (
-        (p.0, q.0),
-        behind (k.joint 38 38) (join (expr_trees a.0) (tail (k.joint 38 38) s.0)) x
-            (behind (expr_trees a.0) (tail (k.joint 38 38) s.0) p.1 q.1),
-      )))
+      chain_row at_cmp (k.joint 38 38) b ts us (read_cmp r b us) (r.ands b) x (cmp_row b us x.1) (reads_ands g r S b)
   ands_row b ts _ h x = gives_some (no_exprs, ts) (tt, nothing ts h)
 
   ors_row : (b : Bool) (ts : Trees) (x : Next) → IsBare ts → Begins ts x → Gives (more_ors r b ts x) (AChain g at_and b (k.joint 124 124) ts)
   ors_row b ts (oror us) h x =
-      gives_then (and_row b us x.1) (λ a p.
-      gives_then (reads_ors g r S b a.1 p.1.1) (λ s q.
-      gives_some (expr_then a.0 s.0, s.1) (
-        (p.0, q.0),
-        behind (k.joint 124 124) (join (expr_trees a.0) (tail (k.joint 124 124) s.0)) x
-            (behind (expr_trees a.0) (tail (k.joint 124 124) s.0) p.1 q.1),
-      )))
+      chain_row at_and (k.joint 124 124) b ts us (read_and r b us) (r.ors b) x (and_row b us x.1) (reads_ors g r S b)
   ors_row b ts _ h x = gives_some (no_exprs, ts) (tt, nothing ts h)
 
   pub sound_ands : (b : Bool) (ts us : Trees) (es : ExprTrees) → IsBare ts → more_ands r b ts (next ts) ≡ Some (es, us) →

@@ -15,7 +15,8 @@ use Rattle.dm_reread.specs.Grammar.{ArePlain, is_some_segment, IsPlainPath}
 use Rattle.dm_reread.proofs.Laws.{colons_tail}
 use Rattle.dm_read_laws.specs.Sound.{IsBare, Spells}
 use Rattle.dm_read_laws.proofs.SoundRows.{Sound}
-use Rattle.dm_read_laws.proofs.SoundSteps.{then_by, same_answer, spells_then, Begins, next_begins}
+use Rattle.dm_read_laws.proofs.Answers.{then_by, same_answer}
+use Rattle.dm_read_laws.proofs.SoundSteps.{spells_then, Begins, next_begins}
 
 -- segments at the front of a path, or behind `::`
 abbrev front_segments : SegmentTrees → Trees

@@ -22,7 +22,9 @@ use Rattle.dm_reread.specs.Grammar.{IsPlainPath, IsPattern, ArePatterns, AreName
 use Rattle.dm_reread.proofs.Laws.{bars_tail}
 use Rattle.dm_read_laws.specs.Sound.{IsBare, Spells}
 use Rattle.dm_read_laws.proofs.SoundRows.{Sound}
-use Rattle.dm_read_laws.proofs.SoundSteps.{then_by, provided_some, whole_some, same_answer, bare_rest, spells_then, spells_whole, Front, WordFront, Begins, next_begins, comma_seen}
+use Rattle.dm_read_laws.proofs.Answers.{then_by, provided_some, whole_some, same_answer}
+use Rattle.dm_read_laws.proofs.SoundSteps.{bare_rest, spells_then, spells_whole, Front, WordFront, Begins, next_begins}
+use Rattle.dm_read_laws.proofs.SoundFronts.{comma_seen}
 use Rattle.dm_read_laws.proofs.SoundPaths.{IsPathRead, plain_path_sound}
 
 abbrev IsPatternRead : Trees → PatternTree × Trees → Type 0
@@ -129,7 +131,7 @@ module _ (g : LeafGrammar) (r : Readers) (S : Sound g r) where
       (IsPattern x × IsBare vs) × (ts ≡ join (pattern_trees x) (join k.comma vs))
   comma_sound ts us vs x bare e f =
       let d : IsPatternRead ts (x, us) × IsBare us = first_sound ts us x bare e in
-      let c : Front k.comma us vs = comma_seen us vs (next us) (next_begins us d.1) f in
+      let c : Front k.comma us vs = (comma_seen us (next us) (next_begins us d.1)).at vs f in
       ((d.0.0, c.1), d.0.1 ∙ ap (join (pattern_trees x)) c.0)
 
   pair_sound : (all inside ts us : Trees) (x : PatternTree) → IsBare inside → Spells (k.enclosed Paren inside) all ts →

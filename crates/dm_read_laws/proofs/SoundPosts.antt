@@ -1,6 +1,7 @@
 -- Members, methods and `?`: what is read of them is in the grammar, and has the tokens that were read.
 use Rattle.std.specs.Prelude.{◌≡◌, Bool, true, false, not, ◌&&◌, T, codes, Some, refl}
 use Rattle.std.proofs.Common.{ap, ◌∙◌, sym, subst}
+use Rattle.std.proofs.lemmas.Bool.{not-true}
 use Rattle.dm_stream.specs.declared.tokens.Delim.TheVariants.{Paren}
 use Rattle.dm_stream.specs.declared.tokens.Ident.{Ident}
 use Rattle.dm_stream.specs.declared.tokens.LitKind.{LitKind}
@@ -70,10 +71,6 @@ plain_may i es e = subst (λ c. T (not (c && is_any es))) (sym e) tt
 empty_may : (i : Ident) → is_map_err i ≡ true → T (may_take i no_exprs)
 empty_may i e = subst (λ c. T (not (c && false))) (sym e) tt
 
-is_not : (b : Bool) → not b ≡ true → b ≡ false
-is_not true e = absurd (cc)
-is_not false e = refl
-
 module _ (g : LeafGrammar) (r : Readers) (S : Sound g r) where
   -- a method whose arguments are read
   method_row : (ts us : Trees) (i : Ident) (inside : Trees) → IsName i → is_map_err i ≡ false → IsBare inside →
@@ -85,7 +82,7 @@ module _ (g : LeafGrammar) (r : Readers) (S : Sound g r) where
       gives_then (reads_posts g r S us f.1) (λ s q.
       gives_some (p_call i a.0 s.0, s.1) (
         (((c, plain_may i a.0 n), p.1.0), q.0),
-        subst (λ x. Front (join (call_trees i x) (posts_trees s.0)) ts s.1) (p.1.1 ∙ ap (args_trees a.0) (is_not a.1 last))
+        subst (λ x. Front (join (call_trees i x) (posts_trees s.0)) ts s.1) (p.1.1 ∙ ap (args_trees a.0) (not-true a.1 last))
             (behind (call_trees i inside) (posts_trees s.0) f q.1),
       ))))
 

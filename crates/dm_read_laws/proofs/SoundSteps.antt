@@ -1,8 +1,8 @@
--- What a row of the reader read, from its answer; and which tokens stand first in trees without ranges, from what the reader sees there.
-use Rattle.std.specs.Prelude.{◌≡◌, ℕ, nat_eq, ◌==◌, ◌&&◌, not, cond, Bool, true, false, IsTrue, List, [], ◌∷◌, codes, Option, Some, None, refl}
+-- Which tokens stand first in trees without ranges, from what the reader sees there.
+use Rattle.std.specs.Prelude.{◌≡◌, ℕ, nat_eq, ◌==◌, ◌&&◌, not, cond, Bool, true, false, IsTrue, List, [], ◌∷◌, codes, refl}
 use Rattle.std.specs.Str.{bytes_eq}
-use Rattle.std.proofs.Common.{ap, ◌∙◌, sym, subst}
-use Rattle.std.proofs.lemmas.Bool.{eqb-true}
+use Rattle.std.proofs.Common.{ap, ap₂, ◌∙◌, sym, subst}
+use Rattle.std.proofs.lemmas.Bool.{and_parts, not-true, eqb-true}
 use Rattle.std.proofs.lemmas.Slice.Eq.{bytes_eq-Decides}
 use Rattle.dm_stream.specs.declared.tokens.Span.{Span}
 use Rattle.dm_stream.specs.declared.tokens.Delim.{Delim}
@@ -23,46 +23,8 @@ use Rattle.dm_ast.specs.TypeTokens as syntax
 use Rattle.dm_ast.specs.TypeTokens.{name}
 use Rattle.dm_output.specs.Tokens as k
 use Rattle.dm_reread.specs.Next.{Word, of_path, k_match, k_unsafe, k_true, k_false, k_let, k_if, k_ref, k_mut, k_wild, k_return, k_use, k_as, k_const, k_type, k_fn, k_impl, k_other, used_keywords, keyword_of, path_or_other, kind, Next, ended, oror, andand, equals, differs, star, amp, dot, asks, bangs, plus, less, hash, bar, comma, colon, semicolon, assigns, leads, arrow, colons, dots, in_parens, in_braces, in_brackets, literal, a_name, a_word, other, word_next, alone_next, pair_next, last_next, joint_next, punct_next, token_next, group_next, next}
-use Rattle.dm_reread.specs.Leaves.{Answer}
-use Rattle.dm_reread.specs.Reading.{then, provided, whole, is_int, comma_after, semicolon_after, leads_after, assigns_after, colon_after, plus_after, as_after, wild_after, int_after}
 use Rattle.dm_reread.proofs.Words.{plainly, path-kind}
 use Rattle.dm_read_laws.specs.Sound.{IsBare, Spells}
-
--- ---- steps of a row
-
--- the first of two steps gave something, from which the second gave the answer
-pub then_some : {A B : Type 0} → (o : Option A) (f : A → Option B) (r : B) → then o f ≡ Some r →
-    (a : A) × ((o ≡ Some a) × (f a ≡ Some r))
-then_some None f r e = absurd (cc)
-then_some (Some a) f r e = (a, (refl, e))
-
--- the same, to go on with
-pub then_by : {A B : Type 0} → (o : Option A) (f : A → Option B) (r : B) (P : Type 0) → then o f ≡ Some r →
-    ((a : A) → o ≡ Some a → f a ≡ Some r → P) → P
-then_by None f r P e h = absurd (cc)
-then_by (Some a) f r P e h = h a refl e
-
-pub provided_some : {A : Type 0} → (b : Bool) (o : Option A) (r : A) → provided b o ≡ Some r → (b ≡ true) × (o ≡ Some r)
-provided_some true o r e = (refl, e)
-provided_some false o r e = absurd (cc)
-
-pub cond_some : {A : Type 0} → (b : Bool) (o u : Option A) (r : A) (P : Type 0) → cond b o u ≡ Some r → (b ≡ true → o ≡ Some r → P) →
-    (b ≡ false → u ≡ Some r → P) → P
-cond_some true o u r P e h k = h refl e
-cond_some false o u r P e h k = k refl e
-
-pub whole_some : {A : Type 0} → (o : Answer A) (r : A) → whole o ≡ Some r → o ≡ Some (r, no_trees)
-whole_some None r e = absurd (cc)
-whole_some (Some (a, no_trees)) r e = let f : a ≡ r = cc in ap (λ x. Some (x, no_trees)) f
-whole_some (Some (a, token k ts)) r e = absurd (cc)
-whole_some (Some (a, group d from inside upto ts)) r e = absurd (cc)
-
-pub some_same : {A : Type 0} → (x y : A) → Some x ≡ Some y → x ≡ y
-some_same x y e = cc
-
--- what holds of one answer holds of the other, which is the same
-pub same_answer : {A : Type 0} → (P : A → Type 0) (x y : A) → Some x ≡ Some y → P x → P y
-same_answer P x y e p = subst P (some_same x y e) p
 
 -- ---- trees without ranges
 
@@ -86,37 +48,18 @@ bare_literal l ts b =
     let e : record { kind = l.kind; text = l.text; span = nowhere } ≡ l = cc in (sym (ap (λ (j : Literal). j.span) e), cc)
 
 -- trees one behind the other are without ranges where both are
-pub bare_parts : (own us : Trees) → IsBare (join own us) → IsBare own × IsBare us
+bare_parts : (own us : Trees) → IsBare (join own us) → IsBare own × IsBare us
 bare_parts no_trees us b = (refl, b)
 bare_parts (token k ts) us b =
-    let h : (unplaced_token k ≡ k) × IsBare (join ts us) = bare_token k (join ts us) b in
-    let i : IsBare ts × IsBare us = bare_parts ts us h.1 in
-    let first : unplaced_token k ≡ k = h.0 in
-    let more : unplaced ts ≡ ts = i.0 in
-    (cc, i.1)
+    let h = bare_token k (join ts us) b in
+    let i = bare_parts ts us h.1 in
+    (ap₂ (λ x y. token x y) h.0 i.0, i.1)
 bare_parts (group d from inside upto ts) us b =
-    let h : ((from ≡ nowhere) × (upto ≡ nowhere)) × (IsBare inside × IsBare (join ts us)) = bare_group d from inside upto (join ts us) b in
-    let i : IsBare ts × IsBare us = bare_parts ts us h.1.1 in
-    let open_at : from ≡ nowhere = h.0.0 in
-    let close_at : upto ≡ nowhere = h.0.1 in
-    let within : unplaced inside ≡ inside = h.1.0 in
-    let more : unplaced ts ≡ ts = i.0 in
-    (cc, i.1)
-
-pub bare_both : (own us : Trees) → IsBare own → IsBare us → IsBare (join own us)
-bare_both no_trees us b c = c
-bare_both (token k ts) us b c =
-    let h : (unplaced_token k ≡ k) × IsBare ts = bare_token k ts b in
-    let first : unplaced_token k ≡ k = h.0 in
-    let more : unplaced (join ts us) ≡ join ts us = bare_both ts us h.1 c in
-    cc
-bare_both (group d from inside upto ts) us b c =
-    let h : ((from ≡ nowhere) × (upto ≡ nowhere)) × (IsBare inside × IsBare ts) = bare_group d from inside upto ts b in
-    let open_at : from ≡ nowhere = h.0.0 in
-    let close_at : upto ≡ nowhere = h.0.1 in
-    let within : unplaced inside ≡ inside = h.1.0 in
-    let more : unplaced (join ts us) ≡ join ts us = bare_both ts us h.1.1 c in
-    cc
+    let h = bare_group d from inside upto (join ts us) b in
+    let i = bare_parts ts us h.1.1 in (
+      ap₂ (λ x y. group d x y nowhere (unplaced ts)) (sym h.0.0) h.1.0 ∙ ap₂ (λ x y. group d from inside x y) (sym h.0.1) i.0,
+      i.1,
+    )
 
 -- what is left is without ranges, and so is what was read
 pub bare_rest : (own ts us : Trees) → IsBare ts → Spells own ts us → IsBare us
@@ -196,12 +139,12 @@ ident_same i l r n s =
     ap (λ x. record { name = x; raw = i.raw; span = i.span }) n ∙
     (ap (λ x. record { name = l; raw = x; span = i.span }) r ∙ ap (λ x. record { name = l; raw = false; span = x }) s)
 
-word_parts : (l : List ℕ) (i : Ident) (b : Bool) → i.raw ≡ b → (not b && bytes_eq i.name l) ≡ true → (i.raw ≡ false) × (i.name ≡ l)
-word_parts l i true r e = absurd (cc)
-word_parts l i false r e = (r, (bytes_eq-Decides i.name l).0 e)
+-- a name that is this word is not raw, and has its letters
+pub word_parts : (l : List ℕ) (i : Ident) → is_word l i ≡ true → (i.raw ≡ false) × (i.name ≡ l)
+word_parts l i e = let p = and_parts (not i.raw) (bytes_eq i.name l) e in (not-true i.raw p.0, (bytes_eq-Decides i.name l).0 p.1)
 
 pub is_word_same : (l : List ℕ) (i : Ident) → is_word l i ≡ true → i.span ≡ nowhere → i ≡ plainly l
-is_word_same l i e s = let p : (i.raw ≡ false) × (i.name ≡ l) = word_parts l i i.raw refl e in ident_same i l p.0 p.1 s
+is_word_same l i e s = let p = word_parts l i e in ident_same i l p.0 p.1 s
 
 -- ---- what stands first
 
@@ -268,10 +211,6 @@ alone_begins p us s n b =
     (either ts (p.ch == 59) (semicolon us) _ (this 59) (either ts (p.ch == 61) (assigns us) _ (this 61)
     (either ts (p.ch == 124) (bar us) _ (this 124) (either ts (p.ch == 35) (hash us) other (this 35) tt))))))))))))
 
-pub both_true : (a b : Bool) → (a && b) ≡ true → (a ≡ true) × (b ≡ true)
-both_true true b e = (refl, e)
-both_true false b e = absurd (cc)
-
 pair_begins : (p q : Punct) (us : Trees) → p.spacing ≡ Joint → p.span ≡ nowhere → q.spacing ≡ Alone → q.span ≡ nowhere → IsBare us →
     Begins (token (t.Punct p) (token (t.Punct q) us)) (pair_next p.ch q.ch us)
 pair_begins p q us s n s' n' b =
@@ -279,9 +218,9 @@ pair_begins p q us s n s' n' b =
     let this : (c d : ℕ) → (nat_eq p.ch c && nat_eq q.ch d) ≡ true → Front (k.joint c d) ts us =
     λ c d e. (
       ap (λ x. token (t.Punct x) (token (t.Punct q) us))
-          (punct_same p c Joint (eqb-true p.ch c (both_true (nat_eq p.ch c) (nat_eq q.ch d) e).0) s n) ∙
+          (punct_same p c Joint (eqb-true p.ch c (and_parts (nat_eq p.ch c) (nat_eq q.ch d) e).0) s n) ∙
           ap (λ x. token (t.Punct record { ch = c; spacing = Joint; span = nowhere }) (token (t.Punct x) us))
-          (punct_same q d Alone (eqb-true q.ch d (both_true (nat_eq p.ch c) (nat_eq q.ch d) e).1) s' n'),
+          (punct_same q d Alone (eqb-true q.ch d (and_parts (nat_eq p.ch c) (nat_eq q.ch d) e).1) s' n'),
       b,
     ) in
     either ts ((p.ch == 58) && (q.ch == 58)) (colons us) _ (this 58 58) (either ts ((p.ch == 61) && (q.ch == 62)) (leads us) _ (this 61 62)
@@ -344,48 +283,3 @@ next_begins (token k ts) b = token_begins k ts b
 next_begins (group d from inside upto ts) b =
     let h : ((from ≡ nowhere) × (upto ≡ nowhere)) × (IsBare inside × IsBare ts) = bare_group d from inside upto ts b in
     group_begins d from inside upto ts h.0.0 h.0.1 h.1.0 h.1.1
-
--- the same, where it is known what the reader sees
-pub begins_with : (ts : Trees) (n : Next) → IsBare ts → next ts ≡ n → Begins ts n
-begins_with ts n b e = subst (Begins ts) e (next_begins ts b)
-
--- ---- what a place demands
-
-pub comma_seen : (ts us : Trees) (n : Next) → Begins ts n → comma_after n ≡ Some us → Front k.comma ts us
-comma_seen ts us (comma vs) b e = subst (λ x. Front k.comma ts x) (some_same vs us e) b
-comma_seen ts us _ b e = absurd (cc)
-
-pub semicolon_seen : (ts us : Trees) (n : Next) → Begins ts n → semicolon_after n ≡ Some us → Front k.semicolon ts us
-semicolon_seen ts us (semicolon vs) b e = subst (λ x. Front k.semicolon ts x) (some_same vs us e) b
-semicolon_seen ts us _ b e = absurd (cc)
-
-pub leads_seen : (ts us : Trees) (n : Next) → Begins ts n → leads_after n ≡ Some us → Front (k.joint 61 62) ts us
-leads_seen ts us (leads vs) b e = subst (λ x. Front (k.joint 61 62) ts x) (some_same vs us e) b
-leads_seen ts us _ b e = absurd (cc)
-
-pub assigns_seen : (ts us : Trees) (n : Next) → Begins ts n → assigns_after n ≡ Some us → Front k.assigns ts us
-assigns_seen ts us (assigns vs) b e = subst (λ x. Front k.assigns ts x) (some_same vs us e) b
-assigns_seen ts us _ b e = absurd (cc)
-
-pub colon_seen : (ts us : Trees) (n : Next) → Begins ts n → colon_after n ≡ Some us → Front k.colon ts us
-colon_seen ts us (colon vs) b e = subst (λ x. Front k.colon ts x) (some_same vs us e) b
-colon_seen ts us _ b e = absurd (cc)
-
-pub plus_seen : (ts us : Trees) (n : Next) → Begins ts n → plus_after n ≡ Some us → Front (k.punct 43) ts us
-plus_seen ts us (plus vs) b e = subst (λ x. Front (k.punct 43) ts x) (some_same vs us e) b
-plus_seen ts us _ b e = absurd (cc)
-
-pub as_seen : (ts us : Trees) (n : Next) → Begins ts n → as_after n ≡ Some us → Front (k.word (codes "as")) ts us
-as_seen ts us (a_word k_as vs) b e = subst (λ x. Front (k.word (codes "as")) ts x) (some_same vs us e) b
-as_seen ts us _ b e = absurd (cc)
-
-pub wild_seen : (ts us : Trees) (n : Next) → Begins ts n → wild_after n ≡ Some us → Front (k.word (codes "_")) ts us
-wild_seen ts us (a_word k_wild vs) b e = subst (λ x. Front (k.word (codes "_")) ts x) (some_same vs us e) b
-wild_seen ts us _ b e = absurd (cc)
-
-pub int_seen : (ts us : Trees) (l : Literal) (n : Next) → Begins ts n → int_after n ≡ Some (l, us) →
-    Front (syntax.literal l) ts us × (is_int l.kind ≡ true)
-int_seen ts us l (literal j vs) b e =
-    let h : (is_int j.kind ≡ true) × (Some (j, vs) ≡ Some (l, us)) = provided_some (is_int j.kind) (Some (j, vs)) (l, us) e in
-    same_answer (λ (x : Literal × Trees). Front (syntax.literal x.0) ts x.1 × (is_int x.0.kind ≡ true)) (j, vs) (l, us) h.1 (b.0, h.0)
-int_seen ts us l _ b e = absurd (cc)

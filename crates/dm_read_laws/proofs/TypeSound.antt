@@ -7,7 +7,6 @@ use Rattle.dm_stream.specs.Layout.{nowhere}
 use Rattle.dm_stream.specs.Trees.{Trees, no_trees, token, group, Stream}
 use Rattle.dm_lexer.specs.Written.{unplaced_token, unplaced}
 use Rattle.dm_ast.specs.declared.plain.Opaque.{Opaque}
-use Rattle.dm_ast.specs.declared.plain.PlainPath.{PlainPath}
 use Rattle.dm_ast.specs.declared.plain.AttrArgs.{AttrArgs}
 use Rattle.dm_ast.specs.declared.plain.AttrArgs.TheVariants as args
 use Rattle.dm_ast.specs.declared.plain.Attribute.{Attribute}
@@ -19,7 +18,7 @@ use Rattle.dm_ast.specs.TypeTokens.{type_trees}
 use Rattle.dm_read.proofs.Deciding.{IsRead}
 use Rattle.dm_read_types.specs.WholeReaders.{whole_type}
 use Rattle.dm_type_eq.specs.Unplaced as plain
-use Rattle.dm_type_eq.specs.Unplaced.{unplaced_trees, unplaced_stream, unplaced_opaque, unplaced_option, unplaced_plain, unplaced_args, unplaced_attribute, unplaced_lifetimes, unplaced_abi, unplaced_constant, unplaced_type, unplaced_node, unplaced_types, unplaced_maybe_type, unplaced_self, unplaced_bound, unplaced_bounds, unplaced_trait, unplaced_fn, unplaced_input, unplaced_inputs, unplaced_path, unplaced_segments, unplaced_segment, unplaced_arguments_of, unplaced_argument, unplaced_arguments, unplaced_maybe_arguments}
+use Rattle.dm_type_eq.specs.Unplaced.{unplaced_trees, unplaced_stream, unplaced_opaque, unplaced_option, unplaced_args, unplaced_attribute, unplaced_lifetimes, unplaced_abi, unplaced_constant, unplaced_type, unplaced_node, unplaced_types, unplaced_maybe_type, unplaced_self, unplaced_bound, unplaced_bounds, unplaced_trait, unplaced_fn, unplaced_input, unplaced_inputs, unplaced_path, unplaced_segments, unplaced_segment, unplaced_arguments_of, unplaced_argument, unplaced_arguments, unplaced_maybe_arguments}
 use Rattle.dm_reread.specs.BareTypes.{bare_ident, bare_lifetime, bare_stream, bare_opaque, bare_plain, bare_args, bare_attribute, bare_lifetimes, bare_abi, bare_constant, bare_type, bare_node, bare_types, bare_maybe_type, bare_self, bare_bound, bare_bounds, bare_trait, bare_function, bare_input, bare_inputs, bare_path, bare_segments, bare_segment, bare_arguments_of, bare_argument, bare_arguments, bare_maybe_arguments}
 use Rattle.dm_reread.specs.BareReading.{NaturalItems}
 use Rattle.dm_reread.specs.ReadBack.{item_leaves}
@@ -33,11 +32,11 @@ use Rattle.dm_read_laws.proofs.ExactSound.{is_read, natural_answer, exact_answer
 
 -- ---- without ranges in one way and the other: the parts that hold no types
 
-pub same_map : {A B : Type 0} (f g : A → B) → ((x : A) → f x ≡ g x) → (xs : List A) → map f xs ≡ map g xs
+same_map : {A B : Type 0} (f g : A → B) → ((x : A) → f x ≡ g x) → (xs : List A) → map f xs ≡ map g xs
 same_map f g h [] = refl
 same_map f g h (x ∷ xs) = ap₂ (λ y ys. y ∷ ys) (h x) (same_map f g h xs)
 
-pub same_option : {A : Type 0} (f g : A → A) → ((x : A) → f x ≡ g x) → (o : Option A) → option_map f o ≡ unplaced_option g o
+same_option : {A : Type 0} (f g : A → A) → ((x : A) → f x ≡ g x) → (o : Option A) → option_map f o ≡ unplaced_option g o
 same_option f g h None = refl
 same_option f g h (Some x) = ap Some (h x)
 
@@ -47,7 +46,7 @@ same_token (t.Lifetime l) = refl
 same_token (t.Literal l) = refl
 same_token (t.Punct p) = refl
 
-pub same_trees : (ts : Trees) → unplaced ts ≡ unplaced_trees ts
+same_trees : (ts : Trees) → unplaced ts ≡ unplaced_trees ts
 same_trees no_trees = refl
 same_trees (token k ts) = ap₂ (λ x y. token x y) (same_token k) (same_trees ts)
 same_trees (group d from inside upto ts) = ap₂ (λ x y. group d nowhere x nowhere y) (same_trees inside) (same_trees ts)
@@ -58,18 +57,15 @@ same_stream s = ap (λ x. record { trees = x; limit = 0 }) (same_trees s.trees)
 same_opaque : (o : Opaque) → bare_opaque o ≡ unplaced_opaque o
 same_opaque o = ap (λ x. record { tokens = x }) (same_stream o.tokens)
 
-same_plain : (p : PlainPath) → bare_plain p ≡ unplaced_plain p
-same_plain p = refl
-
 same_args : (a : AttrArgs) → bare_args a ≡ unplaced_args a
 same_args args.Absent = refl
 same_args (args.List d s) = ap (λ x. args.List d x) (same_stream s)
 same_args (args.Value o) = ap (λ x. args.Value x) (same_opaque o)
 
-pub same_attribute : (a : Attribute) → bare_attribute a ≡ unplaced_attribute a
+same_attribute : (a : Attribute) → bare_attribute a ≡ unplaced_attribute a
 same_attribute a = ap (λ x. record { path = bare_plain a.path; args = x; span = nowhere }) (same_args a.args)
 
-pub same_lifetimes : (ls : Lifetimes) → bare_lifetimes ls ≡ unplaced_lifetimes ls
+same_lifetimes : (ls : Lifetimes) → bare_lifetimes ls ≡ unplaced_lifetimes ls
 same_lifetimes None = refl
 same_lifetimes (Some ls) = refl
 
@@ -78,7 +74,7 @@ same_abi None = refl
 same_abi (Some None) = refl
 same_abi (Some (Some l)) = refl
 
-pub same_constant : (c : ConstArg) → bare_constant c ≡ unplaced_constant c
+same_constant : (c : ConstArg) → bare_constant c ≡ unplaced_constant c
 same_constant (constant.Literal m l) = refl
 same_constant (constant.Bool i) = refl
 same_constant (constant.Block s) = ap (λ x. constant.Block x) (same_stream s)
@@ -117,11 +113,11 @@ mutual
   same_self no_self = refl
   same_self (some_self x n) = ap (λ y. some_self y n) (same_type x)
 
-  pub same_bound : (b : BoundTree) → bare_bound b ≡ unplaced_bound b
+  same_bound : (b : BoundTree) → bare_bound b ≡ unplaced_bound b
   same_bound (outlives l) = refl
   same_bound (implements b) = ap implements (same_trait b)
 
-  same_bounds : (bs : BoundTrees) → bare_bounds bs ≡ unplaced_bounds bs
+  pub same_bounds : (bs : BoundTrees) → bare_bounds bs ≡ unplaced_bounds bs
   same_bounds no_bounds = refl
   same_bounds (bound_then b bs) = ap₂ (λ y z. bound_then y z) (same_bound b) (same_bounds bs)
 

@@ -88,7 +88,7 @@ fn format_args_call<'a>(fuel: usize, place: &mut Place<'_, 'a>) -> Result<Expr<'
 }
 
 /// The call of the macro with this path, by what stands in its parentheses: `derive_more::core::write`, or `format_args`. `fuel` is more
-/// than the number of its arguments. Refuses with `Syntax`, at a token's range or the end.
+/// than the number of its arguments. Refuses where its arguments aren't such a macro's.
 pub fn macro_call<'a>(
     path: &Path<'_>,
     fuel: usize,

@@ -52,8 +52,7 @@ fn is_closed(c: Cursor<'_, '_>) -> bool
     true
 }
 
-/// The value of a format's argument, up to a comma or the end. Refuses with `Syntax` where none stands there or one leaves a `<` or a `|`
-/// open.
+/// The value of a format's argument, up to a comma or the end. Refuses where none stands there, or one leaves a `<` or a `|` open.
 pub fn run<'a>(place: &mut Place<'_, 'a>) -> Result<Opaque<'a>, Error>
     ensures { Reads opaque_view closed_run place.old result place.new }
 {

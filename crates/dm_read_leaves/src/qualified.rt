@@ -155,7 +155,7 @@ fn qualified_of<'a>(found: Ty<'a>) -> Option<PathExpr<'a>>
     }
 }
 
-/// A qualified path. Refuses as [ty](crate::ty::ty).
+/// A qualified path, spaced as types are printed. Refuses as [ty](crate::ty::ty).
 pub fn qualified<'a>(place: &mut Place<'_, 'a>) -> Result<PathExpr<'a>, Error>
     ensures { Reads path_expr_view exact_qualified place.old result place.new }
 {

@@ -14,7 +14,7 @@ use dm_read_types::entry;
 use dm_stream::Error;
 
 /// The type in front, however it is spaced.
-pub(crate) fn front_type<'a>(place: &mut Place<'_, 'a>) -> Result<Ty<'a>, Error>
+pub fn front_type<'a>(place: &mut Place<'_, 'a>) -> Result<Ty<'a>, Error>
     ensures { Reads ty_view read_type place.old result place.new }
 {
     let mut input = Input::new(place.alloc(), 0, place.cursor());
@@ -23,7 +23,7 @@ pub(crate) fn front_type<'a>(place: &mut Place<'_, 'a>) -> Result<Ty<'a>, Error>
     Ok(found)
 }
 
-/// A type, spaced as types are printed. Refuses with `Syntax`, at a token's range or the end, and with `TooDeep` where it nests too deep.
+/// A type, spaced as types are printed. Refuses where none stands there, or one that nests deeper than 128.
 pub fn ty<'a>(place: &mut Place<'_, 'a>) -> Result<Ty<'a>, Error>
     ensures { Reads ty_view exact_type place.old result place.new }
 {

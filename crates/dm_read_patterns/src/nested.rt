@@ -13,7 +13,7 @@ use dm_output::Pattern;
 use dm_stream::{Error, Seq};
 
 /// A pattern, with at most `room` patterns in one another. Deeper ones want memory: that of the stack. `fuel` is a number that no list in it
-/// exceeds, nor how deep patterns nest there: with less, what is there isn't read. Refuses with `Syntax`, at a token's range or the end.
+/// exceeds, nor how deep patterns nest there: with less, what is there isn't read. Refuses where no pattern stands there.
 pub fn pattern<'a>(
     place: &mut Place<'_, 'a>,
     fuel: usize,

@@ -57,7 +57,7 @@ angled-bare : (xs : List Trees) →
     join (punct 60) (join (spaced comma true (map unplaced xs)) (punct 62))
 angled-bare xs = simp unplaced_parts
 
-params-bare : (ps : List ParamTree) → unplaced (params_trees ps) ≡ params_trees (map bare_param ps)
+pub params-bare : (ps : List ParamTree) → unplaced (params_trees ps) ≡ params_trees (map bare_param ps)
 params-bare [] = refl
 params-bare (p ∷ ps) =
     angled-bare (map param_trees (p ∷ ps)) ∙ ap (λ xs. join (punct 60) (join (spaced comma true xs) (punct 62))) (params-are-bare (p ∷ ps))
@@ -70,13 +70,13 @@ predicates-are-bare : (ps : List PredicateTree) → map unplaced (map predicate_
 predicates-are-bare [] = refl
 predicates-are-bare (p ∷ ps) = ap₂ (λ x xs. x ∷ xs) (predicate-bare p) (predicates-are-bare ps)
 
-where-bare : (ps : List PredicateTree) → unplaced (where_trees ps) ≡ where_trees (map bare_predicate ps)
+pub where-bare : (ps : List PredicateTree) → unplaced (where_trees ps) ≡ where_trees (map bare_predicate ps)
 where-bare [] = refl
 where-bare (p ∷ ps) =
     ap (join (word (codes "where")))
     (unplaced-spaced comma true (map predicate_trees (p ∷ ps)) ∙ ap (spaced comma true) (predicates-are-bare (p ∷ ps)))
 
-trait-bare : (p : Option PathTree) → unplaced (trait_trees p) ≡ trait_trees (option_map bare_path p)
+pub trait-bare : (p : Option PathTree) → unplaced (trait_trees p) ≡ trait_trees (option_map bare_path p)
 trait-bare None = refl
 trait-bare (Some p) = simp (path-bare, unplaced_parts)
 

@@ -28,7 +28,7 @@ pub ruleset unplaced_parts = (unplaced-join, unplaced-given, unplaced-spaced, un
 
 -- ---- paths, formats and members
 
-path-expr-bare : (q : MaybeSelf) (p : PathTree) → unplaced (path_expr_trees q p) ≡ path_expr_trees (bare_self q) (bare_path p)
+pub path-expr-bare : (q : MaybeSelf) (p : PathTree) → unplaced (path_expr_trees q p) ≡ path_expr_trees (bare_self q) (bare_path p)
 path-expr-bare no_self p = path-bare nowhere p
 path-expr-bare (some_self t position) (path_tree leading ss) = node-bare nowhere (path (some_self t position) (path_tree leading ss))
 

@@ -222,7 +222,7 @@ mutual
   again_bounds_left (bound_then b bs) u l =
       respells_next 43 (plain 43 refl) ends_bounds l (spell.each_bound nowhere (unplaced_bounds bs)) u (again_bound b l) (again_bounds_left bs u l)
 
-  again_bounds : (bs : BoundTrees) (u : Bool) {v w : Where} → Lower v w →
+  pub again_bounds : (bs : BoundTrees) (u : Bool) {v w : Where} → Lower v w →
       RespellsIf (Ending ends_bounds) (bounds bs u w) (bounds (unplaced_bounds bs) u v) (spell.listed 43 nowhere (spell.each_bound nowhere (unplaced_bounds bs)) u)
   again_bounds no_bounds u l = respells_none 43 (plain 43 refl) ends_bounds l u
   again_bounds (bound_then b bs) u l =

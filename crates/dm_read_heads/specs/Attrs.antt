@@ -1,0 +1,65 @@
+-- What an attribute's brackets hold, tree by tree.
+use Rattle.std.specs.Prelude.{ℕ, ◌==◌, ◌&&◌, not, cond, Bool, true, false, List, codes, Option, Some, None}
+use Rattle.std.specs.Str.{bytes_eq}
+use Rattle.dm_stream.specs.declared.tokens.Delim.TheVariants.{Paren}
+use Rattle.dm_stream.specs.declared.tokens.Token.TheVariants as t
+use Rattle.dm_stream.specs.Trees.{Trees, no_trees, token, group}
+use Rattle.dm_output.specs.declared.item.ItemAttr.{ItemAttr}
+use Rattle.dm_reread.specs.Next.{Next, hash, in_brackets, next}
+use Rattle.dm_reread.specs.Leaves.{Answer}
+use Rattle.dm_reread.specs.Reading.{then, provided, is_alone}
+use Rattle.dm_reread.specs.Items.{all_attrs, attr_among}
+use Rattle.dm_read_patterns.specs.declared.list.Turn.{Turn}
+use Rattle.dm_read_patterns.specs.declared.list.Turn.TheVariants.{One, End}
+
+-- what stands behind a word
+abbrev pub behind_word : List ℕ → Trees → Option Trees
+behind_word word (token (t.Ident i) ts) = provided (not i.raw && bytes_eq word i.name) (Some ts)
+behind_word word _ = None
+
+-- what stands behind a punct that stands alone
+abbrev pub behind_lone : ℕ → Trees → Option Trees
+behind_lone ch (token (t.Punct p) ts) = provided (is_alone p.spacing && (ch == p.ch)) (Some ts)
+behind_lone ch _ = None
+
+-- what stands behind a punct that touches what follows
+abbrev pub behind_joint : ℕ → Trees → Option Trees
+behind_joint ch (token (t.Punct p) ts) = provided (not (is_alone p.spacing) && (ch == p.ch)) (Some ts)
+behind_joint ch _ = None
+
+-- the inside of parentheses that nothing follows
+abbrev pub in_last_parens : Trees → Option Trees
+in_last_parens (group Paren from inside upto no_trees) = Some inside
+in_last_parens _ = None
+
+-- the inside of parentheses behind a word
+abbrev pub inside_of : List ℕ → Trees → Option Trees
+inside_of word ts = then (behind_word word ts) in_last_parens
+
+-- what stands behind `dead_code ,`
+abbrev pub behind_dead_code : Trees → Option Trees
+behind_dead_code ts = then (behind_word (codes "dead_code") ts) (behind_lone 44)
+
+-- what stands behind `clippy ::`
+abbrev pub behind_clippy : Trees → Option Trees
+behind_clippy ts = then (behind_word (codes "clippy") ts) (λ us. then (behind_joint 58 us) (behind_lone 58))
+
+-- whether there is something for which a test holds
+abbrev pub holds : {A : Type 0} → Option A → (A → Bool) → Bool
+holds None test = false
+holds (Some x) test = test x
+
+-- ---- lists of attributes
+
+-- an attribute in brackets
+abbrev pub attr_at : Next → Answer ItemAttr
+attr_at (in_brackets inside ts) = then (attr_among all_attrs inside) (λ a. Some (a, ts))
+attr_at _ = None
+
+abbrev pub attr_turn_at : Trees → Next → Answer (Turn ItemAttr (Unit {0}))
+attr_turn_at ts (hash us) = then (attr_at (next us)) (λ a. Some (One a.0, a.1))
+attr_turn_at ts _ = Some (End tt, ts)
+
+-- `#` and an attribute in brackets
+abbrev pub attr_turn : ℕ → Trees → Answer (Turn ItemAttr (Unit {0}))
+attr_turn n ts = attr_turn_at ts (next ts)

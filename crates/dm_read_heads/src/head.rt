@@ -1,0 +1,268 @@
+//! Heads: what stands between `impl` and the brace.
+#![tactic(auto, using(crate::proofs::HeadSteps::head_steps))]
+
+ghost use Rattle.std.specs.Prelude.{◌≡◌, true, map, option_map};
+ghost use Rattle.dm_ast.specs.Tree.{ty_view, path_view};
+ghost use Rattle.dm_ast.specs.Declarations.{param_view, predicate_view};
+ghost use Rattle.dm_read_decl.specs.ShapeViews.{angled_view, clause_view};
+ghost use Rattle.dm_reread.specs.HeadLeaves as plain;
+ghost use Rattle.dm_reread.specs.ExactLeaves.{exact_head};
+ghost use Rattle.dm_read_patterns.specs.Reads.{Reads};
+ghost use Rattle.dm_read_heads.specs.Heads as spec;
+ghost use Rattle.dm_read_heads.specs.Heads.{head_view};
+ghost use Rattle.dm_read_heads.specs.Named.{named_view, behind_view};
+
+use dm_ast::{GenericParam, Path, Ty, TyNode, WherePredicate};
+use dm_input::Input;
+use dm_input::join::joined;
+use dm_read::token::{behind, sees_word};
+use dm_read_decl::generics::{generics, where_clause};
+use dm_read_leaves::exact::exact;
+use dm_read_leaves::ty::front_type;
+use dm_read_patterns::place::Place;
+use dm_stream::{Error, Punctuated, Seq};
+
+/// What stands between `impl` and the brace: parameters, perhaps a trait, the type, and predicates.
+#[derive(Drop)]
+pub struct Head<'a> {
+    pub params: Seq<GenericParam<'a>>,
+    pub trait_path: Option<Path<'a>>,
+    pub ty: Ty<'a>,
+    pub predicates: Seq<WherePredicate<'a>>,
+}
+
+/// A trait's path where one stands before `for`, and the type.
+#[derive(Drop)]
+struct Named<'a> {
+    trait_path: Option<Path<'a>>,
+    ty: Ty<'a>,
+}
+
+// ---- parameters and predicates
+
+/// Whether `<` stands in front, and the parameters, however they are spaced.
+fn front_params<'a>(
+    place: &mut Place<'_, 'a>,
+) -> Result<(bool, Punctuated<GenericParam<'a>>), Error>
+    ensures { Reads angled_view plain.read_generics place.old result place.new }
+{
+    let mut input = Input::new(place.alloc(), 0, place.cursor());
+    match generics(&mut input) {
+        Ok(found) => {
+            place.go(input.cursor());
+            Ok(found)
+        }
+        Err(error) => Err(error),
+    }
+}
+
+/// The parameters alone.
+fn params<'a>(place: &mut Place<'_, 'a>) -> Result<Seq<GenericParam<'a>>, Error>
+    ensures { Reads (map param_view) spec.params_at place.old result place.new }
+{
+    let (_, found) = front_params(place)?;
+    Ok(found.items)
+}
+
+/// The predicates of a clause, none without it.
+fn predicates_of<'a>(
+    place: &Place<'_, 'a>,
+    clause: Option<Punctuated<WherePredicate<'a>>>,
+) -> Seq<WherePredicate<'a>>
+    ensures { map predicate_view result ≡ plain.predicates_in (clause_view clause.entry) }
+{
+    match clause {
+        Some(found) => found.items,
+        None => Seq::new(place.alloc()),
+    }
+}
+
+/// The clause in front, however it is spaced.
+fn front_clause<'a>(
+    place: &mut Place<'_, 'a>,
+) -> Result<Option<Punctuated<WherePredicate<'a>>>, Error>
+    ensures { Reads clause_view plain.read_where place.old result place.new }
+{
+    let mut input = Input::new(place.alloc(), 0, place.cursor());
+    match where_clause(&mut input) {
+        Ok(found) => {
+            place.go(input.cursor());
+            Ok(found)
+        }
+        Err(error) => Err(error),
+    }
+}
+
+/// Its predicates.
+fn predicates<'a>(place: &mut Place<'_, 'a>) -> Result<Seq<WherePredicate<'a>>, Error>
+    ensures { Reads (map predicate_view) spec.predicates_at place.old result place.new }
+{
+    let found = front_clause(place)?;
+    Ok(predicates_of(place, found))
+}
+
+// ---- the type, and the trait
+
+/// The path that a type is.
+#[tactic(auto, using(dm_ast::proofs::View::view_steps))]
+fn path_of<'a>(found: Ty<'a>) -> Option<Path<'a>>
+    ensures { option_map path_view result ≡ plain.path_in (ty_view found.entry) }
+{
+    let Ty { node, span: _ } = found;
+    match node {
+        TyNode::Path(qself, path) => match qself {
+            Some(_) => None,
+            None => Some(path),
+        },
+        TyNode::Paren(_) => None,
+        TyNode::Tuple(_) => None,
+        TyNode::Slice(_) => None,
+        TyNode::Array(_, _) => None,
+        TyNode::Reference(_, _, _) => None,
+        TyNode::Pointer(_, _) => None,
+        TyNode::BareFn(_) => None,
+        TyNode::TraitObject(_) => None,
+        TyNode::ImplTrait(_) => None,
+        TyNode::Infer => None,
+        TyNode::Never => None,
+        TyNode::Macro(_, _, _) => None,
+    }
+}
+
+/// A type behind `for`, and the path before it.
+fn type_behind<'a>(path: Path<'a>, place: &mut Place<'_, 'a>) -> Result<Named<'a>, Error>
+    ensures { Reads named_view (spec.behind_path (path_view path.entry)) place.old result place.new }
+{
+    place.go(behind(place.cursor()));
+    let (path, ty) = joined(path, front_type(place))?;
+    Ok(Named {
+        trait_path: Some(path),
+        ty,
+    })
+}
+
+/// The same, where the type before `for` is a path.
+fn implementing<'a>(found: Ty<'a>, place: &mut Place<'_, 'a>) -> Result<Named<'a>, Error>
+    ensures { Reads named_view (spec.type_behind (plain.path_in (ty_view found.entry))) place.old result place.new }
+{
+    match path_of(found) {
+        Some(path) => type_behind(path, place),
+        None => Err(place.refused()),
+    }
+}
+
+/// A type is the trait where `for` stands behind it.
+fn trait_first<'a>(found: Ty<'a>, place: &mut Place<'_, 'a>) -> Result<Named<'a>, Error>
+    ensures { Reads named_view (plain.trait_first (ty_view found.entry)) place.old result place.new }
+{
+    if sees_word("for", place.cursor()) {
+        return implementing(found, place);
+    }
+    Ok(Named {
+        trait_path: None,
+        ty: found,
+    })
+}
+
+fn named_type<'a>(place: &mut Place<'_, 'a>) -> Result<Named<'a>, Error>
+    ensures { Reads named_view plain.read_named place.old result place.new }
+{
+    let found = front_type(place)?;
+    trait_first(found, place)
+}
+
+// ---- the whole
+
+type Behind<'a> = (Named<'a>, Seq<WherePredicate<'a>>);
+
+/// What stands behind the parameters.
+fn behind_params<'a>(place: &mut Place<'_, 'a>) -> Result<Behind<'a>, Error>
+    ensures { Reads behind_view spec.behind_params place.old result place.new }
+{
+    let found = named_type(place)?;
+    joined(found, predicates(place))
+}
+
+/// The parts as one.
+fn head_of<'a>(params: Seq<GenericParam<'a>>, behind: Behind<'a>) -> Head<'a>
+    ensures { head_view result ≡ spec.made_head (map param_view params.entry) (behind_view behind.entry) }
+{
+    let (Named { trait_path, ty }, predicates) = behind;
+    Head {
+        params,
+        trait_path,
+        ty,
+        predicates,
+    }
+}
+
+/// A head, however it is spaced.
+fn front_head<'a>(place: &mut Place<'_, 'a>) -> Result<Head<'a>, Error>
+    ensures { Reads head_view plain.read_head place.old result place.new }
+{
+    let found = params(place)?;
+    let (found, behind) = joined(found, behind_params(place))?;
+    Ok(head_of(found, behind))
+}
+
+/// Whether a parameter has neither attributes nor a default.
+fn is_plain(param: &GenericParam<'_>) -> bool
+    ensures { result ≡ plain.is_plain (param_view param.now) }
+{
+    match param {
+        GenericParam::Lifetime(found) => found.attrs.is_empty(),
+        GenericParam::Ty(found) => found.attrs.is_empty() && found.default_ty.is_none(),
+        GenericParam::Const(found) => found.attrs.is_empty() && found.default_value.is_none(),
+    }
+}
+
+fn is_lifetime(param: &GenericParam<'_>) -> bool
+    ensures { result ≡ plain.is_lifetime (param_view param.now) }
+{
+    match param {
+        GenericParam::Lifetime(_) => true,
+        GenericParam::Ty(_) => false,
+        GenericParam::Const(_) => false,
+    }
+}
+
+/// Whether a parameter is as implementations have it, where lifetimes may still come or not.
+fn fits(param: &GenericParam<'_>, lifetimes: bool) -> bool
+    ensures { result ≡ spec.fits lifetimes (param_view param.now) }
+{
+    is_plain(param) && (lifetimes || !is_lifetime(param))
+}
+
+/// Whether parameters are as implementations have them: without attributes and defaults, lifetimes first.
+fn are_plain(params: &[GenericParam<'_>]) -> bool
+    ensures { result ≡ plain.are_plain true (map param_view params.now) }
+{
+    let mut lifetimes = true;
+    for param in params {
+        if !fits(param, lifetimes) {
+            return false;
+        }
+        lifetimes = is_lifetime(param);
+    }
+    true
+}
+
+/// A head with such parameters, however it is spaced.
+fn plain_head<'a>(place: &mut Place<'_, 'a>) -> Result<Head<'a>, Error>
+    ensures { Reads head_view plain.plain_head place.old result place.new }
+{
+    let found = front_head(place)?;
+    if !are_plain(found.params.as_slice()) {
+        return Err(place.refused());
+    }
+    Ok(found)
+}
+
+/// A head, spaced as heads are printed. Refused where none stands there.
+pub fn printed_head<'a>(place: &mut Place<'_, 'a>) -> Result<Head<'a>, Error>
+    ensures { Reads head_view exact_head place.old result place.new }
+{
+    let begun = place.cursor();
+    let found = plain_head(place)?;
+    exact(found, begun, place)
+}

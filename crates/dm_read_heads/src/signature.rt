@@ -1,0 +1,192 @@
+//! What a method takes and gives.
+#![tactic(auto, using(crate::proofs::MemberSteps::member_steps))]
+
+ghost use Rattle.std.specs.Prelude.{◌≡◌, None, Some, option_map};
+ghost use Rattle.dm_ast.specs.Tree.{ty_view};
+ghost use Rattle.dm_output.specs.Views.{method_param_view};
+ghost use Rattle.dm_reread.specs.Next.{next};
+ghost use Rattle.dm_reread.specs.Items as plain;
+ghost use Rattle.dm_reread.specs.ReadBack.{leaves};
+ghost use Rattle.dm_read_patterns.specs.Reads.{Reads, ReadsWhole};
+ghost use Rattle.dm_read_heads.specs.Members as spec;
+ghost use Rattle.dm_read_heads.specs.Signatures.{inputs_view, signature_view, named_view};
+
+use dm_ast::Ty;
+use dm_input::join::{ended, joined};
+use dm_output::{MethodParam, Receiver};
+use dm_read::token::is_word;
+use dm_read::words::is_name;
+use dm_read_leaves::ty::ty;
+use dm_read_patterns::front::{Keyword, Sign};
+use dm_read_patterns::place::Place;
+use dm_stream::{Delim, Error, Ident};
+
+/// What stands in a method's parentheses: its receiver, its parameter, both or none.
+#[derive(Drop)]
+pub struct Inputs<'a> {
+    pub receiver: Option<Receiver>,
+    pub param: Option<MethodParam<'a>>,
+}
+
+/// What a method takes, and the type that it gives, if one stands behind `->`.
+#[derive(Drop)]
+pub struct Signature<'a> {
+    pub inputs: Inputs<'a>,
+    pub output: Option<Ty<'a>>,
+}
+
+/// A type, to the end.
+fn last_type<'a>(place: &mut Place<'_, 'a>) -> Result<Ty<'a>, Error>
+    ensures { ReadsWhole ty_view spec.last_type place.old result }
+{
+    let found = ty(place)?;
+    ended(found, place.close())
+}
+
+/// `:` and a type, to the end.
+fn typed<'a>(place: &mut Place<'_, 'a>) -> Result<Ty<'a>, Error>
+    ensures { ReadsWhole ty_view spec.typed place.old result }
+{
+    place.colon()?;
+    last_type(place)
+}
+
+/// A name and its type, to the end.
+fn param<'a>(place: &mut Place<'_, 'a>) -> Result<MethodParam<'a>, Error>
+    ensures { ReadsWhole method_param_view spec.param_at place.old result }
+{
+    let name = place.declared()?;
+    let (name, ty) = joined(name, typed(place))?;
+    Ok(MethodParam { name, ty })
+}
+
+/// A parameter behind a receiver.
+fn with_param<'a>(receiver: Receiver, place: &mut Place<'_, 'a>) -> Result<Inputs<'a>, Error>
+    ensures { ReadsWhole inputs_view (spec.with_param receiver) place.old result }
+{
+    Ok(Inputs {
+        receiver: Some(receiver),
+        param: Some(param(place)?),
+    })
+}
+
+/// A comma, and a parameter behind a receiver.
+fn behind_comma<'a>(receiver: Receiver, place: &mut Place<'_, 'a>) -> Result<Inputs<'a>, Error>
+    ensures { ReadsWhole inputs_view (spec.behind_comma receiver) place.old result }
+{
+    place.comma()?;
+    with_param(receiver, place)
+}
+
+/// What stands behind `self`.
+fn behind_receiver<'a>(receiver: Receiver, place: &mut Place<'_, 'a>) -> Result<Inputs<'a>, Error>
+    ensures { ReadsWhole inputs_view (λ ts. plain.behind_receiver leaves receiver (next ts)) place.old result }
+{
+    if place.at_end() {
+        return Ok(Inputs {
+            receiver: Some(receiver),
+            param: None,
+        });
+    }
+    behind_comma(receiver, place)
+}
+
+/// `self`, and what stands behind it.
+fn receiver_first<'a>(receiver: Receiver, place: &mut Place<'_, 'a>) -> Result<Inputs<'a>, Error>
+    ensures { ReadsWhole inputs_view (λ ts. plain.self_from leaves receiver (next ts)) place.old result }
+{
+    let Some(name) = place.name() else {
+        return Err(place.refused());
+    };
+    if !is_word("self", name) {
+        return Err(place.refused());
+    }
+    behind_receiver(receiver, place)
+}
+
+/// What stands behind `&`.
+fn reference<'a>(place: &mut Place<'_, 'a>) -> Result<Inputs<'a>, Error>
+    ensures { ReadsWhole inputs_view (λ ts. plain.ref_input leaves (next ts)) place.old result }
+{
+    if place.take_keyword(Keyword::Mut) {
+        return receiver_first(Receiver::RefMut, place);
+    }
+    receiver_first(Receiver::Ref, place)
+}
+
+/// Whether a name that may be declared comes next.
+fn sees_declared(place: &Place<'_, '_>) -> bool
+    ensures { result ≡ spec.is_declared (next place.now) }
+{
+    let mut ahead = Place::new(place.alloc(), place.cursor());
+    match ahead.name() {
+        Some(name) => is_name(name),
+        None => false,
+    }
+}
+
+/// A parameter without a receiver.
+fn only_param<'a>(place: &mut Place<'_, 'a>) -> Result<Inputs<'a>, Error>
+    ensures { ReadsWhole inputs_view spec.only_param place.old result }
+{
+    Ok(Inputs {
+        receiver: None,
+        param: Some(param(place)?),
+    })
+}
+
+/// What stands in a method's parentheses.
+fn all_inputs<'a>(place: &mut Place<'_, 'a>) -> Result<Inputs<'a>, Error>
+    ensures { ReadsWhole inputs_view (λ ts. plain.read_inputs leaves (next ts)) place.old result }
+{
+    if place.at_end() {
+        return Ok(Inputs {
+            receiver: None,
+            param: None,
+        });
+    }
+    if place.take(Sign::Amp) {
+        return reference(place);
+    }
+    if sees_declared(place) {
+        return only_param(place);
+    }
+    receiver_first(Receiver::Value, place)
+}
+
+/// The same in their parentheses.
+fn inputs_in_parens<'a>(place: &mut Place<'_, 'a>) -> Result<Inputs<'a>, Error>
+    ensures { Reads inputs_view (λ ts. plain.inputs_after leaves (next ts)) place.old result place.new }
+{
+    let Some(mut inside) = place.group(Delim::Paren) else {
+        return Err(place.refused());
+    };
+    all_inputs(&mut inside)
+}
+
+/// `->` and a type, or nothing.
+fn output<'a>(place: &mut Place<'_, 'a>) -> Result<Option<Ty<'a>>, Error>
+    ensures { Reads (option_map ty_view) (λ ts. plain.output_after leaves ts (next ts)) place.old result place.new }
+{
+    if !place.take(Sign::Arrow) {
+        return Ok(None);
+    }
+    Ok(Some(ty(place)?))
+}
+
+/// Parameters in parentheses, and perhaps a type behind `->`.
+fn unnamed_signature<'a>(place: &mut Place<'_, 'a>) -> Result<Signature<'a>, Error>
+    ensures { Reads signature_view spec.signature_at place.old result place.new }
+{
+    let inputs = inputs_in_parens(place)?;
+    let (inputs, output) = joined(inputs, output(place))?;
+    Ok(Signature { inputs, output })
+}
+
+/// A method's name and what it takes and gives. Refused where they don't stand there.
+pub fn named_signature<'a>(place: &mut Place<'_, 'a>) -> Result<(Ident<'a>, Signature<'a>), Error>
+    ensures { Reads named_view spec.named_signature place.old result place.new }
+{
+    let name = place.declared()?;
+    joined(name, unnamed_signature(place))
+}
