@@ -1,5 +1,6 @@
 use dm_derive::derive_text;
-use dm_emit::{CloneEmitted, print_items};
+use dm_expansion::print_items;
+use dm_output_copy::CloneEmitted;
 use dm_tokens::{Error, Kind};
 use std::alloc::{AllocError, Global};
 

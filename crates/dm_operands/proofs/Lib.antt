@@ -1,6 +1,7 @@
 pub mod NameLaws
 pub mod BindingLaws
 pub mod ArmLaws
+pub mod FirstLaws
 pub mod PlaceLaws
 pub mod Builders
 pub mod ReadNames

@@ -17,19 +17,15 @@ use Rattle.dm_output.specs.Values.{Case, case_of_variant}
 use Rattle.dm_operands.specs.declared.cases.CaseRef.{CaseRef}
 use Rattle.dm_operands.specs.Marked.{MarkedCase, mark_case}
 use Rattle.dm_operands.specs.CaseViews.{case_view}
-use Rattle.dm_operands.specs.Places.{places, first_refusal, IsCaseWalked, AreCasesWalked}
+use Rattle.dm_operands.specs.Places.{places, first, first_refusal, IsCaseWalked, AreCasesWalked}
+use Rattle.dm_operands.proofs.FirstLaws.{first-both}
 
 pub or_none : (o : Option Refusal) → option_or o None ≡ o
 or_none None = refl
 or_none (Some r) = refl
 
 pub first-append : (ps qs : List (List Attribute)) → first_refusal (ps ++ qs) ≡ option_or (first_refusal ps) (first_refusal qs)
-first-append [] qs = refl
-first-append (p ∷ ps) qs =
-    elim (place_refusal p) as (λ o. option_or o (first_refusal (ps ++ qs)) ≡ option_or (option_or o (first_refusal ps)) (first_refusal qs)) [
-      | None ↦ first-append ps qs
-      | Some r ↦ refl
-    ]
+first-append ps qs = ap first (map-append place_refusal ps qs) ∙ first-both (map place_refusal ps) (map place_refusal qs)
 
 -- ---- one variant more
 

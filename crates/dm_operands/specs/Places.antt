@@ -24,23 +24,31 @@ attrs_of f = f.attrs
 abbrev pub places : Case → List (List Attribute)
 places c = c.attrs ∷ cond (is_skipped c.attrs) [] (map attrs_of (field_list c.fields))
 
+-- the first of some refusals that is there
+abbrev pub first : List (Option Refusal) → Option Refusal
+first [] = None
+first (r ∷ rs) = option_or r (first rs)
+
 -- the first refusal of places, each of which may be refused
 abbrev pub first_by : (List Attribute → Option Refusal) → List (List Attribute) → Option Refusal
-first_by refuses [] = None
-first_by refuses (p ∷ ps) = option_or (refuses p) (first_by refuses ps)
+first_by refuses ps = first (map refuses ps)
 
 abbrev pub first_refusal : List (List Attribute) → Option Refusal
 first_refusal ps = first_by place_refusal ps
 
--- a union is refused, at its word; a struct and an enum where the first of their places is
-abbrev pub refusal_of_shape : ShapeTree → List Case → Option Refusal
-refusal_of_shape (struct_shape word fs) cs = first_refusal (flat_map places cs)
-refusal_of_shape (enum_shape word vs) cs = first_refusal (flat_map places cs)
-refusal_of_shape (union_shape word fs) cs = Some (record { kind = WrongShape; span = word })
+-- a union is refused, at its word
+abbrev pub refused_union : ShapeTree → Option Refusal
+refused_union (struct_shape word fs) = None
+refused_union (enum_shape word vs) = None
+refused_union (union_shape word fs) = Some (record { kind = WrongShape; span = word })
+
+-- what a declaration may be refused for, in order: that it is a union, and each of its places
+abbrev pub refusals : Declaration → List (Option Refusal)
+refusals d = refused_union d.shape ∷ map place_refusal (flat_map places (cases d))
 
 -- the first refusal of a declaration
 abbrev pub refusal : Declaration → Option Refusal
-refusal d = refusal_of_shape d.shape (cases d)
+refusal d = first (refusals d)
 
 -- fields, each marked whether it is left out, or the first refusal of one
 abbrev pub AreFieldsMarked : (List Attribute → Option Refusal) → (List Attribute → Bool) → List FieldTree → Result (Vec FieldRef Global) Error → Type 0

@@ -16,6 +16,7 @@ use Rattle.dm_attr.specs.SkipRefusals.{unskipped_refusal}
 use Rattle.dm_operands.specs.declared.cases.CaseRef.{CaseRef}
 use Rattle.dm_operands.specs.Marked.{MarkedCase, form_of, mark_field, mark_case}
 use Rattle.dm_operands.specs.Places.{attrs_of, first_by}
+use Rattle.dm_operands.proofs.FirstLaws.{first-both}
 use Rattle.dm_operands.proofs.PlaceLaws.{or_none}
 use Rattle.dm_operators.specs.declared.operator.Form.TheVariants.{Structural, Unary}
 use Rattle.dm_operators.specs.declared.places.Plan.{Plan}
@@ -29,13 +30,6 @@ use Rattle.dm_operators.proofs.RefusalLaws.{unrefused-open}
 
 -- ---- the refusals step by step are the list of refusals
 
-first-append : (rs ss : List (Option Refusal)) → first (rs ++ ss) ≡ option_or (first rs) (first ss)
-first-append [] ss = refl
-first-append (r ∷ rs) ss = elim r as (λ o. option_or o (first (rs ++ ss)) ≡ option_or (option_or o (first rs)) (first ss)) [
-  | None ↦ first-append rs ss
-  | Some x ↦ refl
-]
-
 or-assoc : (a b c : Option Refusal) → option_or a (option_or b c) ≡ option_or (option_or a b) c
 or-assoc None b c = refl
 or-assoc (Some x) b c = refl
@@ -47,7 +41,7 @@ module _ (o : Operator) where
 
   fields-steps : (at : Span) (fs : List FieldTree) → first (fields_refusals o at fs) ≡ fields_refusal o at fs
   fields-steps at fs =
-      first-append (map (field_refusal o) fs) (refused_if (all_skipped o fs) AllSkipped at ∷ []) ∙
+      first-both (map (field_refusal o) fs) (refused_if (all_skipped o fs) AllSkipped at ∷ []) ∙
       ap (λ r. option_or r (option_or (refused_if (all_skipped o fs) AllSkipped at) None)) (each-field fs) ∙
       ap (option_or (first_by (skip_refusal o) (map attrs_of fs))) (or_none (refused_if (all_skipped o fs) AllSkipped at))
 
@@ -64,7 +58,7 @@ module _ (o : Operator) where
   variants-steps : (vs : List VariantTree) → first (flat_map (variant_refusals o) vs) ≡ first_variant o vs
   variants-steps [] = refl
   variants-steps (v ∷ vs) =
-      first-append (variant_refusals o v) (flat_map (variant_refusals o) vs) ∙
+      first-both (variant_refusals o v) (flat_map (variant_refusals o) vs) ∙
       ap (λ r. option_or r (first (flat_map (variant_refusals o) vs)))
       (unskipped-steps v.attrs (cond (is_unit v.fields) [] (fields_refusals o v.span (field_list v.fields))) ∙
       ap (option_or (unskipped_refusal o.method v.attrs)) (own-steps v)) ∙

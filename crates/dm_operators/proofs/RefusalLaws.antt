@@ -1,7 +1,7 @@
 -- What holds of a declaration that an operator doesn't refuse.
-use Rattle.std.proofs.Common.{◌≡◌, ℕ, zero, suc, List, [], ◌∷◌, ◌++◌, map, Bool, true, false, not, ◌||◌, ◌&&◌, Option, Some, None, codes, slice_get, refl, sym, ap, ◌∙◌, subst}
+use Rattle.std.proofs.Common.{◌≡◌, ℕ, zero, suc, List, [], ◌∷◌, map, Bool, true, false, not, ◌||◌, ◌&&◌, Option, Some, None, codes, slice_get, refl, sym, ap, ◌∙◌, subst}
 use Rattle.std.specs.Prelude.{flat_map}
-use Rattle.std.specs.Option.{option_or, is_some}
+use Rattle.std.specs.Option.{is_some}
 use Rattle.std.specs.Str.{bytes_eq}
 use Rattle.std.proofs.lemmas.Slice.Eq.{bytes_eq-Decides}
 use Rattle.dm_stream.specs.declared.tokens.Ident.{Ident}
@@ -22,29 +22,10 @@ use Rattle.dm_operators.specs.Operators.{Form, structural, scalar, unary, Operat
 use Rattle.dm_operators.specs.Attributes.{skipped_by, skips, reads_forward, forwards, form_by, form_in}
 use Rattle.dm_operators.specs.Meaning.{is_unit_in, case_of}
 use Rattle.dm_operators.specs.Refusals.{first, refused_if, reading_refusal, given_refusal, examined, unskipped_refusals, word_of, is_union, is_unit_struct, wrong_if, variant_refusals, shape_refusals, refusals_by, refusal}
+use Rattle.dm_operands.proofs.FirstLaws.{AllNone, first-none, none-front, none-behind}
 use Rattle.dm_operators.proofs.BinaryArms.{AreOpen}
 
 -- ---- lists of refusals
-
-abbrev pub AllNone : List (Option Refusal) → Type 0
-AllNone [] = Unit {0}
-AllNone (r ∷ rs) = (r ≡ None) × AllNone rs
-
-neither : (r s : Option Refusal) → option_or r s ≡ None → (r ≡ None) × (s ≡ None)
-neither None s h = (refl, h)
-neither (Some x) s h = absurd cc
-
-pub first-none : (rs : List (Option Refusal)) → first rs ≡ None → AllNone rs
-first-none [] h = tt
-first-none (r ∷ rs) h = let both = neither r (first rs) h in (both.0, first-none rs both.1)
-
-pub none-front : (rs ss : List (Option Refusal)) → AllNone (rs ++ ss) → AllNone rs
-none-front [] ss h = tt
-none-front (r ∷ rs) ss h = (h.0, none-front rs ss h.1)
-
-pub none-behind : (rs ss : List (Option Refusal)) → AllNone (rs ++ ss) → AllNone ss
-none-behind [] ss h = h
-none-behind (r ∷ rs) ss h = none-behind rs ss h.1
 
 none-in : {A : Type 0} (f : A → List (Option Refusal)) (xs : List A) (n : ℕ) (x : A) → AllNone (flat_map f xs) →
     slice_get xs n ≡ Some x → AllNone (f x)

@@ -1,7 +1,6 @@
 -- A declaration is refused nowhere exactly where the operator is derived for it.
-use Rattle.std.proofs.Common.{◌≡◌, ◌≢◌, ℕ, zero, suc, ◌<◌, List, [], ◌∷◌, ◌++◌, length, map, Bool, true, false, not, cond, ◌||◌, ◌&&◌, Option, Some, None, refl, ap, ◌∙◌, arith}
-use Rattle.std.specs.Prelude.{◌↔◌, All, flat_map, slice_index_or}
-use Rattle.std.specs.Option.{option_or}
+use Rattle.std.proofs.Common.{◌≡◌, ◌≢◌, List, [], ◌∷◌, map, Bool, true, false, not, cond, ◌||◌, ◌&&◌, Option, Some, None, refl, ap}
+use Rattle.std.specs.Prelude.{◌↔◌}
 use Rattle.dm_stream.specs.declared.error.Kind.{Kind}
 use Rattle.dm_stream.specs.declared.error.Kind.TheVariants.{WrongShape, AllSkipped, AttrSyntax}
 use Rattle.dm_stream.specs.declared.error.Refusal.{Refusal}
@@ -14,51 +13,16 @@ use Rattle.dm_attr.specs.SkipRefusals.{refusal_at}
 use Rattle.dm_operators.specs.Operators.{Form, structural, scalar, unary, Operator}
 use Rattle.dm_operators.specs.Attributes.{reads_forward, forward_among, forwards}
 use Rattle.dm_operators.specs.Meaning.{is_unit}
-use Rattle.dm_operators.specs.Refusals.{first, refused_if, reading_refusal, given_refusal, examined, unskipped_refusals, word_of, is_union, is_unit_struct, wrong_if, field_refusal, all_skipped, fields_refusals, variant_refusals, shape_refusals, refusals_by, refusal}
+use Rattle.dm_operators.specs.Refusals.{refused_if, reading_refusal, given_refusal, examined, unskipped_refusals, word_of, is_union, is_unit_struct, wrong_if, field_refusal, all_skipped, fields_refusals, variant_refusals, shape_refusals, refusals_by, refusal}
 use Rattle.dm_operators.specs.Valid.{IsPlain, AreGoodFields, IsGoodVariant, AreGoodParts, IsStructural, IsScalar, IsUnary, IsValidBy, IsValid}
-use Rattle.dm_operators.proofs.RefusalLaws.{AllNone, first-none, none-front, none-behind, not-refused, or-false, none-given}
+use Rattle.dm_operands.proofs.FirstLaws.{AllNone, first-none, none-first, none-front, none-behind, none-both, each-none, map-none}
+use Rattle.dm_operators.proofs.RefusalLaws.{not-refused, or-false, none-given}
 
 -- ---- lists of refusals
-
-none-first : (rs : List (Option Refusal)) → AllNone rs → first rs ≡ None
-none-first [] h = refl
-none-first (r ∷ rs) h = ap (λ (x : Option Refusal). option_or x (first rs)) h.0 ∙ none-first rs h.1
-
-none-both : (rs ss : List (Option Refusal)) → AllNone rs → AllNone ss → AllNone (rs ++ ss)
-none-both [] ss h k = k
-none-both (r ∷ rs) ss h k = (h.0, none-both rs ss h.1 k)
 
 unrefused-if : (b : Bool) (k : Kind) (at : Span) → b ≡ false → refused_if b k at ≡ None
 unrefused-if true k at h = absurd cc
 unrefused-if false k at h = refl
-
--- ---- the same of each item
-
-at_cons : {A : Type 0} (P : A → Type 0) (x : A) (xs : List A) → P x → All P xs → (k : ℕ) (d : A) → k < length (x ∷ xs) →
-    P (slice_index_or (x ∷ xs) k d)
-at_cons P x xs p h zero d lt = p
-at_cons P x xs p h (suc k) d lt = h k d (omega arith)
-
-all_behind : {A : Type 0} (P : A → Type 0) (x : A) (xs : List A) → All P (x ∷ xs) → All P xs
-all_behind P x xs h = λ k d lt. h (suc k) d (omega arith)
-
-each-none : {A : Type 0} (f : A → List (Option Refusal)) (P : A → Type 0) → ((x : A) → AllNone (f x) ↔ P x) → (xs : List A) →
-    AllNone (flat_map f xs) ↔ All P xs
-each-none {A} f P one [] = (λ h k d lt. absurd (omega arith), λ h. tt)
-each-none {A} f P one (x ∷ xs) =
-    let more = each-none f P one xs in (
-      λ h. at_cons P x xs ((one x).0 (none-front (f x) (flat_map f xs) h)) (more.0 (none-behind (f x) (flat_map f xs) h)),
-      λ h. none-both (f x) (flat_map f xs) ((one x).1 (h zero x (omega arith))) (more.1 (all_behind P x xs h)),
-    )
-
-map-none : {A : Type 0} (f : A → Option Refusal) (P : A → Type 0) → ((x : A) → (f x ≡ None) ↔ P x) → (xs : List A) →
-    AllNone (map f xs) ↔ All P xs
-map-none {A} f P one [] = (λ h k d lt. absurd (omega arith), λ h. tt)
-map-none {A} f P one (x ∷ xs) =
-    let more = map-none f P one xs in (
-      λ h. at_cons P x xs ((one x).0 h.0) (more.0 h.1),
-      λ h. ((one x).1 (h zero x (omega arith)), more.1 (all_behind P x xs h)),
-    )
 
 -- ---- attributes
 

@@ -1,6 +1,5 @@
 -- Which declarations an operator refuses, and where: the first refusal of those that derive_more looks for, in its order.
 use Rattle.std.specs.Prelude.{List, [], ◌∷◌, ◌++◌, map, flat_map, filter, Bool, true, false, not, cond, ◌||◌, ◌&&◌, Option, Some, None}
-use Rattle.std.specs.Option.{option_or}
 use Rattle.dm_stream.specs.declared.tokens.Span.{Span}
 use Rattle.dm_stream.specs.declared.error.Kind.{Kind}
 use Rattle.dm_stream.specs.declared.error.Kind.TheVariants.{WrongShape, AllSkipped}
@@ -9,18 +8,12 @@ use Rattle.dm_ast.specs.declared.plain.Attribute.{Attribute}
 use Rattle.dm_ast.specs.Declarations.{Declaration, FieldTree, VariantTree, ShapeTree, struct_shape, enum_shape, union_shape}
 use Rattle.dm_output.specs.Values.{is_enum, field_list}
 use Rattle.dm_attr.specs.Skips.{is_examined}
+pub use Rattle.dm_operands.specs.Places.{first}
 pub use Rattle.dm_attr.specs.SkipRefusals.{second_refusal, reading_refusal, given_refusal}
 use Rattle.dm_attr.specs.SkipRefusals.{refusal_among}
 use Rattle.dm_operators.specs.Operators.{Form, structural, scalar, unary, Operator}
 use Rattle.dm_operators.specs.Attributes.{skipped_under, reads_forward, forwards}
 use Rattle.dm_operators.specs.Meaning.{is_unit}
-
--- ---- lists of refusals that may be there
-
--- the first that is there
-abbrev pub first : List (Option Refusal) → Option Refusal
-first [] = None
-first (r ∷ rs) = option_or r (first rs)
 
 -- a refusal of this kind, if so
 abbrev pub refused_if : Bool → Kind → Span → Option Refusal

@@ -1,8 +1,8 @@
 -- A declaration is refused nowhere exactly where it is valid.
-use Rattle.std.proofs.Common.{◌≡◌, ◌≢◌, ℕ, zero, suc, ◌<◌, List, [], ◌∷◌, length, Bool, true, false, cond, filter, map, codes, Option, Some, None, Result, Ok, Err, refl, sym, ap, ◌∙◌, arith}
-use Rattle.std.specs.Option.{option_or}
-use Rattle.std.specs.Prelude.{◌↔◌, All, flat_map, slice_index_or}
-use Rattle.std.proofs.lemmas.List.Concat.{flat_map_single}
+use Rattle.std.proofs.Common.{◌≡◌, ◌≢◌, List, [], ◌∷◌, Bool, true, false, cond, filter, map, codes, Option, Some, None, Result, Ok, Err, refl, sym, ap, ◌∙◌, subst, ◌++◌}
+use Rattle.std.specs.Prelude.{◌↔◌, All, flat_map}
+use mathlib.Core.List.{map-map}
+use Rattle.std.proofs.lemmas.List.{map-append}
 use Rattle.dm_stream.specs.declared.error.Error.{Error}
 use Rattle.dm_stream.specs.declared.error.Error.TheVariants.{NoMemory, Refused}
 use Rattle.dm_stream.specs.declared.error.Kind.TheVariants.{AttrSyntax, AttrRepeated}
@@ -12,8 +12,8 @@ use Rattle.dm_ast.specs.Declarations.{Declaration, FieldTree, ShapeTree, struct_
 use Rattle.dm_output.specs.Values.{Text, Case, cases, field_list}
 use Rattle.dm_attr.specs.Skips.{Skipping, no, yes, bad, reads_skip, is_examined, skip_among, skip, or_else, is_skipped}
 use Rattle.dm_attr.specs.SkipRefusals.{refusal_at, refusal_among, or_those, place_refusal}
-use Rattle.dm_operands.specs.Places.{attrs_of, places, first_refusal, refusal_of_shape, refusal, IsWalked}
-use Rattle.dm_operands.proofs.PlaceLaws.{or_none, first-append}
+use Rattle.dm_operands.specs.Places.{attrs_of, places, refused_union, refusals, refusal, IsWalked}
+use Rattle.dm_operands.proofs.FirstLaws.{AllNone, first-none, none-first, map-none, each-none}
 use Rattle.dm_partial_eq.specs.Checks.{IsGood, IsGoodCase, IsNoUnion, IsValid, IsRefusedIfInvalid}
 
 -- ---- what is refused of a place, and what its attributes say
@@ -58,77 +58,54 @@ pub unrefused-place : (attrs : List Attribute) → (place_refusal attrs ≡ None
 unfolding place_refusal
 unrefused-place attrs = agree-both (filter (is_examined (codes "partial_eq")) attrs) (filter (is_examined (codes "eq")) attrs)
 
--- ---- several places
-
-both_none : (o p : Option Refusal) → option_or o p ≡ None → (o ≡ None) × (p ≡ None)
-both_none None p h = (refl, h)
-both_none (Some r) p h = absurd cc
-
-none_or : (o p : Option Refusal) → o ≡ None → p ≡ None → option_or o p ≡ None
-none_or None p h k = k
-none_or (Some r) p h k = cc
-
-at_cons : {A : Type 0} (P : A → Type 0) (x : A) (xs : List A) → P x → All P xs → (k : ℕ) (d : A) → k < length (x ∷ xs) → P (slice_index_or (x ∷ xs) k d)
-at_cons P x xs p h zero d lt = p
-at_cons P x xs p h (suc k) d lt = h k d (omega arith)
-
-all_behind : {A : Type 0} (P : A → Type 0) (x : A) (xs : List A) → All P (x ∷ xs) → All P xs
-all_behind P x xs h = λ k d lt. h (suc k) d (omega arith)
-
-all-unrefused : {A : Type 0} (g : A → List (List Attribute)) (P : A → Type 0) → ((x : A) → (first_refusal (g x) ≡ None) → P x) → (xs : List A) →
-    first_refusal (flat_map g xs) ≡ None → All P xs
-all-unrefused g P one [] h = λ k d lt. absurd (omega arith)
-all-unrefused g P one (x ∷ xs) h =
-    let b = both_none (first_refusal (g x)) (first_refusal (flat_map g xs)) (sym (first-append (g x) (flat_map g xs)) ∙ h) in
-    at_cons P x xs (one x b.0) (all-unrefused g P one xs b.1)
-
-none-refused : {A : Type 0} (g : A → List (List Attribute)) (P : A → Type 0) → ((x : A) → P x → first_refusal (g x) ≡ None) → (xs : List A) →
-    All P xs → first_refusal (flat_map g xs) ≡ None
-none-refused g P one [] h = refl
-none-refused g P one (x ∷ xs) h =
-    first-append (g x) (flat_map g xs) ∙
-    none_or (first_refusal (g x)) (first_refusal (flat_map g xs)) (one x (h zero x (omega arith))) (none-refused g P one xs (all_behind P x xs h))
-
 -- ---- fields, variants and declarations
 
 abbrev IsGoodField : FieldTree → Type 0
 IsGoodField f = IsGood f.attrs
 
-abbrev place_of : FieldTree → List (List Attribute)
-place_of f = f.attrs ∷ []
+good-fields : (fs : List FieldTree) → AllNone (map place_refusal (map attrs_of fs)) ↔ All IsGoodField fs
+good-fields fs =
+    let g = map-none (λ f. place_refusal f.attrs) IsGoodField (λ f. unrefused-place f.attrs) fs in
+    let e : map place_refusal (map attrs_of fs) ≡ map (λ f. place_refusal f.attrs) fs = map-map place_refusal attrs_of fs in
+    (λ h. g.0 (subst AllNone e h), λ h. subst AllNone (sym e) (g.1 h))
 
-unrefused-fields : (fs : List FieldTree) → (first_refusal (map attrs_of fs) ≡ None) ↔ All IsGoodField fs
-unrefused-fields fs =
-    let same : first_refusal (flat_map place_of fs) ≡ first_refusal (map attrs_of fs) = ap first_refusal (flat_map_single attrs_of fs) in (
-      λ e. all-unrefused place_of IsGoodField (λ f k. (unrefused-place f.attrs).0 (sym (or_none (place_refusal f.attrs)) ∙ k)) fs (same ∙ e),
-      λ h. sym same ∙ none-refused place_of IsGoodField (λ f k. or_none (place_refusal f.attrs) ∙ (unrefused-place f.attrs).1 k) fs h,
+good-case : (c : Case) → AllNone (map place_refusal (places c)) ↔ IsGoodCase c
+good-case c =
+    let fs = field_list c.fields in
+    let there : Bool → Type 0 = λ v. AllNone (map place_refusal (cond v [] (map attrs_of fs))) in (
+      λ h. record {
+        own = (unrefused-place c.attrs).0 h.0;
+        fields = λ kept. (good-fields fs).0 (subst there kept h.1);
+      },
+      λ g. (
+        (unrefused-place c.attrs).1 g.own,
+        (elim (is_skipped c.attrs) as (λ v. is_skipped c.attrs ≡ v → there v) [ true ↦ λ e. tt | false ↦ λ e. (good-fields fs).1 (g.fields e) ]) refl,
+      ),
     )
 
-good-case : (c : Case) → first_refusal (places c) ≡ None → IsGoodCase c
-good-case c h =
-    let fs = field_list c.fields in
-    let b = both_none (place_refusal c.attrs) (first_refusal (cond (is_skipped c.attrs) [] (map attrs_of fs))) h in
-    record {
-      own = (unrefused-place c.attrs).0 b.0;
-      fields = λ kept. (unrefused-fields fs).0 (sym (ap (λ v. first_refusal (cond v [] (map attrs_of fs))) kept) ∙ b.1);
-    }
+-- the refusals of each case, one behind the other
+by_case : (cs : List Case) → map place_refusal (flat_map places cs) ≡ flat_map (λ c. map place_refusal (places c)) cs
+by_case [] = refl
+by_case (c ∷ cs) =
+    map-append place_refusal (places c) (flat_map places cs) ∙ ap (λ rs. map place_refusal (places c) ++ rs) (by_case cs)
 
-case-unrefused : (c : Case) → IsGoodCase c → first_refusal (places c) ≡ None
-case-unrefused c g =
-    let fs = field_list c.fields in
-    none_or (place_refusal c.attrs) (first_refusal (cond (is_skipped c.attrs) [] (map attrs_of fs))) ((unrefused-place c.attrs).1 g.own)
-    ((elim (is_skipped c.attrs) as (λ v. is_skipped c.attrs ≡ v → first_refusal (cond v [] (map attrs_of fs)) ≡ None)
-    [ true ↦ λ e. refl | false ↦ λ e. (unrefused-fields fs).1 (g.fields e) ]) refl)
+good-cases : (cs : List Case) → AllNone (map place_refusal (flat_map places cs)) ↔ All IsGoodCase cs
+good-cases cs =
+    let g = each-none (λ c. map place_refusal (places c)) IsGoodCase good-case cs in
+    (λ h. g.0 (subst AllNone (by_case cs) h), λ h. subst AllNone (sym (by_case cs)) (g.1 h))
 
-unrefused-shape : (s : ShapeTree) (cs : List Case) → (refusal_of_shape s cs ≡ None) ↔ (IsNoUnion s × All IsGoodCase cs)
-unrefused-shape (struct_shape w fs) cs = (λ e. (tt, all-unrefused places IsGoodCase good-case cs e), λ h. none-refused places IsGoodCase case-unrefused cs h.1)
-unrefused-shape (enum_shape w vs) cs = (λ e. (tt, all-unrefused places IsGoodCase good-case cs e), λ h. none-refused places IsGoodCase case-unrefused cs h.1)
-unrefused-shape (union_shape w fs) cs = (λ e. absurd cc, λ h. absurd h.0)
+no_union : (s : ShapeTree) → (refused_union s ≡ None) ↔ IsNoUnion s
+no_union (struct_shape w fs) = (λ e. tt, λ h. refl)
+no_union (enum_shape w vs) = (λ e. tt, λ h. refl)
+no_union (union_shape w fs) = (λ e. absurd cc, λ h. absurd h)
 
 pub unrefused : (d : Declaration) → (refusal d ≡ None) ↔ IsValid d
-unrefused d =
-    let s = unrefused-shape d.shape (cases d) in
-    (λ e. record { no_union = (s.0 e).0; good = (s.0 e).1 }, λ v. s.1 (v.no_union, v.good))
+unrefused d = (
+  λ e.
+      let all = first-none (refusals d) e in
+      record { no_union = (no_union d.shape).0 all.0; good = (good-cases (cases d)).0 all.1 },
+  λ v. none-first (refusals d) ((no_union d.shape).1 v.no_union, (good-cases (cases d)).1 v.good),
+)
 
 -- what is answered by the first refusal is refused exactly where the declaration isn't valid
 pub valid : {A : Type 0} (d : Declaration) (Made : A → Type 0) (r : Result A Error) → IsWalked (refusal d) Made r → IsRefusedIfInvalid d r

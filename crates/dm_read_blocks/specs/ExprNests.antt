@@ -8,9 +8,11 @@ use Rattle.dm_output.specs.Views.{expr_view}
 use Rattle.dm_read_patterns.specs.Reads.{Reads}
 use Rattle.dm_read_patterns.specs.Turns.{rows}
 use Rattle.dm_read_blocks.specs.declared.sort.Sort.{Sort}
+use Rattle.dm_read_blocks.specs.declared.sort.Wanted.{Wanted}
 use Rattle.dm_read_blocks.specs.Sorts.{sorted}
 
-pub record ExprNests (room : ℕ) (pre : MutBor Trees → ℕ → ℕ → Sort → Type 0) (post : MutBor Trees → ℕ → ℕ → Sort → Result Expr Error → MutBor Trees → Type 0) : Type 0 where
-  pub callable : (old : MutBor Trees) (fuel : ℕ) (sort : Sort) → pre old fuel room sort
-  pub reads : (old new : MutBor Trees) (fuel : ℕ) (sort : Sort) (r : Result Expr Error) → post old fuel room sort r new →
+pub record ExprNests (room : ℕ) (pre : MutBor Trees → Wanted → Type 0) (post : MutBor Trees → Wanted → Result Expr Error → MutBor Trees → Type 0) : Type 0 where
+  pub callable : (old : MutBor Trees) (fuel : ℕ) (sort : Sort) → pre old (record { fuel = fuel; room = room; sort = sort })
+  pub reads : (old new : MutBor Trees) (fuel : ℕ) (sort : Sort) (r : Result Expr Error) →
+      post old (record { fuel = fuel; room = room; sort = sort }) r new →
       Reads expr_view (sorted sort (rows fuel)) old.now r new.now

@@ -13,7 +13,7 @@ ghost use Rattle.dm_read_blocks.specs.Turns.{value_behind, field_value};
 
 use crate::nodes::named_expr;
 use crate::rules::Exprs;
-use crate::sort::Sort;
+use crate::sort::Wanted;
 use dm_input::join::joined;
 use dm_output::{Expr, NamedExpr};
 use dm_read_patterns::list::{Rule, Turn, repeated};
@@ -27,11 +27,8 @@ struct ArgRule<'g, F> {
     rules: &'g Exprs<F>,
 }
 
-impl<
-    'g,
-    'a,
-    F: Copy + for<'t> Fn(&mut Place<'t, 'a>, usize, usize, Sort) -> Result<Expr<'a>, Error>,
-> Rule<'a> for ArgRule<'g, F> {
+impl<'g, 'a, F: Copy + for<'t> Fn(&mut Place<'t, 'a>, Wanted) -> Result<Expr<'a>, Error>> Rule<'a>
+    for ArgRule<'g, F> {
     ghost use Rattle.std.specs.Prelude.{Bool};
     ghost use Rattle.dm_output.specs.Output.{ExprTree};
     ghost use Rattle.dm_output.specs.Views.{expr_view};
@@ -72,11 +69,8 @@ struct FieldRule<'g, F> {
     rules: &'g Exprs<F>,
 }
 
-impl<
-    'g,
-    'a,
-    F: Copy + for<'t> Fn(&mut Place<'t, 'a>, usize, usize, Sort) -> Result<Expr<'a>, Error>,
-> Rule<'a> for FieldRule<'g, F> {
+impl<'g, 'a, F: Copy + for<'t> Fn(&mut Place<'t, 'a>, Wanted) -> Result<Expr<'a>, Error>> Rule<'a>
+    for FieldRule<'g, F> {
     ghost use Rattle.dm_stream.specs.declared.tokens.Ident.{Ident};
     ghost use Rattle.dm_output.specs.Output.{ExprTree};
     ghost use Rattle.dm_output.specs.Views.{named_expr_view};
@@ -111,10 +105,7 @@ impl<
     }
 }
 
-impl<
-    'a,
-    F: Copy + for<'t> Fn(&mut Place<'t, 'a>, usize, usize, Sort) -> Result<Expr<'a>, Error>,
-> Exprs<F> {
+impl<'a, F: Copy + for<'t> Fn(&mut Place<'t, 'a>, Wanted) -> Result<Expr<'a>, Error>> Exprs<F> {
     /// Arguments behind the first, and whether a comma stands behind the last.
     fn others(&self, place: &mut Place<'_, 'a>) -> Result<(Seq<Expr<'a>>, bool), Error>
         requires { ExprNests self.now.room (F.pre self.now.expr) (F.post self.now.expr) }

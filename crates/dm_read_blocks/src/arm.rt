@@ -14,7 +14,7 @@ ghost use Rattle.dm_read_blocks.specs.Rows as spec;
 
 use crate::nodes::{arm_of, block_body, expr_body};
 use crate::rules::Exprs;
-use crate::sort::Sort;
+use crate::sort::Wanted;
 use dm_input::join::{ended, joined};
 use dm_output::{Arm, ArmBody, Expr, Pattern};
 use dm_read_patterns::front::Keyword;
@@ -43,11 +43,8 @@ struct ArmRule<'g, F> {
     rules: &'g Exprs<F>,
 }
 
-impl<
-    'g,
-    'a,
-    F: Copy + for<'t> Fn(&mut Place<'t, 'a>, usize, usize, Sort) -> Result<Expr<'a>, Error>,
-> Rule<'a> for ArmRule<'g, F> {
+impl<'g, 'a, F: Copy + for<'t> Fn(&mut Place<'t, 'a>, Wanted) -> Result<Expr<'a>, Error>> Rule<'a>
+    for ArmRule<'g, F> {
     ghost use Rattle.dm_output.specs.Output.{ArmTree};
     ghost use Rattle.dm_output.specs.Views.{arm_view};
     ghost use Rattle.dm_read_blocks.specs.ExprNests.{ExprNests};
@@ -77,10 +74,7 @@ impl<
     }
 }
 
-impl<
-    'a,
-    F: Copy + for<'t> Fn(&mut Place<'t, 'a>, usize, usize, Sort) -> Result<Expr<'a>, Error>,
-> Exprs<F> {
+impl<'a, F: Copy + for<'t> Fn(&mut Place<'t, 'a>, Wanted) -> Result<Expr<'a>, Error>> Exprs<F> {
     /// `if` and a condition, or nothing.
     fn guard(&self, place: &mut Place<'_, 'a>) -> Result<Option<Expr<'a>>, Error>
         requires { ExprNests self.now.room (F.pre self.now.expr) (F.post self.now.expr) }

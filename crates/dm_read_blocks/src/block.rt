@@ -14,7 +14,7 @@ ghost use Rattle.dm_read_blocks.specs.Rows.{boxed_view};
 
 use crate::nodes::{block_of, do_of, let_of};
 use crate::rules::Exprs;
-use crate::sort::Sort;
+use crate::sort::Wanted;
 use crate::statement::{check, constant, import};
 use dm_input::join::{ended, joined};
 use dm_output::{Block, Expr, Stmt};
@@ -33,11 +33,8 @@ struct BlockRule<'g, F> {
     rules: &'g Exprs<F>,
 }
 
-impl<
-    'g,
-    'a,
-    F: Copy + for<'t> Fn(&mut Place<'t, 'a>, usize, usize, Sort) -> Result<Expr<'a>, Error>,
-> Rule<'a> for BlockRule<'g, F> {
+impl<'g, 'a, F: Copy + for<'t> Fn(&mut Place<'t, 'a>, Wanted) -> Result<Expr<'a>, Error>> Rule<'a>
+    for BlockRule<'g, F> {
     ghost use Rattle.dm_output.specs.Output.{StmtTree, MaybeExpr};
     ghost use Rattle.dm_output.specs.Views.{stmt_view};
     ghost use Rattle.dm_read_blocks.specs.ExprNests.{ExprNests};
@@ -112,10 +109,7 @@ fn value_end<'a>(
     Ok(Turn::One(do_of(value)))
 }
 
-impl<
-    'a,
-    F: Copy + for<'t> Fn(&mut Place<'t, 'a>, usize, usize, Sort) -> Result<Expr<'a>, Error>,
-> Exprs<F> {
+impl<'a, F: Copy + for<'t> Fn(&mut Place<'t, 'a>, Wanted) -> Result<Expr<'a>, Error>> Exprs<F> {
     /// `=` and an expression.
     fn assigned(&self, place: &mut Place<'_, 'a>) -> Result<Expr<'a>, Error>
         requires { ExprNests self.now.room (F.pre self.now.expr) (F.post self.now.expr) }

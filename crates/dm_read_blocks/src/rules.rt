@@ -9,7 +9,7 @@ ghost use Rattle.dm_read_patterns.specs.Turns.{rows};
 ghost use Rattle.dm_read_blocks.specs.ExprNests.{ExprNests};
 ghost use Rattle.dm_read_blocks.specs.Rows as spec;
 
-use crate::sort::Sort;
+use crate::sort::{Sort, Wanted};
 use dm_input::join::ended;
 use dm_output::Expr;
 use dm_read_patterns::place::Place;
@@ -26,10 +26,7 @@ pub struct Exprs<F> {
     pub expr: F,
 }
 
-impl<
-    'a,
-    F: Copy + for<'t> Fn(&mut Place<'t, 'a>, usize, usize, Sort) -> Result<Expr<'a>, Error>,
-> Exprs<F> {
+impl<'a, F: Copy + for<'t> Fn(&mut Place<'t, 'a>, Wanted) -> Result<Expr<'a>, Error>> Exprs<F> {
     /// The rules with other fuel.
     pub fn with(&self, fuel: usize) -> Exprs<F>
         ensures { result ≡ record { fuel = fuel; room = self.now.room; expr = self.now.expr } }
@@ -41,12 +38,23 @@ impl<
         }
     }
 
+    /// What is wanted of an expression in this one.
+    fn wanted(&self, sort: Sort) -> Wanted
+        ensures { result ≡ record { fuel = self.now.fuel; room = self.now.room; sort = sort } }
+    {
+        Wanted {
+            fuel: self.fuel,
+            room: self.room,
+            sort,
+        }
+    }
+
     /// An expression.
     pub fn whole(&self, braces: bool, place: &mut Place<'_, 'a>) -> Result<Expr<'a>, Error>
         requires { ExprNests self.now.room (F.pre self.now.expr) (F.post self.now.expr) }
         ensures { Reads expr_view ((rows self.now.fuel).expr braces) place.old result place.new }
     {
-        (self.expr)(place, self.fuel, self.room, Sort::Whole(braces))
+        (self.expr)(place, self.wanted(Sort::Whole(braces)))
     }
 
     /// An operand.
@@ -54,7 +62,7 @@ impl<
         requires { ExprNests self.now.room (F.pre self.now.expr) (F.post self.now.expr) }
         ensures { Reads expr_view ((rows self.now.fuel).pre braces) place.old result place.new }
     {
-        (self.expr)(place, self.fuel, self.room, Sort::Operand(braces))
+        (self.expr)(place, self.wanted(Sort::Operand(braces)))
     }
 
     /// An expression, and nothing behind it.

@@ -1,16 +1,12 @@
 -- Attributes in turn, with fuel enough.
-use Rattle.std.proofs.Common.{◌≡◌, ℕ, zero, suc, ◌+◌, ◌≤◌, ◌<◌, ◌==◌, ◌&&◌, cond, Bool, true, false, List, [], ◌∷◌, map, Option, Some, None, option_map, Result, Ok, Err, refl, sym, ap, ◌∙◌, arith}
+use Rattle.std.proofs.Common.{◌≡◌, ℕ, zero, suc, ◌≤◌, ◌<◌, List, [], ◌∷◌, map, Option, Some, None, length, length-append, Result, Ok, Err, refl, ap, ◌∙◌, arith}
 use Rattle.dm_stream.specs.declared.error.Error.{Error}
 use Rattle.dm_stream.specs.declared.error.Error.TheVariants as error
-use Rattle.dm_stream.specs.declared.tokens.Ident.{Ident}
-use Rattle.dm_stream.specs.declared.tokens.Delim.TheVariants.{Paren, Bracket, Brace}
-use Rattle.dm_stream.specs.declared.tokens.Spacing.{Spacing}
-use Rattle.dm_stream.specs.declared.tokens.Spacing.TheVariants.{Joint, Alone}
-use Rattle.dm_stream.specs.declared.tokens.Token.{Token}
 use Rattle.dm_stream.specs.declared.tokens.Token.TheVariants as t
-use Rattle.dm_stream.specs.Trees.{Trees, no_trees, token, group}
+use Rattle.dm_stream.specs.declared.tokens.Entry.TheVariants as entry
+use Rattle.dm_stream.specs.Trees.{Trees, no_trees, token, group, flatten}
 use Rattle.dm_output.specs.declared.item.ItemAttr.{ItemAttr}
-use Rattle.dm_reread.specs.Next.{Word, of_path, kind, Next, star, amp, dot, asks, bangs, plus, less, comma, colon, semicolon, assigns, bar, hash, colons, leads, equals, differs, andand, oror, dots, arrow, in_brackets, other, next, word_next, alone_next, pair_next, last_next, second_next, joint_next, punct_next, token_next}
+use Rattle.dm_reread.specs.Next.{Next, hash, in_brackets, next}
 use Rattle.dm_reread.specs.Leaves.{Answer}
 use Rattle.dm_reread.specs.Reading.{then}
 use Rattle.dm_reread.specs.Items.{all_attrs, attr_among, attr_bracket, attrs_from, read_attrs}
@@ -18,6 +14,7 @@ use Rattle.dm_reread.specs.Whole.{size}
 use Rattle.dm_read_patterns.specs.Reads.{Reads}
 use Rattle.dm_read_patterns.specs.Repeating.{after_turn, repeat}
 use Rattle.dm_read_heads.specs.Attrs.{attr_at, attr_turn_at, attr_turn}
+use Rattle.dm_read_heads.proofs.Fronts.{hash_less, brackets_less}
 use Rattle.dm_read_heads.proofs.Turned.{Parts, PartTurn, one_part, part_on}
 
 -- ---- attributes are turns
@@ -42,72 +39,6 @@ module _ (n : ℕ) (more : (ts : Trees) → read_attrs n ts ≡ Parts (repeat at
 pub attrs_are : (n : ℕ) (ts : Trees) → read_attrs n ts ≡ Parts (repeat attr_turn n ts)
 attrs_are zero ts = refl
 attrs_are (suc n) ts = attrs_on n (attrs_are n) ts (next ts)
-
--- ---- what stands behind `#` or brackets is less
-
-abbrev with_front : Next → ℕ
-with_front (hash ts) = suc (size ts)
-with_front (in_brackets inside ts) = suc (size ts)
-with_front _ = zero
-
-either_fits : (b : Bool) (x y : Next) (n : ℕ) → with_front x ≤ n → with_front y ≤ n → with_front (cond b x y) ≤ n
-either_fits true x y n p q = p
-either_fits false x y n p q = q
-
-alone_fits : (ch : ℕ) (ts : Trees) → with_front (alone_next ch ts) ≤ suc (size ts)
-alone_fits ch ts =
-    let n : ℕ = suc (size ts) in
-    let z : zero ≤ n = omega arith in
-    either_fits (ch == 42) _ _ n z (either_fits (ch == 38) _ _ n z (either_fits (ch == 46) _ _ n z (either_fits (ch == 63) _ _ n z
-    (either_fits (ch == 33) _ _ n z (either_fits (ch == 43) _ _ n z (either_fits (ch == 60) _ _ n z (either_fits (ch == 44) _ _ n z
-    (either_fits (ch == 58) _ _ n z (either_fits (ch == 59) _ _ n z (either_fits (ch == 61) _ _ n z (either_fits (ch == 124) _ _ n z
-    (either_fits (ch == 35) _ _ n (omega arith) z))))))))))))
-
-pair_fits : (a b : ℕ) (ts : Trees) (n : ℕ) → with_front (pair_next a b ts) ≤ n
-pair_fits a b ts n =
-    let z : zero ≤ n = omega arith in
-    either_fits ((a == 58) && (b == 58)) _ _ n z (either_fits ((a == 61) && (b == 62)) _ _ n z (either_fits ((a == 61) && (b == 61)) _ _ n z
-    (either_fits ((a == 33) && (b == 61)) _ _ n z (either_fits ((a == 38) && (b == 38)) _ _ n z (either_fits ((a == 124) && (b == 124)) _ _ n z
-    (either_fits ((a == 46) && (b == 46)) _ _ n z (either_fits ((a == 45) && (b == 62)) _ _ n z z)))))))
-
-last_fits : (s : Spacing) (a b : ℕ) (ts : Trees) (n : ℕ) → with_front (last_next s a b ts) ≤ n
-last_fits Alone a b ts n = pair_fits a b ts n
-last_fits Joint a b ts n = omega arith
-
-second_fits : (a : ℕ) (k : Token) (ts : Trees) (n : ℕ) → with_front (second_next a k ts) ≤ n
-second_fits a (t.Punct p) ts n = last_fits p.spacing a p.ch ts n
-second_fits a (t.Ident i) ts n = omega arith
-second_fits a (t.Literal l) ts n = omega arith
-second_fits a (t.Lifetime l) ts n = omega arith
-
-joint_fits : (a : ℕ) (ts : Trees) (n : ℕ) → with_front (joint_next a ts) ≤ n
-joint_fits a no_trees n = omega arith
-joint_fits a (token k ts) n = second_fits a k ts n
-joint_fits a (group d from inside upto ts) n = omega arith
-
-punct_fits : (s : Spacing) (ch : ℕ) (ts : Trees) → with_front (punct_next s ch ts) ≤ suc (size ts)
-punct_fits Alone ch ts = alone_fits ch ts
-punct_fits Joint ch ts = joint_fits ch ts (suc (size ts))
-
-word_fits : (w : Word) (i : Ident) (ts : Trees) → with_front (word_next w i ts) ≡ zero
-word_fits of_path i ts = refl
-word_fits _ i ts = refl
-
-next_fits : (ts : Trees) → with_front (next ts) ≤ size ts
-next_fits no_trees = omega arith
-next_fits (token (t.Ident i) ts) = omega (arith, word_fits (kind i) i ts)
-next_fits (token (t.Punct p) ts) = punct_fits p.spacing p.ch ts
-next_fits (token (t.Literal l) ts) = omega arith
-next_fits (token (t.Lifetime l) ts) = omega arith
-next_fits (group Paren from inside upto ts) = omega arith
-next_fits (group Brace from inside upto ts) = omega arith
-next_fits (group Bracket from inside upto ts) = omega arith
-
-hash_less : (ts us : Trees) → next ts ≡ hash us → size us < size ts
-hash_less ts us e = omega (arith, next_fits ts, ap with_front e)
-
-brackets_less : (ts inside us : Trees) → next ts ≡ in_brackets inside us → size us < size ts
-brackets_less ts inside us e = omega (arith, next_fits ts, ap with_front e)
 
 -- ---- fuel beyond the trees changes nothing
 
@@ -140,3 +71,10 @@ pub all_read : (n : ℕ) (ts us : Trees) (r : Result (List ItemAttr) Error) → 
 all_read n ts us (Ok xs) p h = attrs_same (suc (size ts)) n ts (omega arith) p ∙ h ∙ ap (λ ys. Some (ys, us)) (each_itself xs)
 all_read n ts us (Err (error.Refused r)) p h = attrs_same (suc (size ts)) n ts (omega arith) p ∙ h
 all_read n ts us (Err error.NoMemory) p h = tt
+
+-- no list has more trees than entries
+pub size_fits : (ts : Trees) → size ts ≤ length (flatten ts)
+size_fits no_trees = omega arith
+size_fits (token k ts) = omega (arith, size_fits ts)
+size_fits (group d from inside upto ts) =
+    omega (arith, size_fits inside, size_fits ts, length-append (flatten inside) (entry.Close d upto ∷ flatten ts))

@@ -272,11 +272,17 @@ fn turned(place: &mut Place<'_, '_>, fuel: usize) -> Result<Seq<ItemAttr>, Error
     Ok(found)
 }
 
-/// The attributes in front, perhaps none. Refused is `#` where no attribute of the language stands behind it. `fuel` is more than the number
-/// of trees that are left.
-pub fn attrs(place: &mut Place<'_, '_>, fuel: usize) -> Result<Seq<ItemAttr>, Error>
-    requires { size place.old < fuel }
+/// A number that is more than that of the trees that are left.
+fn enough(place: &Place<'_, '_>) -> usize
+    ensures { size place.now < result }
+{
+    place.cursor().entries().len() + 1
+}
+
+/// The attributes in front, perhaps none. Refused is `#` where no attribute of the language stands behind it.
+pub fn attrs(place: &mut Place<'_, '_>) -> Result<Seq<ItemAttr>, Error>
     ensures { Reads (λ all. all) (λ ts. plain.read_attrs (suc (size ts)) ts) place.old result place.new }
 {
+    let fuel = enough(place);
     turned(place, fuel)
 }

@@ -1,65 +1,23 @@
 -- Trees that have the same tokens and delimiters are the same, ranges aside.
-use Rattle.std.proofs.Common.{◌≡◌, ℕ, cond, ◌==◌, Bool, true, false, nat_eq, List, [], ◌∷◌, ◌++◌, map, refl, sym, ap, ap₂, ◌∙◌, append-nil}
+use Rattle.std.proofs.Common.{◌≡◌, true, nat_eq, List, [], ◌∷◌, ◌++◌, map, refl, sym, ap, ap₂, ◌∙◌, append-nil}
 use Rattle.std.proofs.lemmas.Bool.{and_parts, eqb-true}
 use Rattle.std.proofs.lemmas.Slice.Eq.{bytes_eq-Decides}
 use Rattle.std.specs.Str.{bytes_eq}
 use Rattle.dm_stream.specs.declared.tokens.Span.{Span}
 use Rattle.dm_stream.specs.declared.tokens.Delim.{Delim}
-use Rattle.dm_stream.specs.declared.tokens.Delim.TheVariants.{Paren, Bracket, Brace}
-use Rattle.dm_stream.specs.declared.tokens.LitKind.{LitKind}
 use Rattle.dm_stream.specs.declared.tokens.LitKind.TheVariants as lit
-use Rattle.dm_stream.specs.declared.tokens.Spacing.{Spacing}
-use Rattle.dm_stream.specs.declared.tokens.Spacing.TheVariants.{Joint, Alone}
 use Rattle.dm_stream.specs.declared.tokens.Token.{Token}
 use Rattle.dm_stream.specs.declared.tokens.Token.TheVariants as t
 use Rattle.dm_stream.specs.declared.tokens.Entry.{Entry}
 use Rattle.dm_stream.specs.declared.tokens.Entry.TheVariants as entry
 use Rattle.dm_stream.specs.Layout.{nowhere}
 use Rattle.dm_stream.specs.Trees.{Trees, no_trees, token, group, join, flatten, unflatten, unflatten-flatten, Reading, opened, one_back, read_back}
-use Rattle.dm_stream.specs.Cursors.{same_delim}
 use Rattle.dm_stream.proofs.Trees.{flatten-join}
 use Rattle.dm_lexer.specs.Written.{unplaced_token, unplaced}
 use Rattle.dm_same.specs.SameTypes.{same_flag, kind_number, same_spacing, all_same, same_token, same_entry}
+use Rattle.dm_type_eq.proofs.SameTokens.{flag_same, kind_same, spacing_same, delim_same}
 
 -- ---- the same tokens
-
-flag_same : (a b : Bool) → same_flag a b ≡ true → a ≡ b
-flag_same true true e = refl
-flag_same true false e = absurd (cc)
-flag_same false true e = absurd (cc)
-flag_same false false e = refl
-
-spacing_same : (a b : Spacing) → same_spacing a b ≡ true → a ≡ b
-spacing_same Joint Joint e = refl
-spacing_same Joint Alone e = absurd (cc)
-spacing_same Alone Joint e = absurd (cc)
-spacing_same Alone Alone e = refl
-
-delim_same : (d e : Delim) → same_delim d e ≡ true → d ≡ e
-delim_same Paren Paren h = refl
-delim_same Bracket Bracket h = refl
-delim_same Brace Brace h = refl
-delim_same _ _ h = absurd (cc)
-
--- the kind of a number
-abbrev kind_of : ℕ → LitKind
-kind_of n =
-    cond (n == 0) lit.Str (cond (n == 1) lit.RawStr (cond (n == 2) lit.ByteStr (cond (n == 3) lit.RawByteStr
-    (cond (n == 4) lit.CStr (cond (n == 5) lit.RawCStr (cond (n == 6) lit.Char (cond (n == 7) lit.Byte lit.Int)))))))
-
-kind_again : (k : LitKind) → kind_of (kind_number k) ≡ k
-kind_again lit.Str = refl
-kind_again lit.RawStr = refl
-kind_again lit.ByteStr = refl
-kind_again lit.RawByteStr = refl
-kind_again lit.CStr = refl
-kind_again lit.RawCStr = refl
-kind_again lit.Char = refl
-kind_again lit.Byte = refl
-kind_again lit.Int = refl
-
-kind_same : (k l : LitKind) → nat_eq (kind_number k) (kind_number l) ≡ true → k ≡ l
-kind_same k l e = sym (kind_again k) ∙ ap kind_of (eqb-true (kind_number k) (kind_number l) e) ∙ kind_again l
 
 token_same : (k l : Token) → same_token k l ≡ true → unplaced_token k ≡ unplaced_token l
 token_same (t.Ident i) (t.Ident j) e =

@@ -13,22 +13,17 @@ use Rattle.dm_stream.proofs.Trees.{flatten-join}
 use Rattle.dm_ast.specs.Tree.{TypeTree, type_tree, path, no_self, PathTree}
 use Rattle.dm_ast.specs.Declarations.{Listed, ParamTree, PredicateTree}
 use Rattle.dm_ast.specs.Spelling.{Where, Marks, Spelling, ◌then◌, TokenAt, first_too_deep, sees_word, keyword}
-use Rattle.dm_ast.specs.TypeGrammar.{type_spelled, bound}
+use Rattle.dm_ast.specs.TypeGrammar.{type_spelled}
 use Rattle.dm_ast.specs.TypeTokens as spell
 use Rattle.dm_ast.specs.TypeTokens.{type_trees}
 use Rattle.dm_ast.specs.DeclarationGrammar.{no_params, generics, where_clause}
 use Rattle.dm_ast.specs.Readers.{Parser, tail, entry_span}
-use Rattle.dm_ast.specs.Runs.{run, read_run}
+use Rattle.dm_ast.specs.Runs.{run}
 use Rattle.dm_output.specs.Tokens.{param_trees, predicate_trees, params_trees, where_trees, trait_trees}
 use Rattle.dm_same.specs.SameTypes.{all_same, same_entry}
 use Rattle.dm_read.specs.DeclarationReaders as decl
-use Rattle.dm_read.proofs.Deciding.{Covers, covers_then, covers_none, IsRead, Reader, deep_behind, deep_front}
-use Rattle.dm_read_types.specs.WholeReaders.{whole_type, whole_bound, parts}
-use Rattle.dm_read_types.proofs.TypeTheorem.{type_decided, bound_decided}
-use Rattle.dm_read_decl.proofs.DeclarationParts.{AreDecided}
-use Rattle.dm_read_decl.proofs.DeclarationGenerics.{reads_generics, reads_where}
-use Rattle.dm_read_decl.proofs.DeclarationRules.{parts_decided}
-use Rattle.dm_read_decl.proofs.Runs.{reads_run}
+use Rattle.dm_read.proofs.Deciding.{Covers, covers_then, covers_none, IsRead, Reader, deep_behind}
+use Rattle.dm_read_types.specs.WholeReaders.{whole_type, parts}
 use Rattle.dm_type_eq.proofs.Cutting.{cut_end}
 use Rattle.dm_type_eq.proofs.Respelling.{Lowered, lowered_within}
 use Rattle.dm_reread.specs.BareTypes.{bare_type, bare_path}
@@ -42,6 +37,7 @@ use Rattle.dm_reread.specs.HeadLeaves.{read_generics, read_where, path_in, trait
 use Rattle.dm_reread.specs.ExactLeaves.{passed, has_entries, exact_head}
 use Rattle.dm_reread.specs.ReadBack.{leaf_grammar, leaves, item_grammar, item_leaves}
 use Rattle.dm_reread.proofs.TypeLeaf.{decided_answer, whole_decided}
+use Rattle.dm_reread.proofs.HeadLeaf.{generics_decided, where_decided, first_within, rest_within}
 use Rattle.dm_read_laws.specs.Sound.{IsBare, Spells, SoundLeaves, SoundItems}
 use Rattle.dm_read_laws.proofs.Answers.{then_by, tested_some, cond_some, same_answer}
 use Rattle.dm_read_laws.proofs.SoundSteps.{word_parts}
@@ -52,46 +48,10 @@ use Rattle.dm_read_laws.proofs.PathSound.{qualified_sound}
 use Rattle.dm_read_laws.proofs.RunSound.{run_sound}
 use Rattle.dm_read_laws.proofs.HeadAgain.{bare_params, generic_trees, clause_trees, bare_clause, before_for, before_for_trees, between, all_trees, between_again}
 
--- ---- the readers of declarations decide parameters and predicates
-
-bound_whole : (w : Where) → Reader (λ b. bound b w) (whole_bound w)
-unfolding whole_bound
-bound_whole w = bound_decided w
-
-type_whole : (w : Where) → Reader (λ x. type_spelled x false w) (whole_type w)
-unfolding whole_type
-type_whole w = type_decided w
-
-are_decided : AreDecided run parts
-are_decided = parts_decided run whole_type whole_bound read_run type_whole bound_whole reads_run
-
-generics_decided : Reader (λ v. generics v.0 v.1 top) (decl.read_generics parts top)
-generics_decided = reads_generics run parts are_decided top
-
-where_decided : Reader (λ c. where_clause c top) (decl.read_where parts top)
-where_decided = reads_where run parts are_decided top
-
 -- ---- marks, and the tokens that they are of
 
 both_within : (m n : Marks) → first_too_deep m ≡ None → first_too_deep n ≡ None → first_too_deep (m ++ n) ≡ None
 both_within m n e f = deep_behind m n e ∙ f
-
-front_within : (m n : Marks) → first_too_deep (m ++ n) ≡ None → first_too_deep m ≡ None
-front_within m n h = by (first_too_deep m) refl
-  where
-    by : (o : Option Span) → first_too_deep m ≡ o → o ≡ None
-    by None e = refl
-    by (Some s) e = let f : first_too_deep (m ++ n) ≡ Some s = deep_front m n s e in absurd (cc)
-
-behind_within : (m n : Marks) → first_too_deep (m ++ n) ≡ None → first_too_deep n ≡ None
-behind_within m n h = sym (deep_behind m n (front_within m n h)) ∙ h
-
-module _ {A B : Spelling} {ts others : Trees} {m : Marks} (s : (A then B) ts others m) (h : first_too_deep m ≡ None) where
-  first_within : first_too_deep s.first_marks ≡ None
-  first_within = front_within s.first_marks s.rest_marks (sym (ap first_too_deep s.marks) ∙ h)
-
-  rest_within : first_too_deep s.rest_marks ≡ None
-  rest_within = behind_within s.first_marks s.rest_marks (sym (ap first_too_deep s.marks) ∙ h)
 
 -- as many marks as tokens and delimiters
 covers_length : (ts others : Trees) (m : Marks) (c : Covers ts others m) → length c.front ≡ length m

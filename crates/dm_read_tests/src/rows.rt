@@ -2,6 +2,7 @@
 
 use dm_lexer::lex;
 use dm_read_heads::assoc::assocs;
+use dm_read_heads::attr::attrs;
 use dm_read_heads::head::printed_head;
 use dm_read_heads::signature::named_signature;
 use dm_read_leaves::opaque::run;
@@ -22,6 +23,8 @@ pub(crate) enum Part {
     Qualified,
     /// The value of a format's argument.
     Value,
+    /// Attributes in front.
+    Attrs,
     /// What stands between `impl` and the brace.
     Head,
     /// Associated types.
@@ -67,6 +70,10 @@ fn answers(part: Part, place: &mut Place<'_, '_>, whole: bool) -> bool {
         }
         Part::Value => {
             let read = run(place);
+            is_wanted(read, place.at_end(), whole)
+        }
+        Part::Attrs => {
+            let read = attrs(place);
             is_wanted(read, place.at_end(), whole)
         }
         Part::Head => {

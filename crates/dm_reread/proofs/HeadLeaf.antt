@@ -45,10 +45,10 @@ type_whole w = type_decided w
 are_decided : AreDecided run parts
 are_decided = parts_decided run whole_type whole_bound read_run type_whole bound_whole reads_run
 
-generics_decided : Reader (λ v. generics v.0 v.1 top) (decl.read_generics parts top)
+pub generics_decided : Reader (λ v. generics v.0 v.1 top) (decl.read_generics parts top)
 generics_decided = reads_generics run parts are_decided top
 
-where_decided : Reader (λ c. where_clause c top) (decl.read_where parts top)
+pub where_decided : Reader (λ c. where_clause c top) (decl.read_where parts top)
 where_decided = reads_where run parts are_decided top
 
 -- ---- marks that are not too deep
@@ -63,11 +63,11 @@ front_within m k h = by (first_too_deep m) refl
 behind_within : (m k : Marks) → first_too_deep (m ++ k) ≡ None → first_too_deep k ≡ None
 behind_within m k h = sym (deep_behind m k (front_within m k h)) ∙ h
 
-module _ {A B : Spelling} (ts others : Trees) (m : Marks) (s : (A then B) ts others m) (h : first_too_deep m ≡ None) where
-  first_within : first_too_deep s.first_marks ≡ None
+module _ {A B : Spelling} {ts others : Trees} {m : Marks} (s : (A then B) ts others m) (h : first_too_deep m ≡ None) where
+  pub first_within : first_too_deep s.first_marks ≡ None
   first_within = front_within s.first_marks s.rest_marks (sym (ap first_too_deep s.marks) ∙ h)
 
-  rest_within : first_too_deep s.rest_marks ≡ None
+  pub rest_within : first_too_deep s.rest_marks ≡ None
   rest_within = behind_within s.first_marks s.rest_marks (sym (ap first_too_deep s.marks) ∙ h)
 
 -- ---- a type, and perhaps a trait before it
@@ -109,31 +109,31 @@ named : (o : Option PathTree) (x : TypeTree) (c : Option (Listed PredicateTree))
     sees_word (codes "for") others ≡ false → Named o x c ts others
 named None x c ts others m s h f =
     let r = s.rest in
-    let w : first_too_deep s.rest_marks ≡ None = rest_within ts others m s h in
+    let w : first_too_deep s.rest_marks ≡ None = rest_within s h in
     let e : read_type ts ≡ Some (x, r.middle) =
-    ap read_type s.first.spelled ∙ type_read x s.middle r.middle r.first_marks r.first (first_within s.middle others s.rest_marks r w) in
+    ap read_type s.first.spelled ∙ type_read x s.middle r.middle r.first_marks r.first (first_within r w) in
     record {
       middle = r.middle;
       marks = r.rest_marks;
       read = rw (e, no_for c r.middle others r.rest_marks r.rest f) refl;
       rest = r.rest;
-      within = rest_within s.middle others s.rest_marks r w;
+      within = rest_within r w;
     }
 named (Some p) x c ts others m s h f =
     let a = s.first in
     let r = s.rest in
-    let v : first_too_deep s.first_marks ≡ None = first_within ts others m s h in
-    let w : first_too_deep s.rest_marks ≡ None = rest_within ts others m s h in
-    let d = path_read p ts a.middle s.middle a.first_marks a.rest_marks a.first a.rest (first_within ts s.middle s.first_marks a v) in
+    let v : first_too_deep s.first_marks ≡ None = first_within s h in
+    let w : first_too_deep s.rest_marks ≡ None = rest_within s h in
+    let d = path_read p ts a.middle s.middle a.first_marks a.rest_marks a.first a.rest (first_within a v) in
     let e : read_type (tail a.middle) ≡ Some (x, r.middle) =
     ap (λ z. read_type (tail z)) a.rest.there.spelled ∙ type_read x s.middle r.middle r.first_marks r.first
-    (first_within s.middle others s.rest_marks r w) in
+    (first_within r w) in
     record {
       middle = r.middle;
       marks = r.rest_marks;
       read = rw (d, for_seen a.middle s.middle a.rest_marks a.rest, e) refl;
       rest = r.rest;
-      within = rest_within s.middle others s.rest_marks r w;
+      within = rest_within r w;
     }
 
 predicates_back : (ps : List PredicateTree) → predicates_in (clause_of ps) ≡ ps
@@ -185,9 +185,9 @@ module _ (f g : Span) (us vs : Trees) where
       let e : read_generics ts ≡ Some ((is_some_params h.params, listed h.params), s.middle) =
       decided_answer (λ v. generics v.0 v.1 top) ts s.middle (is_some_params h.params, listed h.params) s.first_marks
       (decl.read_generics parts top ts)
-      (generics_decided ts) s.first (first_within ts rest i.marks s i.within) in
+      (generics_decided ts) s.first (first_within s i.within) in
       let x : Named h.trait_path h.ty (clause_of h.predicates) s.middle rest =
-      named h.trait_path h.ty (clause_of h.predicates) s.middle rest s.rest_marks s.rest (rest_within ts rest i.marks s i.within) refl in
+      named h.trait_path h.ty (clause_of h.predicates) s.middle rest s.rest_marks s.rest (rest_within s i.within) refl in
       let c : read_where x.middle ≡ Some (clause_of h.predicates, rest) =
       decided_answer (λ v. where_clause v top) x.middle rest (clause_of h.predicates) x.marks (decl.read_where parts top x.middle)
       (where_decided x.middle) x.rest x.within in

@@ -3,10 +3,11 @@ ghost use Rattle.std.specs.Option.{option_copied, option_to_list};
 ghost use Rattle.std.specs.Cmp.Lexicographic.{pointwise, lists_per, lists_equiv};
 ghost use Rattle.std.specs.Slice.Iter.{iter_rest};
 ghost use Rattle.std.specs.Iterator.Adapters.{IterYieldsInOrder};
+ghost use Rattle.std.specs.Vec.Iter.{into_iter_items};
 
 use std::alloc::{AllocError, Global};
 use std::marker::Model;
-use std::slice;
+use std::{slice, vec};
 
 /// A growing sequence that contracts see as the list of its items.
 #[derive(Debug, Drop)]
@@ -103,6 +104,13 @@ impl<T> Seq<T> {
         ensures runs { IterYieldsInOrder T }
     {
         self.held.iter()
+    }
+
+    /// The items themselves, from the first to the last.
+    pub fn into_iter(self) -> vec::IntoIter<T, Global>
+        ensures { into_iter_items result ≡ self }
+    {
+        self.held.into_iter()
     }
 }
 

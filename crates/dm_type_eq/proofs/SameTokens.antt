@@ -45,7 +45,7 @@ second_of_three a b c e = (and_parts a b (and_parts (a && b) c e).0).1
 third_of_three : (a b c : Bool) → (a && b && c) ≡ true → c ≡ true
 third_of_three a b c e = (and_parts (a && b) c e).1
 
-flag_same : (a b : Bool) → same_flag a b ≡ true → a ≡ b
+pub flag_same : (a b : Bool) → same_flag a b ≡ true → a ≡ b
 flag_same true true e = refl
 flag_same true false e = absurd (cc)
 flag_same false true e = absurd (cc)
@@ -153,7 +153,7 @@ kind_again lit.Char = refl
 kind_again lit.Byte = refl
 kind_again lit.Int = refl
 
-kind_same : (k l : LitKind) → nat_eq (kind_number k) (kind_number l) ≡ true → k ≡ l
+pub kind_same : (k l : LitKind) → nat_eq (kind_number k) (kind_number l) ≡ true → k ≡ l
 kind_same k l e = sym (kind_again k) ∙ ap kind_of (eqb-true (kind_number k) (kind_number l) e) ∙ kind_again l
 
 literal_same : (l k : Literal) → same_literal l k ≡ true → Same (spell.literal l) (spell.literal k)
@@ -161,13 +161,13 @@ literal_same l k e =
     let h = and_parts (nat_eq (kind_number l.kind) (kind_number k.kind)) (bytes_eq l.text k.text) e in
     ap₂ (λ a b. bare_literal a b ∷ []) (kind_same l.kind k.kind h.0) ((bytes_eq-Decides l.text k.text).0 h.1)
 
-spacing_same : (a b : Spacing) → same_spacing a b ≡ true → a ≡ b
+pub spacing_same : (a b : Spacing) → same_spacing a b ≡ true → a ≡ b
 spacing_same Joint Joint e = refl
 spacing_same Joint Alone e = absurd (cc)
 spacing_same Alone Joint e = absurd (cc)
 spacing_same Alone Alone e = refl
 
-delim_same : (d e : Delim) → same_delim d e ≡ true → d ≡ e
+pub delim_same : (d e : Delim) → same_delim d e ≡ true → d ≡ e
 delim_same Paren Paren h = refl
 delim_same Bracket Bracket h = refl
 delim_same Brace Brace h = refl

@@ -1,0 +1,4 @@
+pub mod Depths
+pub mod Fitted
+pub mod FittedExprs
+pub mod FittedItems

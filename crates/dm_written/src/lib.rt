@@ -1,0 +1,6 @@
+//! Which implementations a text can have.
+#![tactic(auto)]
+
+mod laws;
+
+pub use laws::implementations_fit;
