@@ -27,8 +27,9 @@ struct ArgRule<'g, F> {
     rules: &'g Exprs<F>,
 }
 
-impl<'g, 'a, F: Copy + for<'t> Fn(&mut Place<'t, 'a>, Wanted) -> Result<Expr<'a>, Error>> Rule<'a>
-    for ArgRule<'g, F> {
+impl<'g, 'a, F: Copy + for<'t, 'b> Fn(&mut Place<'t, 'b>, Wanted) -> Result<Expr<'b>, Error>> Rule<
+    'a,
+> for ArgRule<'g, F> {
     ghost use Rattle.std.specs.Prelude.{Bool};
     ghost use Rattle.dm_output.specs.Output.{ExprTree};
     ghost use Rattle.dm_output.specs.Views.{expr_view};
@@ -69,8 +70,9 @@ struct FieldRule<'g, F> {
     rules: &'g Exprs<F>,
 }
 
-impl<'g, 'a, F: Copy + for<'t> Fn(&mut Place<'t, 'a>, Wanted) -> Result<Expr<'a>, Error>> Rule<'a>
-    for FieldRule<'g, F> {
+impl<'g, 'a, F: Copy + for<'t, 'b> Fn(&mut Place<'t, 'b>, Wanted) -> Result<Expr<'b>, Error>> Rule<
+    'a,
+> for FieldRule<'g, F> {
     ghost use Rattle.dm_stream.specs.declared.tokens.Ident.{Ident};
     ghost use Rattle.dm_output.specs.Output.{ExprTree};
     ghost use Rattle.dm_output.specs.Views.{named_expr_view};
@@ -105,9 +107,9 @@ impl<'g, 'a, F: Copy + for<'t> Fn(&mut Place<'t, 'a>, Wanted) -> Result<Expr<'a>
     }
 }
 
-impl<'a, F: Copy + for<'t> Fn(&mut Place<'t, 'a>, Wanted) -> Result<Expr<'a>, Error>> Exprs<F> {
+impl<F: Copy + for<'t, 'b> Fn(&mut Place<'t, 'b>, Wanted) -> Result<Expr<'b>, Error>> Exprs<F> {
     /// Arguments behind the first, and whether a comma stands behind the last.
-    fn others(&self, place: &mut Place<'_, 'a>) -> Result<(Seq<Expr<'a>>, bool), Error>
+    fn others<'a>(&self, place: &mut Place<'_, 'a>) -> Result<(Seq<Expr<'a>>, bool), Error>
         requires { ExprNests self.now.room (F.pre self.now.expr) (F.post self.now.expr) }
         ensures { ReadsWhole (λ v. (exprs_of (map expr_view v.0), v.1)) (rows self.now.fuel).args place.old result }
     {
@@ -116,7 +118,7 @@ impl<'a, F: Copy + for<'t> Fn(&mut Place<'t, 'a>, Wanted) -> Result<Expr<'a>, Er
     }
 
     /// Some arguments to the end, and whether a comma stands behind the last.
-    fn some(&self, place: &mut Place<'_, 'a>) -> Result<(Seq<Expr<'a>>, bool), Error>
+    fn some<'a>(&self, place: &mut Place<'_, 'a>) -> Result<(Seq<Expr<'a>>, bool), Error>
         requires { ExprNests self.now.room (F.pre self.now.expr) (F.post self.now.expr) }
         ensures { ReadsWhole (λ v. (exprs_of (map expr_view v.0), v.1)) (first_arg (rows self.now.fuel)) place.old result }
     {
@@ -126,7 +128,7 @@ impl<'a, F: Copy + for<'t> Fn(&mut Place<'t, 'a>, Wanted) -> Result<Expr<'a>, Er
     }
 
     /// Arguments to the end, and whether a comma stands behind the last.
-    pub fn arguments(&self, place: &mut Place<'_, 'a>) -> Result<(Seq<Expr<'a>>, bool), Error>
+    pub fn arguments<'a>(&self, place: &mut Place<'_, 'a>) -> Result<(Seq<Expr<'a>>, bool), Error>
         requires { ExprNests self.now.room (F.pre self.now.expr) (F.post self.now.expr) }
         ensures { ReadsWhole (λ v. (exprs_of (map expr_view v.0), v.1)) (read_args (rows self.now.fuel) false) place.old result }
     {
@@ -137,7 +139,7 @@ impl<'a, F: Copy + for<'t> Fn(&mut Place<'t, 'a>, Wanted) -> Result<Expr<'a>, Er
     }
 
     /// `:`, a value and a comma.
-    fn value(&self, place: &mut Place<'_, 'a>) -> Result<Expr<'a>, Error>
+    fn value<'a>(&self, place: &mut Place<'_, 'a>) -> Result<Expr<'a>, Error>
         requires { ExprNests self.now.room (F.pre self.now.expr) (F.post self.now.expr) }
         ensures { Reads expr_view (value_behind self.now.fuel) place.old result place.new }
     {
@@ -146,7 +148,7 @@ impl<'a, F: Copy + for<'t> Fn(&mut Place<'t, 'a>, Wanted) -> Result<Expr<'a>, Er
     }
 
     /// A field with its value and a comma.
-    fn field(&self, place: &mut Place<'_, 'a>) -> Result<NamedExpr<'a>, Error>
+    fn field<'a>(&self, place: &mut Place<'_, 'a>) -> Result<NamedExpr<'a>, Error>
         requires { ExprNests self.now.room (F.pre self.now.expr) (F.post self.now.expr) }
         ensures { Reads named_expr_view (λ ts. field_value self.now.fuel (next ts)) place.old result place.new }
     {
@@ -156,7 +158,7 @@ impl<'a, F: Copy + for<'t> Fn(&mut Place<'t, 'a>, Wanted) -> Result<Expr<'a>, Er
     }
 
     /// Fields with values, to the end.
-    pub fn fields(&self, place: &mut Place<'_, 'a>) -> Result<Seq<NamedExpr<'a>>, Error>
+    pub fn fields<'a>(&self, place: &mut Place<'_, 'a>) -> Result<Seq<NamedExpr<'a>>, Error>
         requires { ExprNests self.now.room (F.pre self.now.expr) (F.post self.now.expr) }
         ensures { ReadsWhole (λ v. named_exprs_of (map named_expr_view v)) (rows self.now.fuel).named_exprs place.old result }
     {

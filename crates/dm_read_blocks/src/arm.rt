@@ -43,8 +43,9 @@ struct ArmRule<'g, F> {
     rules: &'g Exprs<F>,
 }
 
-impl<'g, 'a, F: Copy + for<'t> Fn(&mut Place<'t, 'a>, Wanted) -> Result<Expr<'a>, Error>> Rule<'a>
-    for ArmRule<'g, F> {
+impl<'g, 'a, F: Copy + for<'t, 'b> Fn(&mut Place<'t, 'b>, Wanted) -> Result<Expr<'b>, Error>> Rule<
+    'a,
+> for ArmRule<'g, F> {
     ghost use Rattle.dm_output.specs.Output.{ArmTree};
     ghost use Rattle.dm_output.specs.Views.{arm_view};
     ghost use Rattle.dm_read_blocks.specs.ExprNests.{ExprNests};
@@ -74,9 +75,9 @@ impl<'g, 'a, F: Copy + for<'t> Fn(&mut Place<'t, 'a>, Wanted) -> Result<Expr<'a>
     }
 }
 
-impl<'a, F: Copy + for<'t> Fn(&mut Place<'t, 'a>, Wanted) -> Result<Expr<'a>, Error>> Exprs<F> {
+impl<F: Copy + for<'t, 'b> Fn(&mut Place<'t, 'b>, Wanted) -> Result<Expr<'b>, Error>> Exprs<F> {
     /// `if` and a condition, or nothing.
-    fn guard(&self, place: &mut Place<'_, 'a>) -> Result<Option<Expr<'a>>, Error>
+    fn guard<'a>(&self, place: &mut Place<'_, 'a>) -> Result<Option<Expr<'a>>, Error>
         requires { ExprNests self.now.room (F.pre self.now.expr) (F.post self.now.expr) }
         ensures { Reads (λ o. tree.maybe_expr (option_map expr_view o)) (λ ts. plain.read_guard (rows self.now.fuel) ts (next ts)) place.old result place.new }
     {
@@ -87,7 +88,7 @@ impl<'a, F: Copy + for<'t> Fn(&mut Place<'t, 'a>, Wanted) -> Result<Expr<'a>, Er
     }
 
     /// A block, or an expression.
-    fn body(&self, place: &mut Place<'_, 'a>) -> Result<ArmBody<'a>, Error>
+    fn body<'a>(&self, place: &mut Place<'_, 'a>) -> Result<ArmBody<'a>, Error>
         requires { ExprNests self.now.room (F.pre self.now.expr) (F.post self.now.expr) }
         ensures { Reads body_view (λ ts. plain.read_body (rows self.now.fuel) ts (next ts)) place.old result place.new }
     {
@@ -98,7 +99,7 @@ impl<'a, F: Copy + for<'t> Fn(&mut Place<'t, 'a>, Wanted) -> Result<Expr<'a>, Er
     }
 
     /// `=>`, a body and a comma.
-    fn arm_body(&self, place: &mut Place<'_, 'a>) -> Result<ArmBody<'a>, Error>
+    fn arm_body<'a>(&self, place: &mut Place<'_, 'a>) -> Result<ArmBody<'a>, Error>
         requires { ExprNests self.now.room (F.pre self.now.expr) (F.post self.now.expr) }
         ensures { Reads body_view (turns.arm_body self.now.fuel) place.old result place.new }
     {
@@ -108,7 +109,7 @@ impl<'a, F: Copy + for<'t> Fn(&mut Place<'t, 'a>, Wanted) -> Result<Expr<'a>, Er
     }
 
     /// What stands behind an arm's patterns.
-    fn behind_patterns(
+    fn behind_patterns<'a>(
         &self,
         place: &mut Place<'_, 'a>,
     ) -> Result<(Option<Expr<'a>>, ArmBody<'a>), Error>
@@ -120,7 +121,7 @@ impl<'a, F: Copy + for<'t> Fn(&mut Place<'t, 'a>, Wanted) -> Result<Expr<'a>, Er
     }
 
     /// An arm.
-    fn arm(&self, place: &mut Place<'_, 'a>) -> Result<Arm<'a>, Error>
+    fn arm<'a>(&self, place: &mut Place<'_, 'a>) -> Result<Arm<'a>, Error>
         requires { ExprNests self.now.room (F.pre self.now.expr) (F.post self.now.expr) }
         ensures { Reads arm_view (turns.one_arm self.now.fuel) place.old result place.new }
     {
@@ -130,7 +131,7 @@ impl<'a, F: Copy + for<'t> Fn(&mut Place<'t, 'a>, Wanted) -> Result<Expr<'a>, Er
     }
 
     /// Arms, to the end.
-    fn arms(&self, place: &mut Place<'_, 'a>) -> Result<Seq<Arm<'a>>, Error>
+    fn arms<'a>(&self, place: &mut Place<'_, 'a>) -> Result<Seq<Arm<'a>>, Error>
         requires { ExprNests self.now.room (F.pre self.now.expr) (F.post self.now.expr) }
         ensures { ReadsWhole (λ v. tree.arms_of (map arm_view v)) (rows self.now.fuel).arms place.old result }
     {
@@ -139,7 +140,7 @@ impl<'a, F: Copy + for<'t> Fn(&mut Place<'t, 'a>, Wanted) -> Result<Expr<'a>, Er
     }
 
     /// Arms in braces.
-    pub fn braced_arms(&self, place: &mut Place<'_, 'a>) -> Result<Seq<Arm<'a>>, Error>
+    pub fn braced_arms<'a>(&self, place: &mut Place<'_, 'a>) -> Result<Seq<Arm<'a>>, Error>
         requires { ExprNests self.now.room (F.pre self.now.expr) (F.post self.now.expr) }
         ensures { Reads (λ v. tree.arms_of (map arm_view v)) (λ ts. spec.braced_arms self.now.fuel (next ts)) place.old result place.new }
     {

@@ -33,8 +33,9 @@ struct BlockRule<'g, F> {
     rules: &'g Exprs<F>,
 }
 
-impl<'g, 'a, F: Copy + for<'t> Fn(&mut Place<'t, 'a>, Wanted) -> Result<Expr<'a>, Error>> Rule<'a>
-    for BlockRule<'g, F> {
+impl<'g, 'a, F: Copy + for<'t, 'b> Fn(&mut Place<'t, 'b>, Wanted) -> Result<Expr<'b>, Error>> Rule<
+    'a,
+> for BlockRule<'g, F> {
     ghost use Rattle.dm_output.specs.Output.{StmtTree, MaybeExpr};
     ghost use Rattle.dm_output.specs.Views.{stmt_view};
     ghost use Rattle.dm_read_blocks.specs.ExprNests.{ExprNests};
@@ -109,9 +110,9 @@ fn value_end<'a>(
     Ok(Turn::One(do_of(value)))
 }
 
-impl<'a, F: Copy + for<'t> Fn(&mut Place<'t, 'a>, Wanted) -> Result<Expr<'a>, Error>> Exprs<F> {
+impl<F: Copy + for<'t, 'b> Fn(&mut Place<'t, 'b>, Wanted) -> Result<Expr<'b>, Error>> Exprs<F> {
     /// `=` and an expression.
-    fn assigned(&self, place: &mut Place<'_, 'a>) -> Result<Expr<'a>, Error>
+    fn assigned<'a>(&self, place: &mut Place<'_, 'a>) -> Result<Expr<'a>, Error>
         requires { ExprNests self.now.room (F.pre self.now.expr) (F.post self.now.expr) }
         ensures { Reads expr_view (spec.assigned self.now.fuel) place.old result place.new }
     {
@@ -120,7 +121,7 @@ impl<'a, F: Copy + for<'t> Fn(&mut Place<'t, 'a>, Wanted) -> Result<Expr<'a>, Er
     }
 
     /// A name and its value.
-    fn named_let(&self, place: &mut Place<'_, 'a>) -> Result<Stmt<'a>, Error>
+    fn named_let<'a>(&self, place: &mut Place<'_, 'a>) -> Result<Stmt<'a>, Error>
         requires { ExprNests self.now.room (F.pre self.now.expr) (F.post self.now.expr) }
         ensures { Reads stmt_view (spec.named_let self.now.fuel) place.old result place.new }
     {
@@ -130,7 +131,7 @@ impl<'a, F: Copy + for<'t> Fn(&mut Place<'t, 'a>, Wanted) -> Result<Expr<'a>, Er
     }
 
     /// A name's value, or a type that is checked, behind `let`.
-    fn bound(&self, place: &mut Place<'_, 'a>) -> Result<Stmt<'a>, Error>
+    fn bound<'a>(&self, place: &mut Place<'_, 'a>) -> Result<Stmt<'a>, Error>
         requires { ExprNests self.now.room (F.pre self.now.expr) (F.post self.now.expr) }
         ensures { Reads stmt_view (λ ts. turns.let_of self.now.fuel (next ts)) place.old result place.new }
     {
@@ -141,7 +142,7 @@ impl<'a, F: Copy + for<'t> Fn(&mut Place<'t, 'a>, Wanted) -> Result<Expr<'a>, Er
     }
 
     /// The same, and a semicolon.
-    fn let_ended(&self, place: &mut Place<'_, 'a>) -> Result<Stmt<'a>, Error>
+    fn let_ended<'a>(&self, place: &mut Place<'_, 'a>) -> Result<Stmt<'a>, Error>
         requires { ExprNests self.now.room (F.pre self.now.expr) (F.post self.now.expr) }
         ensures { Reads stmt_view (λ ts. spec.ended_stmt (turns.let_of self.now.fuel (next ts))) place.old result place.new }
     {
@@ -150,7 +151,7 @@ impl<'a, F: Copy + for<'t> Fn(&mut Place<'t, 'a>, Wanted) -> Result<Expr<'a>, Er
     }
 
     /// A turn that begins with an expression.
-    fn value_turn(&self, place: &mut Place<'_, 'a>) -> Result<Turn<Stmt<'a>, Last<'a>>, Error>
+    fn value_turn<'a>(&self, place: &mut Place<'_, 'a>) -> Result<Turn<Stmt<'a>, Last<'a>>, Error>
         requires { ExprNests self.now.room (F.pre self.now.expr) (F.post self.now.expr) }
         ensures { Reads (turn_view stmt_view boxed_view) (turns.value_turn self.now.fuel) place.old result place.new }
     {
@@ -159,7 +160,7 @@ impl<'a, F: Copy + for<'t> Fn(&mut Place<'t, 'a>, Wanted) -> Result<Expr<'a>, Er
     }
 
     /// The inside of a block, to the end.
-    pub fn block(&self, place: &mut Place<'_, 'a>) -> Result<Block<'a>, Error>
+    pub fn block<'a>(&self, place: &mut Place<'_, 'a>) -> Result<Block<'a>, Error>
         requires { ExprNests self.now.room (F.pre self.now.expr) (F.post self.now.expr) }
         ensures { ReadsWhole block_view (rows self.now.fuel).block place.old result }
     {

@@ -25,7 +25,7 @@ use Rattle.dm_read_laws.proofs.NaturalDeclarations.{bare_items_of}
 
 -- ---- types and lifetimes, without ranges in the words of the output language
 
-again_bare : {v w : Where} → Lower v w → (x : TypeTree) →
+pub again_bare : {v w : Where} → Lower v w → (x : TypeTree) →
     Respells (type_spelled x false w) (type_spelled (bare_type x) false v) (spell.type_trees (bare_type x))
 again_bare {v} {w} l x =
     subst (λ y. Respells (type_spelled x false w) (type_spelled y false v) (spell.type_trees y)) (sym (same_type x)) (again_type x false l)
@@ -74,7 +74,7 @@ again_lifetimes {v} {w} l ls =
     items_again (lifetime w) (lifetime v) bare_lifetime spell.lifetime 43 (plain 43 refl) no_lifetime l ls.items ls.trailing
     (each_again (lifetime w) (lifetime v) bare_lifetime spell.lifetime (respells_lifetime l) ls.items) ts others m s o c (lifetime_ends o others c))
 
-maybe_lifetimes : {v w : Where} → Lower v w → (bs : Option (Punctuated Lifetime)) →
+pub maybe_lifetimes : {v w : Where} → Lower v w → (bs : Option (Punctuated Lifetime)) →
     Respells (perhaps sees_colon bs (λ ls. colon w then lifetime_bounds w ls))
     (perhaps sees_colon (bare_lifetimes bs) (λ ls. colon v then lifetime_bounds v ls)) (maybe_lifetimes_trees (bare_lifetimes bs))
 maybe_lifetimes l None = respells_absent unseen_colon
@@ -90,7 +90,7 @@ again_list {v} {w} l bs =
     (sym (same_bounds (bounds_of bs.items)) ∙ sym (bounds_of_bare bs.items))
     (λ ts others m s o c h. again_bounds (bounds_of bs.items) bs.trailing l ts others m s o c (ends_kept o others c)))
 
-maybe_list : {v w : Where} → Lower v w → (bs : Option (Listed BoundTree)) →
+pub maybe_list : {v w : Where} → Lower v w → (bs : Option (Listed BoundTree)) →
     Respells (perhaps sees_colon bs (λ b. colon w then bound_list w b))
     (perhaps sees_colon (option_map bare_listed bs) (λ b. colon v then bound_list v b))
     (maybe_bounds_trees (option_map bare_listed bs))
@@ -137,7 +137,7 @@ generics_again {v} {w} l angled ps e =
 
 -- ---- predicates
 
-predicate_again : {v w : Where} → Lower v w → (x : PredicateTree) →
+pub predicate_again : {v w : Where} → Lower v w → (x : PredicateTree) →
     Respells (predicate x w) (predicate (bare_predicate x) v) (predicate_trees (bare_predicate x))
 predicate_again l (lifetime_predicate x ls) = respells_then (respells_lifetime l x) (again_lifetimes l ls)
 predicate_again l (type_predicate ls x bs) = respells_then (again_for l ls) (respells_then (again_bare l x) (again_list l bs))

@@ -4,6 +4,10 @@
 #[cfg(test)]
 mod attributes;
 #[cfg(test)]
+mod blocks;
+#[cfg(test)]
+mod expressions;
+#[cfg(test)]
 mod heads;
 #[cfg(test)]
 mod patterns;

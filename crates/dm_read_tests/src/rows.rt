@@ -1,6 +1,8 @@
 //! Whether texts are read whole.
 
 use dm_lexer::lex;
+use dm_read_blocks::sort::{Sort, Wanted};
+use dm_read_exprs::nested::{block, expr};
 use dm_read_heads::assoc::assocs;
 use dm_read_heads::attr::attrs;
 use dm_read_heads::head::printed_head;
@@ -17,6 +19,9 @@ use std::alloc::Global;
 /// What a text is read as.
 #[derive(Clone, Copy)]
 pub(crate) enum Part {
+    Expression,
+    /// The inside of a block.
+    Block,
     Pattern,
     Path,
     Type,
@@ -39,6 +44,13 @@ const FUEL: usize = 1_000;
 /// How deep texts may nest.
 const ROOM: usize = 100;
 
+/// A whole expression.
+const WANTED: Wanted = Wanted {
+    fuel: FUEL,
+    room: ROOM,
+    sort: Sort::Whole(true),
+};
+
 /// Whether this is the answer that is wanted. Want of memory never is. What was read is owned here alone, where its type is open, so that
 /// dropping it is cheap to prove.
 fn is_wanted<T: Drop>(read: Result<T, Error>, at_end: bool, whole: bool) -> bool {
@@ -49,9 +61,14 @@ fn is_wanted<T: Drop>(read: Result<T, Error>, at_end: bool, whole: bool) -> bool
     }
 }
 
-/// Whether what stands at a place is read whole, or isn't, as is wanted.
+/// Whether what stands at a place is read whole, or isn't, as is wanted. A block's reader promises no place: it reads to the end.
 fn answers(part: Part, place: &mut Place<'_, '_>, whole: bool) -> bool {
     match part {
+        Part::Expression => {
+            let read = expr(place, WANTED);
+            is_wanted(read, place.at_end(), whole)
+        }
+        Part::Block => is_wanted(block(place, FUEL, ROOM), true, whole),
         Part::Pattern => {
             let read = pattern(place, FUEL, ROOM);
             is_wanted(read, place.at_end(), whole)

@@ -28,9 +28,9 @@ use Rattle.dm_reread.specs.HeadLeaves.{read_generics, read_where, predicates_in,
 use Rattle.dm_reread.proofs.TypeLeafEnds.{Stop, stop_end, stop_punct, stop_brace, stop_word, ends_word, ends_stop, stop_cases}
 use Rattle.dm_reread.proofs.TypeLeafParts.{ExtendsIf, Extends, ext_then, ext_before, ext_nothing, ext_word}
 use Rattle.dm_reread.proofs.TypeLeafCalls.{calm_end, calm_word, uncalled_path}
-use Rattle.dm_reread.proofs.TypeLeafTypes.{ext_type, ext_path}
+use Rattle.dm_reread.proofs.TypeLeafTypes.{Bounded, ext_type, ext_path}
 use Rattle.dm_reread.proofs.TypeLeaf.{decided_answer, whole_decided}
-use Rattle.dm_reread.proofs.HeadLeafParts.{Quiet, before_maybe, ext_generics, ext_clause}
+use Rattle.dm_reread.proofs.HeadLeafParts.{before_maybe, ext_generics, ext_clause}
 
 -- ---- the readers of declarations decide parameters and predicates
 
@@ -161,21 +161,23 @@ module _ (f g : Span) (us vs : Trees) where
       ext_before rest (λ mid others m s c. calm_word rest (stop_brace f g us vs) w (codes "for") mid others m s)
       (ext_path rest (stop_brace f g us vs) p w) (ext_word rest w (codes "for"))
 
-  quiet_where : (w : Where) (ts others : Trees) (m : Marks) → keyword w (codes "where") ts others m → Quiet f g us vs ts
-  quiet_where w ts others m s = (
+  bounded_where : (w : Where) (ts others : Trees) (m : Marks) → keyword w (codes "where") ts others m →
+      Bounded rest (stop_brace f g us vs) ts
+  bounded_where w ts others m s = (
     calm_word rest (stop_brace f g us vs) w (codes "where") ts others m s,
     ap
         (λ x. sees_word (codes "for") (join x rest)) s.there.spelled,
   )
 
-  ext_head : (h : HeadTree) (w : Where) → ExtendsIf (group Brace f us g vs) (Quiet f g us vs) (head_spelled h w)
+  ext_head : (h : HeadTree) (w : Where) → ExtendsIf (group Brace f us g vs) (Bounded (group Brace f us g vs) (stop_brace f g us vs))
+      (head_spelled h w)
   ext_head h w =
-      ext_then rest (ext_generics f g us vs (is_some_params h.params) (listed h.params) w)
+      ext_then rest (ext_generics rest (stop_brace f g us vs) (is_some_params h.params) (listed h.params) w)
       (ext_then rest (ext_trait h.trait_path w)
       (ext_before rest
-      (λ mid others m s c. (before_maybe f g us vs (sees_word (codes "where")) (clause_of h.predicates)
-      (λ ps ts o k r. quiet_where w ts r.middle r.first_marks r.first) mid others m s c).0)
-      (ext_type rest (stop_brace f g us vs) h.ty false w) (ext_clause f g us vs (clause_of h.predicates) w)))
+      (λ mid others m s c. (before_maybe rest (stop_brace f g us vs) (sees_word (codes "where")) (clause_of h.predicates)
+      (λ ps ts o k r. bounded_where w ts r.middle r.first_marks r.first) mid others m s c).0)
+      (ext_type rest (stop_brace f g us vs) h.ty false w) (ext_clause rest (stop_brace f g us vs) refl (clause_of h.predicates) w)))
 
   read_back : (h : HeadTree) → IsHead h → read_head (join (between_trees h) rest) ≡ Some (h, rest)
   read_back h i =
@@ -200,7 +202,7 @@ head_type _ h = absurd h
 head_by : (h : HeadTree) (rest : Trees) → IsHead h → Stop rest → T (ends_head (next rest)) →
     read_head (join (between_trees h) rest) ≡ Some (h, rest)
 head_by h _ i stop_end e = absurd e
-head_by h _ i (stop_punct p ts a o) e = absurd (stop_cases ends_head p ts a o e (λ q k. k) (λ k. k) (λ k. k))
+head_by h _ i (stop_punct p ts a o) e = absurd (stop_cases ends_head p ts a o e (λ q k. k) (λ k. k) (λ k. k) (λ k. k))
 head_by h _ i (stop_brace f g us vs) e = read_back f g us vs h i
 head_by h _ i (stop_word j ts q) e = absurd (ends_word (kind j) j ts (head_type (next (token (t.Ident j) ts)) e))
 

@@ -31,7 +31,7 @@ type_ends _ h = absurd h
 comma_by : (rest : Trees) → Stop rest → T (ends_run (next rest)) → Comma rest
 comma_by _ stop_end h = comma_end
 comma_by _ (stop_punct p ts a o) h =
-    comma_first p ts (stop_cases ends_run p ts a o h (λ e k. e) (λ k. absurd k) (λ k. absurd k))
+    comma_first p ts (stop_cases ends_run p ts a o h (λ e k. e) (λ k. absurd k) (λ k. absurd k) (λ k. absurd k))
 comma_by _ (stop_brace f g us ts) h = absurd h
 comma_by _ (stop_word i ts e) h = absurd (ends_word (kind i) i ts (type_ends (next (token (t.Ident i) ts)) h))
 

@@ -1,5 +1,7 @@
 -- No macro call comes next where an end stands behind a type that is none: what stands behind a word of it goes on with no `!` and a group.
+-- Nor does it go on with `-`, which would be an arrow before a `>`.
 use Rattle.std.proofs.Common.{◌≡◌, ℕ, zero, suc, Bool, true, false, cond, nat_eq, List, [], ◌∷◌, codes, Option, Some, None, IsTrue, refl, sym, ap, ◌∙◌}
+use Rattle.std.proofs.lemmas.Bool.{or_parts}
 use Rattle.dm_stream.specs.declared.tokens.Ident.{Ident}
 use Rattle.dm_stream.specs.declared.tokens.Literal.{Literal}
 use Rattle.dm_stream.specs.declared.tokens.Punct.{Punct}
@@ -8,7 +10,7 @@ use Rattle.dm_stream.specs.Trees.{Trees, no_trees, token, group, join}
 use Rattle.dm_ast.specs.declared.plain.ConstArg.{ConstArg}
 use Rattle.dm_ast.specs.declared.plain.ConstArg.TheVariants as constant
 use Rattle.dm_ast.specs.Tree.{Lifetimes, TypeNode, paren, tuple, slice, array, reference, pointer, bare_fn, trait_object, impl_trait, infer, never, path, macro_type, no_self, some_self, BoundTree, outlives, implements, BoundTrees, no_bounds, bound_then, trait_bound, FnTree, fn_tree, PathTree, path_tree, segment, SegmentTrees, no_segments, segment_then, ArgumentsTree, absent, angle, parens}
-use Rattle.dm_ast.specs.Spelling.{Where, Marks, deeper, ◌then◌, sees_word, sees_literal, sees_colons, literal, punct, keyword, colons, flag, perhaps}
+use Rattle.dm_ast.specs.Spelling.{Where, Marks, deeper, ◌then◌, one_of, sees, sees_word, sees_literal, sees_colons, literal, punct, keyword, colons, flag, perhaps}
 use Rattle.dm_ast.specs.TypeGrammar.{behind_colons, behind_idents, behind_first, is_call, sees_macro, is_macro, not_named, constant_spelled, for_lifetimes, node, function, bound, some_bounds, more_bounds, path_spelled, segments, segments_left, trait_segments, qualified, arguments_of_segment}
 use Rattle.dm_read.proofs.MacroSeeing.{no_colons}
 use Rattle.dm_type_eq.proofs.Cutting.{same_front, are_colons}
@@ -38,15 +40,15 @@ no_macro : (p : Punct) (ts : Trees) → nat_eq p.ch 58 ≡ false → sees_macro 
 no_macro p ts h = ap (λ x. is_call (behind_first x)) (no_colons (token (t.Punct p) ts) (no_pair p ts h))
 
 module _ (rest : Trees) (stop : Stop rest) where
-  -- behind a word of a path they go on with no `!` and a group
+  -- behind a word of a path they go on with no `!` and a group, and with no `-`
   abbrev pub Calm : Trees → Type 0
-  Calm ts = is_call (Some (behind_idents (join ts rest))) ≡ false
+  Calm ts = (is_call (Some (behind_idents (join ts rest))) ≡ false) × (sees 45 (join ts rest) ≡ false)
 
   abbrev Uncalled : Trees → Type 0
   Uncalled ts = sees_macro (join ts rest) ≡ false
 
   pub calm_as : {ts us : Trees} → ts ≡ us → Calm us → Calm ts
-  calm_as e c = ap (λ x. is_call (Some (behind_idents (join x rest)))) e ∙ c
+  calm_as e c = (ap (λ x. is_call (Some (behind_idents (join x rest)))) e ∙ c.0, ap (λ x. sees 45 (join x rest)) e ∙ c.1)
 
   uncalled_as : {ts us : Trees} → ts ≡ us → Uncalled us → Uncalled ts
   uncalled_as e c = ap (λ x. sees_macro (join x rest)) e ∙ c
@@ -54,34 +56,41 @@ module _ (rest : Trees) (stop : Stop rest) where
   pub calm_end : Calm no_trees
   calm_end = by rest stop
     where
-      by : (us : Trees) → Stop us → is_call (Some (behind_idents us)) ≡ false
-      by _ stop_end = refl
-      by _ (stop_punct p ts a h) = no_call p ts (apart stops p.ch 58 h refl) (apart stops p.ch 33 h refl)
-      by _ (stop_brace f g us ts) = refl
-      by _ (stop_word i ts h) = refl
+      by : (us : Trees) → Stop us → (is_call (Some (behind_idents us)) ≡ false) × (sees 45 us ≡ false)
+      by _ stop_end = (refl, refl)
+      by _ (stop_punct p ts a h) =
+          (no_call p ts (apart stops p.ch 58 h refl) (apart stops p.ch 33 h refl), apart stops p.ch 45 h refl)
+      by _ (stop_brace f g us ts) = (refl, refl)
+      by _ (stop_word i ts h) = (refl, refl)
 
   pub calm_listed : (ts : Trees) → Listed ts → Calm ts
   calm_listed no_trees h = absurd (cc)
   calm_listed (token (t.Punct p) ts) h =
-      no_call p (join ts rest) (apart (43 ∷ 44 ∷ 62 ∷ []) p.ch 58 h refl) (apart (43 ∷ 44 ∷ 62 ∷ []) p.ch 33 h refl)
+      let by : (c : ℕ) → one_of (43 ∷ 44 ∷ 62 ∷ []) c ≡ false → nat_eq p.ch c ≡ false = λ c k. apart (43 ∷ 44 ∷ 62 ∷ []) p.ch c h k in
+      (no_call p (join ts rest) (by 58 refl) (by 33 refl), by 45 refl)
   calm_listed (token (t.Ident i) ts) h = absurd (cc)
   calm_listed (token (t.Literal l) ts) h = absurd (cc)
   calm_listed (token (t.Lifetime l) ts) h = absurd (cc)
   calm_listed (group d f us g ts) h = absurd (cc)
 
-  pub calm_punct : (w : Where) (c : ℕ) → nat_eq c 58 ≡ false → nat_eq c 33 ≡ false → (ts others : Trees) (m : Marks) →
-      punct w c ts others m → Calm ts
-  calm_punct w c h k ts others m s =
-      calm_as s.there.spelled (no_call s.punct (join others rest) (ap (λ x. nat_eq x 58) s.is ∙ h) (ap (λ x. nat_eq x 33) s.is ∙ k))
+  -- no `:`, `!` or `-`
+  pub calm_punct : (w : Where) (c : ℕ) → one_of (58 ∷ 33 ∷ 45 ∷ []) c ≡ false → (ts others : Trees) (m : Marks) → punct w c ts others m →
+      Calm ts
+  calm_punct w c h ts others m s =
+      let e = or_parts (nat_eq c 58) (one_of (33 ∷ 45 ∷ []) c) h in
+      let f = or_parts (nat_eq c 33) (one_of (45 ∷ []) c) e.1 in
+      let g = or_parts (nat_eq c 45) false f.1 in
+      let is_no : (d : ℕ) → nat_eq c d ≡ false → nat_eq s.punct.ch d ≡ false = λ d k. ap (λ x. nat_eq x d) s.is ∙ k in
+      calm_as s.there.spelled (no_call s.punct (join others rest) (is_no 58 e.0) (is_no 33 f.0), is_no 45 g.0)
 
   pub calm_word : (w : Where) (word : List ℕ) (ts others : Trees) (m : Marks) → keyword w word ts others m → Calm ts
-  calm_word w word ts others m s = calm_as s.there.spelled refl
+  calm_word w word ts others m s = calm_as s.there.spelled (refl, refl)
 
   uncalled_punct : (w : Where) (c : ℕ) → nat_eq c 58 ≡ false → (ts others : Trees) (m : Marks) → punct w c ts others m → Uncalled ts
   uncalled_punct w c h ts others m s = uncalled_as s.there.spelled (no_macro s.punct (join others rest) (ap (λ x. nat_eq x 58) s.is ∙ h))
 
   uncalled_word : (w : Where) (word : List ℕ) (ts others : Trees) (m : Marks) → keyword w word ts others m → Calm others → Uncalled ts
-  uncalled_word w word ts others m s c = uncalled_as s.there.spelled c
+  uncalled_word w word ts others m s c = uncalled_as s.there.spelled c.0
 
   -- ---- paths
 
@@ -91,18 +100,20 @@ module _ (rest : Trees) (stop : Stop rest) where
   calm_linked : (w : Where) (i : Ident) (ts mid us : Trees) (m : Marks) → colons w ts mid m → mid ≡ token (t.Ident i) us → Calm us → Calm ts
   calm_linked w i ts mid us m s e c =
       let front : Trees → Trees = λ x. token (t.Punct s.first) (token (t.Punct s.second) x) in
-      calm_as (s.spelled ∙ ap front e)
-      (sym (ap (λ b. is_call (Some (cond b (behind_idents (join us rest)) (front (token (t.Ident i) (join us rest))))))
-      (spelled_colons w ts mid m s)) ∙ c)
+      let called : is_call (Some (behind_idents (front (token (t.Ident i) (join us rest))))) ≡ false =
+      sym (ap (λ b. is_call (Some (cond b (behind_idents (join us rest)) (front (token (t.Ident i) (join us rest))))))
+      (spelled_colons w ts mid m s)) ∙ c.0 in
+      calm_as (s.spelled ∙ ap front e) (called, ap (λ x. nat_eq x 45) s.is_first)
 
   calm_arguments : (a : ArgumentsTree) (w : Where) (ts others : Trees) (m : Marks) → arguments_of_segment a w ts others m → Calm others →
       Calm ts
   calm_arguments absent w ts others m s c = calm_as s.part.spelled c
   calm_arguments (angle true gs u) w ts others m s c =
-      calm_as (s.first.spelled ∙ ap (λ x. token (t.Punct s.first.first) (token (t.Punct s.first.second) x)) s.rest.first.there.spelled) refl
+      calm_as (s.first.spelled ∙ ap (λ x. token (t.Punct s.first.first) (token (t.Punct s.first.second) x)) s.rest.first.there.spelled)
+      (refl, ap (λ x. nat_eq x 45) s.first.is_first)
   calm_arguments (angle false gs u) w ts others m s c =
-      calm_as s.first.part.spelled (calm_punct w 60 refl refl s.middle s.rest.middle s.rest.first_marks s.rest.first)
-  calm_arguments (parens xs u out) w ts others m s c = calm_as s.first.spelled refl
+      calm_as s.first.part.spelled (calm_punct w 60 refl s.middle s.rest.middle s.rest.first_marks s.rest.first)
+  calm_arguments (parens xs u out) w ts others m s c = calm_as s.first.spelled (refl, refl)
 
   pub calm_left : (ss : SegmentTrees) (w : Where) (ts others : Trees) (m : Marks) → segments_left ss w ts others m → Calm others → Calm ts
   calm_left no_segments w ts others m s c = calm_as s.part.spelled c
@@ -122,7 +133,7 @@ module _ (rest : Trees) (stop : Stop rest) where
 
   calm_segments : (ss : SegmentTrees) (w : Where) (ts others : Trees) (m : Marks) → segments ss w ts others m → Calm ts
   calm_segments no_segments w ts others m s = absurd s.fact
-  calm_segments (segment_then (segment i a) ss) w ts others m s = calm_as s.first.first.part.spelled refl
+  calm_segments (segment_then (segment i a) ss) w ts others m s = calm_as s.first.first.part.spelled (refl, refl)
 
   calm_path : (p : PathTree) (w : Where) (ts others : Trees) (m : Marks) → path_spelled p w ts others m → Calm others → Calm ts
   calm_path (path_tree true ss) w ts others m s c = calm_segment ss w ts s.middle others s.first_marks s.rest_marks s.first s.rest c
@@ -134,7 +145,7 @@ module _ (rest : Trees) (stop : Stop rest) where
   uncalled_segments (segment_then (segment i a) ss) w ts others m s c =
       let x = s.first in
       ap (λ z. is_call (behind_first (join z rest))) x.first.part.spelled ∙
-      calm_arguments a w x.middle s.middle x.rest_marks x.rest (calm_left ss w s.middle others s.rest_marks s.rest c)
+      (calm_arguments a w x.middle s.middle x.rest_marks x.rest (calm_left ss w s.middle others s.rest_marks s.rest c)).0
 
   no_leading : (ss : SegmentTrees) (w : Where) (ts others : Trees) (m : Marks) → segments ss w ts others m →
       behind_colons (join ts rest) ≡ join ts rest
@@ -164,7 +175,7 @@ module _ (rest : Trees) (stop : Stop rest) where
       let x = s.first in
       calm_linked v i ts mid x.middle k f x.first.part.spelled
       (calm_arguments a (deeper w) x.middle s.middle x.rest_marks x.rest
-      (calm_punct w 62 refl refl s.middle s.rest.middle s.rest.first_marks s.rest.first))
+      (calm_punct w 62 refl s.middle s.rest.middle s.rest.first_marks s.rest.first))
   calm_trait (suc n) (segment_then (segment i a) ss) v w ts mid others k m f s =
       let x = s.first in
       calm_linked v i ts mid x.middle k f x.first.part.spelled
@@ -173,7 +184,7 @@ module _ (rest : Trees) (stop : Stop rest) where
 
   -- what stands behind the type of a qualified path
   pub calm_qualified : (n : ℕ) (p : PathTree) (w : Where) (ts others : Trees) (m : Marks) → qualified n p w ts others m → Calm ts
-  calm_qualified zero (path_tree b ss) w ts others m s = calm_punct w 62 refl refl ts s.part.middle s.part.first_marks s.part.first
+  calm_qualified zero (path_tree b ss) w ts others m s = calm_punct w 62 refl ts s.part.middle s.part.first_marks s.part.first
   calm_qualified (suc n) (path_tree b ss) w ts others m s = calm_word (deeper w) (codes "as") ts s.middle s.first_marks s.first
 
   -- ---- bounds
@@ -185,16 +196,16 @@ module _ (rest : Trees) (stop : Stop rest) where
   calm_for (Some l) p w ts others m s c = calm_word w (codes "for") ts s.first.middle s.first.first_marks s.first.first
 
   calm_bound : (b : BoundTree) (w : Where) (ts others : Trees) (m : Marks) → bound b w ts others m → Calm others → Calm ts
-  calm_bound (outlives l) w ts others m s c = calm_as s.spelled refl
-  calm_bound (implements (trait_bound true maybe ls p)) w ts others m s c = calm_as s.spelled refl
-  calm_bound (implements (trait_bound false true ls p)) w ts others m s c = calm_punct w 63 refl refl ts s.middle s.first_marks s.first
+  calm_bound (outlives l) w ts others m s c = calm_as s.spelled (refl, refl)
+  calm_bound (implements (trait_bound true maybe ls p)) w ts others m s c = calm_as s.spelled (refl, refl)
+  calm_bound (implements (trait_bound false true ls p)) w ts others m s c = calm_punct w 63 refl ts s.middle s.first_marks s.first
   calm_bound (implements (trait_bound false false ls p)) w ts others m s c =
       calm_as s.first.part.spelled (calm_for ls p w s.middle others s.rest_marks s.rest c)
 
   pub calm_more : (bs : BoundTrees) (single : Bool) (w : Where) (ts others : Trees) (m : Marks) → more_bounds bs single w ts others m →
       Calm others → Calm ts
   calm_more no_bounds single w ts others m s c = calm_as s.part.spelled c
-  calm_more (bound_then b bs) single w ts others m s c = calm_punct w 43 refl refl ts s.part.middle s.part.first_marks s.part.first
+  calm_more (bound_then b bs) single w ts others m s c = calm_punct w 43 refl ts s.part.middle s.part.first_marks s.part.first
 
   calm_bounds : (bs : BoundTrees) (single : Bool) (w : Where) (ts others : Trees) (m : Marks) → some_bounds bs single w ts others m →
       Calm others → Calm ts
@@ -212,7 +223,7 @@ module _ (rest : Trees) (stop : Stop rest) where
       perhaps sees_literal called (literal w) ts mid m →
       keyword w (codes "fn") mid others k → Calm ts
   calm_called None w ts mid others m k s f = calm_as s.part.spelled (calm_word w (codes "fn") mid others k f)
-  calm_called (Some l) w ts mid others m k s f = calm_as s.spelled refl
+  calm_called (Some l) w ts mid others m k s f = calm_as s.spelled (refl, refl)
 
   calm_extern : (abi : Option (Option Literal)) (w : Where) (ts mid others : Trees) (m k : Marks) → Extern w abi ts mid m →
       keyword w (codes "fn") mid others k → Calm ts
@@ -236,14 +247,14 @@ module _ (rest : Trees) (stop : Stop rest) where
   uncalled_function : (f : FnTree) (w : Where) (ts others : Trees) (m : Marks) → function f w ts others m → Uncalled ts
   uncalled_function (fn_tree (Some l) b abi is u out) w ts others m s =
       uncalled_word w (codes "for") ts s.first.middle s.first.first_marks s.first.first
-      (calm_punct w 60 refl refl s.first.middle s.first.rest.middle s.first.rest.first_marks s.first.rest.first)
+      (calm_punct w 60 refl s.first.middle s.first.rest.middle s.first.rest.first_marks s.first.rest.first)
   uncalled_function (fn_tree None b abi is u out) w ts others m s =
       let x = s.rest in
       let y = x.rest in
       let z = y.rest in
       uncalled_as s.first.part.spelled
       (uncalled_unsafe b abi w s.middle x.middle y.middle z.middle x.first_marks y.first_marks z.first_marks x.first y.first z.first
-      (calm_as z.rest.first.spelled refl))
+      (calm_as z.rest.first.spelled (refl, refl)))
 
   -- ---- types and constants
 
@@ -283,6 +294,6 @@ module _ (rest : Trees) (stop : Stop rest) where
       Calm others → Uncalled ts
   uncalled_constant (constant.Literal true l) w ts others m s e c = uncalled_punct w 45 refl ts s.middle s.first_marks s.first
   uncalled_constant (constant.Literal false l) w ts others m s e c = uncalled_as (s.first.part.spelled ∙ s.rest.spelled) refl
-  uncalled_constant (constant.Bool i) w ts others m s e c = uncalled_as s.part.spelled c
+  uncalled_constant (constant.Bool i) w ts others m s e c = uncalled_as s.part.spelled c.0
   uncalled_constant (constant.Block o) w ts others m s e c = uncalled_as s.spelled refl
   uncalled_constant (constant.Name i) w ts others m s e c = absurd (cc)

@@ -1,6 +1,6 @@
--- Where a type ends: an end, `,`, `;`, `=`, a brace, `for` or `where`. What the tests of the grammar don't see in front of trees, they
+-- Where a type ends: an end, `,`, `;`, `=`, `>`, a brace, `for` or `where`. What the tests of the grammar don't see in front of trees, they
 -- don't see there when such an end stands behind these.
-use Rattle.std.proofs.Common.{◌≡◌, ℕ, Bool, true, false, ◌&&◌, ◌||◌, cond, nat_eq, ◌==◌, List, [], ◌∷◌, codes, T, refl, ap, ◌∙◌, subst}
+use Rattle.std.proofs.Common.{◌≡◌, ℕ, Bool, true, false, not, ◌&&◌, ◌||◌, cond, nat_eq, ◌==◌, List, [], ◌∷◌, codes, T, refl, ap, ◌∙◌, subst}
 use Rattle.std.proofs.lemmas.Bool.{eqb-true, or_parts, or_from, not_from_false, not-true}
 use Rattle.dm_stream.specs.declared.tokens.Span.{Span}
 use Rattle.dm_stream.specs.declared.tokens.Delim.TheVariants.{Paren, Bracket, Brace}
@@ -12,16 +12,16 @@ use Rattle.dm_stream.specs.declared.tokens.Token.TheVariants as t
 use Rattle.dm_stream.specs.Trees.{Trees, no_trees, token, group, join}
 use Rattle.dm_stream.specs.Layout.{nowhere}
 use Rattle.dm_ast.specs.Keywords.{is_keyword}
-use Rattle.dm_ast.specs.Spelling.{at_end, is_joint, is_word, one_of, sees, sees_one, sees_pair, sees_word, sees_lifetime, sees_literal, sees_group, sees_colons, sees_arrow}
+use Rattle.dm_ast.specs.Spelling.{at_end, is_joint, is_word, one_of, sees, sees_one, sees_pair, sees_word, sees_lifetime, sees_literal, sees_group, sees_colons, sees_colon, sees_arrow}
 use Rattle.dm_ast.specs.TypeGrammar.{is_path_word, sees_path_word, behind_colons, sees_turbofish, sees_arguments, sees_bound, ends_bounds}
 use Rattle.dm_read.proofs.Tokens.{word_is}
 use Rattle.dm_type_eq.proofs.Cutting.{and_kept}
 use Rattle.dm_reread.specs.Next.{Next, oror, andand, equals, differs, star, amp, dot, asks, bangs, plus, less, hash, bar, comma, colon, semicolon, assigns, leads, arrow, colons, dots, other, next, alone_next, pair_next, last_next, joint_next, punct_next, Word, of_path, kind, word_next}
 use Rattle.dm_reread.specs.Leaves.{ends_type}
 
--- `,`, `;` and `=`
+-- `,`, `;`, `=` and `>`
 abbrev pub stops : List ℕ
-stops = 44 ∷ 59 ∷ 61 ∷ []
+stops = 44 ∷ 59 ∷ 61 ∷ 62 ∷ []
 
 abbrev pub is_stop_word : Ident → Bool
 is_stop_word i = is_word (codes "for") i || is_word (codes "where") i
@@ -81,6 +81,11 @@ no_path_word i h = by (is_word (codes "for") i) (is_word (codes "where") i) refl
     by false true e f g = ap is_path_word (word_is i (codes "where") f)
     by false false e f g = absurd (cc)
 
+-- no arrow is seen where no `-` comes first
+pub no_arrow : (ts : Trees) → sees 45 ts ≡ false → sees_arrow ts ≡ false
+no_arrow (token (t.Punct p) ts) h = ap (λ b. (b && is_joint p.spacing) && sees 62 ts) h
+no_arrow _ h = refl
+
 -- ---- with the end behind other trees
 
 module _ (rest : Trees) (stop : Stop rest) where
@@ -116,8 +121,27 @@ module _ (rest : Trees) (stop : Stop rest) where
   pub unmet_colons : Unmet sees_colons
   unmet_colons = unmet_pair 58 58 refl refl
 
-  pub unmet_arrow : Unmet sees_arrow
-  unmet_arrow = unmet_pair 45 62 refl refl
+  same_colon : (ts : Trees) → sees_one (58 ∷ []) (join ts rest) ≡ sees_one (58 ∷ []) ts
+  same_colon no_trees = stop_one 58 refl rest stop
+  same_colon (token (t.Punct p) ts) = refl
+  same_colon (token (t.Ident i) ts) = refl
+  same_colon (token (t.Literal l) ts) = refl
+  same_colon (token (t.Lifetime l) ts) = refl
+  same_colon (group d f us g ts) = refl
+
+  pub unmet_colon : Unmet sees_colon
+  unmet_colon no_trees h = by rest stop
+    where
+      by : (us : Trees) → Stop us → sees_colon us ≡ false
+      by _ stop_end = refl
+      by _ (stop_punct p ts a e) = ap (λ b. b && not (is_joint p.spacing && sees_one (58 ∷ []) ts)) (apart stops p.ch 58 e refl)
+      by _ (stop_brace f g us ts) = refl
+      by _ (stop_word i ts e) = refl
+  unmet_colon (token (t.Punct p) ts) h = ap (λ b. nat_eq p.ch 58 && not (is_joint p.spacing && b)) (same_colon ts) ∙ h
+  unmet_colon (token (t.Ident i) ts) h = refl
+  unmet_colon (token (t.Literal l) ts) h = refl
+  unmet_colon (token (t.Lifetime l) ts) h = refl
+  unmet_colon (group d f us g ts) h = refl
 
   -- behind some trees, any word
   pub kept_word : (word : List ℕ) (ts : Trees) → at_end ts ≡ false → sees_word word ts ≡ false → sees_word word (join ts rest) ≡ false
@@ -252,10 +276,6 @@ pick : (b c : Bool) (x y : Next) → (T (ends_type y) → c ≡ true) → T (end
 pick true c x y f h = refl
 pick false c x y f h = f h
 
-only : (b : Bool) (x y : Next) → (T (ends_type y) → ⊥) → T (ends_type (cond b x y)) → (b || false) ≡ true
-only true x y f h = refl
-only false x y f h = absurd (f h)
-
 none_of : (b c : Bool) (ts : Trees) → T (ends_type (cond b (bar ts) (cond c (hash ts) other))) → ⊥
 none_of true c ts h = h
 none_of false true ts h = h
@@ -263,8 +283,9 @@ none_of false false ts h = h
 
 ends_alone : (c : ℕ) (ts : Trees) → T (ends_type (alone_next c ts)) → one_of stops c ≡ true
 ends_alone c ts h =
-    pick (c == 44) (one_of (59 ∷ 61 ∷ []) c) (comma ts) _
-    (λ h. pick (c == 59) (one_of (61 ∷ []) c) (semicolon ts) _ (only (c == 61) (assigns ts) _ (none_of (c == 124) (c == 35) ts))
+    pick (c == 44) (one_of (59 ∷ 61 ∷ 62 ∷ []) c) (comma ts) _
+    (λ h. pick (c == 59) (one_of (61 ∷ 62 ∷ []) c) (semicolon ts) _
+    (pick (c == 61) (one_of (62 ∷ []) c) (assigns ts) _ (λ k. absurd (none_of (c == 124) (c == 35) ts k)))
     (skip (c == 58) (colon ts) _ refl h))
     (skip (c == 60) (less ts) _ refl
     (skip (c == 43) (plus ts) _ refl
@@ -312,17 +333,20 @@ ends_stop (group Paren f us g ts) h = absurd h
 ends_stop (group Bracket f us g ts) h = absurd h
 ends_stop (group Brace f us g ts) h = stop_brace f g us ts
 
--- a punct that is one of the three
+-- a punct that is one of the four; what may stand behind a type is none for `>`
 pub stop_cases : {X : Type 0} (test : Next → Bool) (p : Punct) (ts : Trees) → p.spacing ≡ Alone → one_of stops p.ch ≡ true →
     T (test (next (token (t.Punct p) ts))) → (p.ch ≡ 44 → T (test (comma ts)) → X) → (T (test (semicolon ts)) → X) →
-    (T (test (assigns ts)) → X) → X
-stop_cases {X} test p ts a o h f g k = by (nat_eq p.ch 44) (nat_eq p.ch 59) (nat_eq p.ch 61) refl refl refl o
+    (T (test (assigns ts)) → X) → (T (test other) → X) → X
+stop_cases {X} test p ts a o h f g k l =
+    by (nat_eq p.ch 44) (nat_eq p.ch 59) (nat_eq p.ch 61) (nat_eq p.ch 62) refl refl refl refl o
   where
     there : (c : ℕ) → p.ch ≡ c → T (test (alone_next c ts))
     there c e = subst (λ x. T (test (alone_next x ts))) e (subst (λ x. T (test (punct_next x p.ch ts))) a h)
 
-    by : (x y z : Bool) → nat_eq p.ch 44 ≡ x → nat_eq p.ch 59 ≡ y → nat_eq p.ch 61 ≡ z → (x || (y || (z || false))) ≡ true → X
-    by true y z e e1 e2 q = f (eqb-true p.ch 44 e) (there 44 (eqb-true p.ch 44 e))
-    by false true z e e1 e2 q = g (there 59 (eqb-true p.ch 59 e1))
-    by false false true e e1 e2 q = k (there 61 (eqb-true p.ch 61 e2))
-    by false false false e e1 e2 q = absurd (cc)
+    by : (x y z v : Bool) → nat_eq p.ch 44 ≡ x → nat_eq p.ch 59 ≡ y → nat_eq p.ch 61 ≡ z → nat_eq p.ch 62 ≡ v →
+        (x || (y || (z || (v || false)))) ≡ true → X
+    by true y z v e e1 e2 e3 q = f (eqb-true p.ch 44 e) (there 44 (eqb-true p.ch 44 e))
+    by false true z v e e1 e2 e3 q = g (there 59 (eqb-true p.ch 59 e1))
+    by false false true v e e1 e2 e3 q = k (there 61 (eqb-true p.ch 61 e2))
+    by false false false true e e1 e2 e3 q = l (there 62 (eqb-true p.ch 62 e3))
+    by false false false false e e1 e2 e3 q = absurd (cc)

@@ -1,5 +1,5 @@
 -- A type that is spelled before other trees is spelled before them also where an end stands behind these, and so are the parts of types.
-use Rattle.std.proofs.Common.{◌≡◌, ℕ, zero, suc, Bool, true, false, ◌||◌, nat_eq, [], ◌∷◌, codes, Option, Some, None, refl, ap, ◌∙◌}
+use Rattle.std.proofs.Common.{◌≡◌, ℕ, zero, suc, Bool, true, false, ◌||◌, [], ◌∷◌, codes, Option, Some, None, refl, ap, ◌∙◌}
 use Rattle.dm_stream.specs.declared.tokens.Delim.TheVariants.{Paren, Bracket, Brace}
 use Rattle.dm_stream.specs.declared.tokens.Literal.{Literal}
 use Rattle.dm_stream.specs.declared.tokens.Token.TheVariants as t
@@ -7,10 +7,10 @@ use Rattle.dm_stream.specs.Trees.{Trees, no_trees, token, group, join}
 use Rattle.dm_ast.specs.declared.plain.ConstArg.{ConstArg}
 use Rattle.dm_ast.specs.declared.plain.ConstArg.TheVariants as constant
 use Rattle.dm_ast.specs.Tree.{TypeTree, type_tree, TypeNode, paren, tuple, slice, array, reference, pointer, bare_fn, trait_object, impl_trait, infer, never, path, macro_type, MaybeType, no_type, some_type, no_self, some_self, BoundTree, outlives, implements, BoundTrees, no_bounds, bound_then, TraitBoundTree, trait_bound, FnTree, fn_tree, PathTree, path_tree, SegmentTree, segment, SegmentTrees, no_segments, segment_then, ArgumentsTree, absent, angle, parens, ArgumentTree, lifetime_arg, type_arg, const_arg, assoc_type, assoc_const, constraint, ArgumentTrees, no_arguments, argument_then, MaybeArguments, arguments_absent, some_arguments}
-use Rattle.dm_ast.specs.Spelling.{Where, deeper, Marks, Spelling, at_end, sees, sees_word, sees_colon, sees_equals, punct, keyword, flag}
+use Rattle.dm_ast.specs.Spelling.{Where, deeper, Marks, Spelling, at_end, one_of, sees, sees_word, sees_colon, sees_equals, punct, keyword, flag}
 use Rattle.dm_ast.specs.TypeGrammar.{ends_bounds, types, inputs, kept, type_spelled, node, output, function, bound, trait_bound_spelled, some_bounds, more_bounds, bounds, bounds_left, path_spelled, segments, segments_left, qualified, trait_segments, some_segments_left, segment_spelled, arguments_of_segment, arguments, arguments_left, argument, maybe_angled, constant_spelled, constant_argument}
 use Rattle.dm_read_paths.proofs.TypeEnds.{type_goes_on}
-use Rattle.dm_reread.proofs.TypeLeafEnds.{Stop, apart, unmet_sees, unmet_colons, unmet_arrow, unmet_arguments, unmet_word, unmet_lifetime, unmet_literal, bounds_end}
+use Rattle.dm_reread.proofs.TypeLeafEnds.{Stop, apart, no_arrow, unmet_sees, unmet_colons, unmet_arguments, unmet_word, unmet_lifetime, unmet_literal, bounds_end}
 use Rattle.dm_reread.proofs.TypeLeafParts.{Listed, ExtendsIf, Extends, ext_then, ext_before, ext_if, ext_nothing, ext_where, ext_facing, ext_provided, ext_ranged, ext_absent, ext_flag, ext_perhaps, ext_token, ext_punct, ext_word, ext_pair, ext_group, ext_equals, ext_colon, ext_for, ext_plain, ext_angles, Ends, angle_over, ext_none, ext_last, last_before, listed_punct}
 use Rattle.dm_reread.proofs.TypeLeafCalls.{Calm, Extern, calm_listed, calm_punct, calm_left, calm_trait, calm_qualified, calm_more, same_call, uncalled_constant}
 
@@ -34,7 +34,7 @@ module _ (rest : Trees) (stop : Stop rest) where
       ext_facing rest (λ ts others m s g e. uncalled_constant rest stop c w ts others m s.part s.fact (calm_listed rest stop others g))
       (ext_provided rest (λ e. ext_if rest _ (ext_constant c w)))
 
-  constant_goes_on : (c : ConstArg) (w : Where) (ts others : Trees) (m : Marks) → constant_spelled w c ts others m → at_end ts ≡ false
+  pub constant_goes_on : (c : ConstArg) (w : Where) (ts others : Trees) (m : Marks) → constant_spelled w c ts others m → at_end ts ≡ false
   constant_goes_on (constant.Literal true l) w ts others m s = ap at_end s.first.there.spelled
   constant_goes_on (constant.Literal false l) w ts others m s = ap at_end (s.first.part.spelled ∙ s.rest.spelled)
   constant_goes_on (constant.Bool i) w ts others m s = ap at_end s.part.spelled
@@ -42,17 +42,16 @@ module _ (rest : Trees) (stop : Stop rest) where
   constant_goes_on (constant.Name i) w ts others m s = ap at_end s.part.spelled
 
   -- a type in a list makes no binding
-  no_binding : (ts : Trees) → Listed ts → (sees_equals ts || sees_colon ts) ≡ false →
-      (sees_equals (join ts rest) || sees_colon (join ts rest)) ≡ false
-  no_binding no_trees g h = absurd (cc)
-  no_binding (token (t.Punct p) ts) g h =
+  pub no_binding : (ts : Trees) → Listed ts → (sees_equals (join ts rest) || sees_colon (join ts rest)) ≡ false
+  no_binding no_trees g = absurd (cc)
+  no_binding (token (t.Punct p) ts) g =
       let a = apart (43 ∷ 44 ∷ 62 ∷ []) p.ch 61 g refl in
       let b = apart (43 ∷ 44 ∷ 62 ∷ []) p.ch 58 g refl in
       rw (a, b) refl
-  no_binding (token (t.Ident i) ts) g h = refl
-  no_binding (token (t.Literal l) ts) g h = refl
-  no_binding (token (t.Lifetime l) ts) g h = refl
-  no_binding (group d f us k ts) g h = refl
+  no_binding (token (t.Ident i) ts) g = refl
+  no_binding (token (t.Literal l) ts) g = refl
+  no_binding (token (t.Lifetime l) ts) g = refl
+  no_binding (group d f us k ts) g = refl
 
   -- ---- behind `for<..>` something stands
 
@@ -79,21 +78,24 @@ module _ (rest : Trees) (stop : Stop rest) where
   abbrev pub Bounded : Trees → Type 0
   Bounded ts = Calm rest stop ts × (sees_word (codes "for") (join ts rest) ≡ false)
 
-  pub bounded_punct : (w : Where) (c : ℕ) → nat_eq c 58 ≡ false → nat_eq c 33 ≡ false → (ts others : Trees) (m : Marks) →
+  pub bounded_punct : (w : Where) (c : ℕ) → one_of (58 ∷ 33 ∷ 45 ∷ []) c ≡ false → (ts others : Trees) (m : Marks) →
       punct w c ts others m → Bounded ts
-  bounded_punct w c h k ts others m s =
-      (calm_punct rest stop w c h k ts others m s, ap (λ x. sees_word (codes "for") (join x rest)) s.there.spelled)
+  bounded_punct w c h ts others m s =
+      (calm_punct rest stop w c h ts others m s, ap (λ x. sees_word (codes "for") (join x rest)) s.there.spelled)
 
-  bounded_listed : (ts : Trees) → Listed ts → sees_word (codes "for") (join ts rest) ≡ false
-  bounded_listed no_trees g = absurd (cc)
-  bounded_listed (token (t.Punct p) ts) g = refl
-  bounded_listed (token (t.Ident i) ts) g = absurd (cc)
-  bounded_listed (token (t.Literal l) ts) g = absurd (cc)
-  bounded_listed (token (t.Lifetime l) ts) g = absurd (cc)
-  bounded_listed (group d f us k ts) g = absurd (cc)
+  listed_no_for : (ts : Trees) → Listed ts → sees_word (codes "for") (join ts rest) ≡ false
+  listed_no_for no_trees g = absurd (cc)
+  listed_no_for (token (t.Punct p) ts) g = refl
+  listed_no_for (token (t.Ident i) ts) g = absurd (cc)
+  listed_no_for (token (t.Literal l) ts) g = absurd (cc)
+  listed_no_for (token (t.Lifetime l) ts) g = absurd (cc)
+  listed_no_for (group d f us k ts) g = absurd (cc)
+
+  pub bounded_listed : (ts : Trees) → Listed ts → Bounded ts
+  bounded_listed ts g = (calm_listed rest stop ts g, listed_no_for ts g)
 
   pub bounded_item : {S : Spelling} → ExtendsIf rest Bounded S → ExtendsIf rest Listed S
-  bounded_item f ts others m s c = f ts others m s (calm_listed rest stop others c, bounded_listed others c)
+  bounded_item f ts others m s c = f ts others m s (bounded_listed others c)
 
   pub bounded : {S : Spelling} → ExtendsIf rest (Calm rest stop) S → ExtendsIf rest Bounded S
   bounded f ts others m s c = f ts others m s c.0
@@ -103,13 +105,13 @@ module _ (rest : Trees) (stop : Stop rest) where
       record {
         apart = λ ts g e. unmet_sees rest stop 43 refl ts e;
         ends = λ ts g e. bounds_end rest stop ts g.1 e;
-        before = λ ts others m s. bounded_punct w 43 refl refl ts others m s;
+        before = λ ts others m s. bounded_punct w 43 refl ts others m s;
       }
 
   before_bounds : (bs : BoundTrees) (u : Bool) (w : Where) (ts others : Trees) (m : Marks) → bounds_left bs u w ts others m →
       Bounded others → Bounded ts
   before_bounds no_bounds u w ts others m s g = last_before rest _ w 43 ends_bounds (bounds_over w) u ts others m s g
-  before_bounds (bound_then b bs) u w ts others m s g = bounded_punct w 43 refl refl ts s.middle s.first_marks s.first
+  before_bounds (bound_then b bs) u w ts others m s g = bounded_punct w 43 refl ts s.middle s.first_marks s.first
 
   before_arguments : (gs : ArgumentTrees) (u : Bool) (w : Where) (ts others : Trees) (m : Marks) → arguments_left gs u w ts others m →
       Listed others →
@@ -165,7 +167,7 @@ module _ (rest : Trees) (stop : Stop rest) where
         ext_then rest (ext_plain rest stop w p) (ext_then rest (ext_punct rest w 33) (ext_if rest _ (ext_group rest w d (kept o))))
 
     ext_output : (x : MaybeType) (w inner : Where) → ExtendsIf rest (Calm rest stop) (output x w inner)
-    ext_output no_type w inner = ext_if rest _ (ext_absent rest (unmet_arrow rest stop))
+    ext_output no_type w inner = ext_where rest (λ others c e. no_arrow (join others rest) c.1) (ext_if rest _ (ext_nothing rest))
     ext_output (some_type x) w inner = ext_then rest (ext_pair rest w 45 62) (ext_type x true inner)
 
     ext_function : (f : FnTree) (w : Where) → ExtendsIf rest (Calm rest stop) (function f w)
@@ -250,7 +252,7 @@ module _ (rest : Trees) (stop : Stop rest) where
     ext_trait_segments no_segments zero w = ext_provided rest (λ e. absurd e)
     ext_trait_segments no_segments (suc n) w = ext_provided rest (λ e. absurd e)
     ext_trait_segments (segment_then x ss) zero w =
-        ext_before rest (λ mid others m s c. calm_punct rest stop w 62 refl refl mid s.middle s.first_marks s.first)
+        ext_before rest (λ mid others m s c. calm_punct rest stop w 62 refl mid s.middle s.first_marks s.first)
         (ext_segment x (deeper w))
         (ext_then rest (ext_punct rest w 62) (ext_some_left ss w))
     ext_trait_segments (segment_then x ss) (suc n) w =
@@ -285,7 +287,7 @@ module _ (rest : Trees) (stop : Stop rest) where
 
     ext_argument : (g : ArgumentTree) (w : Where) → ExtendsIf rest Listed (argument g w)
     ext_argument (lifetime_arg l) w = ext_if rest _ (ext_token rest w (t.Lifetime l))
-    ext_argument (type_arg x) w = ext_where rest (λ others c e. no_binding others c e) (as_item (ext_type x false w))
+    ext_argument (type_arg x) w = ext_where rest (λ others c e. no_binding others c) (as_item (ext_type x false w))
     ext_argument (const_arg c) w = ext_constant_argument c w
     ext_argument (assoc_type i gs x) w =
         ext_then rest (ext_provided rest (λ e. ext_token rest w (t.Ident i)))

@@ -1,0 +1,4 @@
+pub mod BeforeColon
+pub mod DeclaredInner
+pub mod NeededAlone
+pub mod WordsAlone

@@ -1,0 +1,2 @@
+//! Derived implementations are of the output language. There is no program.
+#![tactic(auto)]

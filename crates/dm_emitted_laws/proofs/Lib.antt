@@ -1,0 +1,15 @@
+pub mod NamesDeclared
+pub mod OperatorNames
+pub mod OperandPatterns
+pub mod OperatorBodies
+pub mod ComparisonBodies
+pub mod EmittedTypes
+pub mod EmittedHeads
+pub mod EmittedItems
+pub mod BodiesFit
+pub mod DeclaredFits
+pub mod ItemsFit
+pub mod LowBodies
+pub mod LowDeclared
+pub mod LowItems
+pub mod EmittedPrintable

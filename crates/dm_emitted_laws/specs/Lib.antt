@@ -1,0 +1,4 @@
+pub mod Parts
+pub mod Ready
+pub mod Spellable
+pub mod Printable

@@ -1,0 +1,3 @@
+pub mod BareTypeLevels
+pub mod BareExprLevels
+pub mod BareLevels

@@ -1,0 +1,2 @@
+//! That the levels of implementations look at no range. There is no program.
+#![tactic(auto)]

@@ -1,0 +1,2 @@
+pub mod ExprPasses
+pub mod Following

@@ -1,0 +1,9 @@
+use Rattle.std.proofs.Common.{◌≡◌, map, drop}
+use Rattle.dm_levels.specs.Behind.{seen}
+use Rattle.dm_levels.specs.Levels.{in_turn, attr_levels}
+use Rattle.dm_type_levels.specs.Passing.{pass, pass_then}
+use Rattle.dm_levels.proofs.attr.attrs.Given as goal
+
+abbrev pub invariant-loop-one : goal.invariant-loop-one
+invariant-loop-one l =
+    pass_then (in_turn (map (attr_levels l.level) (drop l.one-index l.all))) (seen l.at) ≡ pass (in_turn (map (attr_levels l.level) l.all)) l.rest

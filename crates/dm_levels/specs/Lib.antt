@@ -1,0 +1,3 @@
+pub mod Behind
+pub mod Levels
+pub mod Low

@@ -1,0 +1,9 @@
+pub mod ChainLists
+pub mod PostLists
+pub mod ChainSteps
+pub mod PrefixSteps
+pub mod Applying
+pub mod PostSteps
+pub mod BaseSteps
+pub mod TupleSteps
+pub mod NestSteps

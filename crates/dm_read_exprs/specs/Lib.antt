@@ -1,0 +1,3 @@
+pub mod Posts
+pub mod Turns
+pub mod Rows

@@ -1,0 +1,91 @@
+-- Parts of the plain reader's rows that functions of their own read.
+use Rattle.std.specs.Prelude.{◌≡◌, ℕ, not, Bool, true, false, Option, Some, None}
+use Rattle.std.specs.declared.boxed.Box.{Box}
+use Rattle.std.specs.declared.alloc.Global.{Global}
+use Rattle.dm_stream.specs.declared.tokens.Ident.{Ident}
+use Rattle.dm_stream.specs.declared.tokens.Literal.{Literal}
+use Rattle.dm_stream.specs.Trees.{Trees}
+use Rattle.dm_ast.specs.Tree.{TypeTree, MaybeSelf, no_self, PathTree}
+use Rattle.dm_output.specs.declared.expr.Expr.{Expr}
+use Rattle.dm_output.specs.Output.{ArmTrees, MaybeExpr, no_expr, some_expr, StmtTree, ExprTree, ref_opaque, opaque_call, paren, tuple, path_expr, build_named, match_expr, str_expr, ExprTrees, no_exprs, expr_then}
+use Rattle.dm_output.specs.Views.{expr_view}
+use Rattle.dm_reread.specs.Next.{Next, bangs, less, literal, in_parens, in_braces, next}
+use Rattle.dm_reread.specs.Leaves.{Answer}
+use Rattle.dm_reread.specs.Reading.{then, provided, whole, is_str, is_some_trees, goes_on, comma_after, colon_after, semicolon_after, assigns_after, plus_after, as_after, wild_after, int_after, apply, called, read_args, read_and, after_and, after_path, macro_from, path_base, qualified_base, base_from}
+use Rattle.dm_reread.specs.ReadBack.{leaves}
+use Rattle.dm_read_patterns.specs.Turns.{rows}
+use Rattle.dm_read_blocks.specs.Rows.{braced_arms}
+use Rattle.dm_read_exprs.specs.Posts.{PostTree, map_post}
+
+-- ---- operators
+
+-- an expression that isn't `return`
+abbrev pub plain_or : ℕ → Bool → Trees → Answer ExprTree
+plain_or n b ts = then (read_and (rows n) b ts) (λ a. after_and (rows n) b a.0 a.1 (next a.1))
+
+-- whether a group in parentheses comes next that nothing behind it goes on with
+abbrev pub sees_closed : Next → Bool
+sees_closed (in_parens inside ts) = not (goes_on (next ts))
+sees_closed _ = false
+
+-- `&` in front of a group that isn't read
+abbrev pub opaque_group : Next → Answer ExprTree
+opaque_group (in_parens inside ts) = provided (is_some_trees inside) (Some (ref_opaque inside, ts))
+opaque_group _ = None
+
+-- ---- members and methods
+
+abbrev pub map_tree : ExprTree → PostTree
+map_tree e = map_post e
+
+-- arguments without a comma behind the last
+abbrev pub plain_args : ℕ → Trees → Option ExprTrees
+plain_args n ts = then (read_args (rows n) false ts) (λ a. provided (not a.1) (Some a.0))
+
+-- a receiver with all that stands behind it
+abbrev pub posts_behind : ℕ → ExprTree → Trees → Answer ExprTree
+posts_behind n e ts = then ((rows n).posts ts) (λ s. Some (apply e s.0, s.1))
+
+-- ---- paths, groups and others
+
+-- a string
+abbrev pub text : Literal → Option ExprTree
+text l = provided (is_str l.kind) (Some (str_expr l))
+
+-- a path, or braces with fields behind it
+abbrev pub braced_path : ℕ → MaybeSelf → PathTree → Trees → Next → Answer ExprTree
+braced_path n q p ts (in_braces inside us) = then ((rows n).named_exprs inside) (λ s. Some (build_named q p s, us))
+braced_path n q p ts _ = Some (path_expr q p, ts)
+
+-- a path, or what it is called with
+abbrev pub behind_path : ℕ → Bool → MaybeSelf → PathTree → Trees → Next → Answer ExprTree
+behind_path n b q p ts (in_parens inside us) = then (read_args (rows n) false inside) (λ a. Some (called q p a.0 a.1, us))
+behind_path n true q p ts m = braced_path n q p ts m
+behind_path n false q p ts m = Some (path_expr q p, ts)
+
+-- what begins with a path
+abbrev pub with_path : ℕ → Bool → PathTree → Trees → Answer ExprTree
+with_path n b p ts = after_path (rows n) b no_self p ts (next ts)
+
+-- parts by their number: one without a comma is in parentheses
+abbrev pub tuple_only : Bool → ExprTrees → Option ExprTree
+tuple_only last no_exprs = Some (tuple no_exprs)
+tuple_only false (expr_then e no_exprs) = Some (paren e)
+tuple_only false es = Some (tuple es)
+tuple_only true es = None
+
+abbrev pub parts : ℕ → Trees → Option ExprTree
+parts n ts = then (read_args (rows n) false ts) (λ a. tuple_only a.1 a.0)
+
+-- a group that isn't read, and an argument
+abbrev pub opaque_called : ℕ → Trees → Trees → Option ExprTree
+opaque_called n inside second = provided (is_some_trees inside) (then (whole ((rows n).expr true second)) (λ a. Some (opaque_call inside a)))
+
+abbrev pub match_from : ℕ → Trees → Answer ExprTree
+match_from n ts = then ((rows n).expr false ts) (λ a. then (braced_arms n (next a.1)) (λ s. Some (match_expr a.0 s.0, s.1)))
+
+-- a string, or what begins with a path
+abbrev pub leaf : ℕ → Bool → Trees → Next → Answer ExprTree
+leaf n b ts (literal l us) = then (text l) (λ e. Some (e, us))
+leaf n b ts (less us) = qualified_base (rows n) b ts
+leaf n b ts m = path_base (rows n) b m

@@ -1,0 +1,11 @@
+//! Reading the expressions and blocks of the output language, as the plain reader does.
+#![tactic(auto)]
+
+mod base;
+mod chain;
+pub mod nested;
+mod nodes;
+mod operators;
+mod post;
+mod posts;
+mod prefix;

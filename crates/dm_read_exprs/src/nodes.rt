@@ -1,0 +1,165 @@
+//! Expressions of their parts. A part that is read behind another comes as the result of that reading.
+#![tactic(auto, using(dm_output::proofs::View::view_steps))]
+
+ghost use Rattle.std.specs.Prelude.{◌≡◌, IfOk, map};
+ghost use Rattle.dm_ast.specs.Tree.{path_view, maybe_self_view, no_self};
+ghost use Rattle.dm_output.specs.Output as tree;
+ghost use Rattle.dm_output.specs.Views.{expr_view, named_expr_view, opaque_view, arm_view};
+ghost use Rattle.dm_reread.specs.Reading as plain;
+ghost use Rattle.dm_read_leaves.specs.Leaves.{path_expr_view};
+
+use dm_ast::{Opaque, Path};
+use dm_output::{Arm, Expr, NamedExpr, PathExpr};
+use dm_stream::{Literal, Seq};
+use std::alloc::{AllocError, Global};
+
+/// `return a`
+pub(crate) fn return_of<'a>(alloc: Global, value: Expr<'a>) -> Result<Expr<'a>, AllocError>
+    ensures { IfOk result (λ e. expr_view e ≡ tree.return_expr (expr_view value.entry)) }
+{
+    Ok(Expr::Return(Box::new(alloc, value)?))
+}
+
+/// `*a`
+pub(crate) fn deref_of<'a>(alloc: Global, value: Expr<'a>) -> Result<Expr<'a>, AllocError>
+    ensures { IfOk result (λ e. expr_view e ≡ tree.deref (expr_view value.entry)) }
+{
+    Ok(Expr::Deref(Box::new(alloc, value)?))
+}
+
+/// `&a` or `&mut a`
+pub(crate) fn ref_of<'a>(
+    alloc: Global,
+    is_mut: bool,
+    value: Expr<'a>,
+) -> Result<Expr<'a>, AllocError>
+    ensures { IfOk result (λ e. expr_view e ≡ tree.ref_expr is_mut (expr_view value.entry)) }
+{
+    Ok(Expr::Ref(is_mut, Box::new(alloc, value)?))
+}
+
+/// `&(tokens)`
+pub(crate) fn ref_opaque<'a>(tokens: Opaque<'a>) -> Expr<'a>
+    ensures { expr_view result ≡ tree.ref_opaque (opaque_view tokens.entry) }
+{
+    Expr::RefOpaque(tokens)
+}
+
+/// `a == b`
+pub(crate) fn equal_of<'a>(left: Box<Expr<'a>>, right: Box<Expr<'a>>) -> Expr<'a>
+    ensures { expr_view result ≡ tree.equal (expr_view left.entry.value) (expr_view right.entry.value) }
+{
+    Expr::Equal(left, right)
+}
+
+/// `a != b`
+pub(crate) fn unequal_of<'a>(left: Box<Expr<'a>>, right: Box<Expr<'a>>) -> Expr<'a>
+    ensures { expr_view result ≡ tree.unequal (expr_view left.entry.value) (expr_view right.entry.value) }
+{
+    Expr::Unequal(left, right)
+}
+
+/// `a && b`
+pub(crate) fn and_of<'a>(parts: Seq<Expr<'a>>) -> Expr<'a>
+    ensures { expr_view result ≡ tree.and_expr (tree.exprs_of (map expr_view parts.entry)) }
+{
+    Expr::And(parts)
+}
+
+/// `a || b`
+pub(crate) fn or_of<'a>(parts: Seq<Expr<'a>>) -> Expr<'a>
+    ensures { expr_view result ≡ tree.or_expr (tree.exprs_of (map expr_view parts.entry)) }
+{
+    Expr::Or(parts)
+}
+
+/// `"text"`
+pub(crate) fn str_of<'a>(text: Literal<'a>) -> Expr<'a>
+    ensures { expr_view result ≡ tree.str_expr text.entry }
+{
+    Expr::Str(text)
+}
+
+/// `true` or `false`
+pub(crate) fn bool_of<'a>(value: bool) -> Expr<'a>
+    ensures { expr_view result ≡ tree.bool value }
+{
+    Expr::Bool(value)
+}
+
+/// `unsafe { a }`
+pub(crate) fn unsafe_of<'a>(alloc: Global, value: Expr<'a>) -> Result<Expr<'a>, AllocError>
+    ensures { IfOk result (λ e. expr_view e ≡ tree.unsafe_expr (expr_view value.entry)) }
+{
+    Ok(Expr::Unsafe(Box::new(alloc, value)?))
+}
+
+/// `match a { arms }`
+pub(crate) fn match_of<'a>(
+    alloc: Global,
+    value: Expr<'a>,
+    arms: Seq<Arm<'a>>,
+) -> Result<Expr<'a>, AllocError>
+    ensures { IfOk result (λ e. expr_view e ≡ tree.match_expr (expr_view value.entry) (tree.arms_of (map arm_view arms.entry))) }
+{
+    Ok(Expr::Match(Box::new(alloc, value)?, arms))
+}
+
+/// `(tokens)(a)`
+pub(crate) fn opaque_call<'a>(
+    alloc: Global,
+    tokens: Opaque<'a>,
+    value: Expr<'a>,
+) -> Result<Expr<'a>, AllocError>
+    ensures { IfOk result (λ e. expr_view e ≡ tree.opaque_call (opaque_view tokens.entry) (expr_view value.entry)) }
+{
+    Ok(Expr::OpaqueCall(tokens, Box::new(alloc, value)?))
+}
+
+/// `(a)`
+pub(crate) fn paren_of<'a>(alloc: Global, value: Expr<'a>) -> Result<Expr<'a>, AllocError>
+    ensures { IfOk result (λ e. expr_view e ≡ tree.paren (expr_view value.entry)) }
+{
+    Ok(Expr::Paren(Box::new(alloc, value)?))
+}
+
+/// `(a, b)`
+pub(crate) fn tuple_of<'a>(parts: Seq<Expr<'a>>) -> Expr<'a>
+    ensures { expr_view result ≡ tree.tuple (tree.exprs_of (map expr_view parts.entry)) }
+{
+    Expr::Tuple(parts)
+}
+
+/// A path as an expression.
+pub(crate) fn path_expr<'a>(path: PathExpr<'a>) -> Expr<'a>
+    ensures { expr_view result ≡ tree.path_expr (maybe_self_view path.entry.qself) (path_view path.entry.path) }
+{
+    Expr::Path(path)
+}
+
+/// `f(a, b)`, or `f(a, b,)` where a comma ends the arguments
+pub(crate) fn called<'a>(path: PathExpr<'a>, args: (Seq<Expr<'a>>, bool)) -> Expr<'a>
+    ensures { expr_view result ≡ plain.called (maybe_self_view path.entry.qself) (path_view path.entry.path) (tree.exprs_of (map expr_view args.entry.0)) args.entry.1 }
+{
+    let (parts, is_built) = args;
+    if is_built {
+        Expr::Build(path, parts)
+    } else {
+        Expr::Call(path, parts)
+    }
+}
+
+/// `f { x: a, }`
+pub(crate) fn built<'a>(path: PathExpr<'a>, fields: Seq<NamedExpr<'a>>) -> Expr<'a>
+    ensures { expr_view result ≡ tree.build_named (maybe_self_view path.entry.qself) (path_view path.entry.path) (tree.named_exprs_of (map named_expr_view fields.entry)) }
+{
+    Expr::BuildNamed(path, fields)
+}
+
+/// A path without a self type.
+#[tactic(auto, using(dm_ast::proofs::View::view_steps))]
+pub(crate) fn plain_path<'a>(path: Path<'a>) -> PathExpr<'a>
+    ensures { path_expr_view result ≡ (no_self, path_view path.entry) }
+{
+    PathExpr { qself: None, path }
+}

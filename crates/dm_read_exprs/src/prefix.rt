@@ -1,0 +1,115 @@
+//! Operators in front of an operand.
+#![tactic(auto, using(crate::proofs::PrefixSteps::prefix_steps))]
+
+ghost use Rattle.std.specs.Prelude.{◌≡◌, None, Some, MatchOption};
+ghost use Rattle.dm_output.specs.Views.{expr_view};
+ghost use Rattle.dm_reread.specs.Next.{next};
+ghost use Rattle.dm_reread.specs.Reading as plain;
+ghost use Rattle.dm_read_patterns.specs.Reads.{Reads};
+ghost use Rattle.dm_read_patterns.specs.Turns.{rows};
+ghost use Rattle.dm_read_blocks.specs.ExprNests.{ExprNests};
+ghost use Rattle.dm_read_exprs.specs.Rows as spec;
+
+use crate::nodes::{deref_of, ref_of, ref_opaque};
+use crate::operators::Operators;
+use dm_output::Expr;
+use dm_read_blocks::sort::Wanted;
+use dm_read_leaves::opaque::kept;
+use dm_read_patterns::front::{Keyword, Sign};
+use dm_read_patterns::place::Place;
+use dm_stream::{Delim, Error};
+
+/// Whether what comes next goes on with a group in front of it: arguments, `.` or `?`.
+fn goes_on(place: &Place<'_, '_>) -> bool
+    ensures { result ≡ plain.goes_on (next place.now) }
+{
+    let mut ahead = Place::new(place.alloc(), place.cursor());
+    if ahead.group(Delim::Paren).is_some() {
+        return true;
+    }
+    place.sees(Sign::Dot) || place.sees(Sign::Asks)
+}
+
+/// Whether a group in parentheses comes next that nothing goes on with.
+fn sees_closed_group(place: &Place<'_, '_>) -> bool
+    ensures { result ≡ spec.sees_closed (next place.now) }
+{
+    let mut ahead = Place::new(place.alloc(), place.cursor());
+    match ahead.group(Delim::Paren) {
+        Some(_) => !goes_on(&ahead),
+        None => false,
+    }
+}
+
+/// `&` in front of a group that isn't read.
+fn opaque_ref<'a>(place: &mut Place<'_, 'a>) -> Result<Expr<'a>, Error>
+    ensures { Reads expr_view (λ ts. spec.opaque_group (next ts)) place.old result place.new }
+{
+    let Some(inside) = place.group(Delim::Paren) else {
+        return Err(place.refused());
+    };
+    if inside.at_end() {
+        return Err(inside.refused());
+    }
+    Ok(ref_opaque(kept(&inside)?))
+}
+
+impl<F: Copy + for<'t, 'b> Fn(&mut Place<'t, 'b>, Wanted) -> Result<Expr<'b>, Error>> Operators<F> {
+    /// The operand of `&` or `&mut`.
+    fn referred<'a>(
+        &self,
+        braces: bool,
+        is_mut: bool,
+        place: &mut Place<'_, 'a>,
+    ) -> Result<Expr<'a>, Error>
+        requires { ExprNests self.now.parts.room (F.pre self.now.parts.expr) (F.post self.now.parts.expr) }
+        ensures { Reads expr_view (plain.ref_from_pre (rows self.now.parts.fuel) braces is_mut) place.old result place.new }
+    {
+        let found = self.parts.operand(braces, place)?;
+        Ok(ref_of(place.alloc(), is_mut, found)?)
+    }
+
+    /// What stands behind `&mut`.
+    fn behind_mut<'a>(&self, braces: bool, place: &mut Place<'_, 'a>) -> Result<Expr<'a>, Error>
+        requires { ExprNests self.now.parts.room (F.pre self.now.parts.expr) (F.post self.now.parts.expr) }
+        ensures { Reads expr_view (λ ts. plain.read_mut_ref (rows self.now.parts.fuel) braces ts (next ts)) place.old result place.new }
+    {
+        if sees_closed_group(place) {
+            return Err(place.refused());
+        }
+        self.referred(braces, true, place)
+    }
+
+    /// What stands behind `&`.
+    fn behind_amp<'a>(&self, braces: bool, place: &mut Place<'_, 'a>) -> Result<Expr<'a>, Error>
+        requires { ExprNests self.now.parts.room (F.pre self.now.parts.expr) (F.post self.now.parts.expr) }
+        ensures { Reads expr_view (λ ts. plain.read_ref (rows self.now.parts.fuel) braces ts (next ts)) place.old result place.new }
+    {
+        if place.take_keyword(Keyword::Mut) {
+            return self.behind_mut(braces, place);
+        }
+        if sees_closed_group(place) {
+            return opaque_ref(place);
+        }
+        self.referred(braces, false, place)
+    }
+
+    /// An operand with what stands in front of it.
+    pub(crate) fn prefixed<'a>(
+        &self,
+        braces: bool,
+        place: &mut Place<'_, 'a>,
+    ) -> Result<Expr<'a>, Error>
+        requires { ExprNests self.now.parts.room (F.pre self.now.parts.expr) (F.post self.now.parts.expr) }
+        ensures { Reads expr_view (λ ts. plain.read_pre (rows self.now.parts.fuel) braces ts (next ts)) place.old result place.new }
+    {
+        if place.take(Sign::Star) {
+            let found = self.parts.operand(braces, place)?;
+            return Ok(deref_of(place.alloc(), found)?);
+        }
+        if place.take(Sign::Amp) {
+            return self.behind_amp(braces, place);
+        }
+        self.received(braces, place)
+    }
+}

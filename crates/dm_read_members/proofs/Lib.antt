@@ -1,0 +1,5 @@
+pub mod CountSteps
+pub mod MethodLists
+pub mod MethodSteps
+pub mod ItemLists
+pub mod ItemSteps

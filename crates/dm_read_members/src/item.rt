@@ -1,0 +1,149 @@
+//! Implementations.
+#![tactic(auto, using(crate::proofs::ItemSteps::item_steps))]
+
+ghost use Rattle.std.specs.Prelude.{◌≡◌, map};
+ghost use Rattle.dm_output.specs.Views.{assoc_view, item_view};
+ghost use Rattle.dm_reread.specs.Next.{next};
+ghost use Rattle.dm_reread.specs.Items as plain;
+ghost use Rattle.dm_reread.specs.ReadBack.{item_leaves, read_output};
+ghost use Rattle.dm_read_patterns.specs.Reads.{Reads, ReadsWhole};
+ghost use Rattle.dm_read_members.specs.Rows as spec;
+ghost use Rattle.dm_read_members.specs.Views.{members_view, unmarked_view};
+
+use crate::count::turns;
+use crate::method::methods;
+use dm_input::join::joined;
+use dm_output::{Assoc, Item, ItemAttr, Method};
+use dm_read_heads::assoc::assocs;
+use dm_read_heads::attr::attrs;
+use dm_read_heads::head::{Head, printed_head};
+use dm_read_patterns::front::Keyword;
+use dm_read_patterns::list::{Rule, Turn, repeated};
+use dm_read_patterns::place::Place;
+use dm_stream::{Delim, Error, Seq};
+
+type Members<'a> = (Seq<Assoc<'a>>, Seq<Method<'a>>);
+
+/// The associated types in front.
+fn all_assocs<'a>(place: &mut Place<'_, 'a>) -> Result<Seq<Assoc<'a>>, Error>
+    ensures { Reads (map assoc_view) spec.all_assocs place.old result place.new }
+{
+    let fuel = turns(place.cursor());
+    assocs(place, fuel)
+}
+
+/// Associated types, and methods to the end.
+fn all_members<'a>(place: &mut Place<'_, 'a>) -> Result<Members<'a>, Error>
+    ensures { ReadsWhole members_view spec.all_members place.old result }
+{
+    let found = all_assocs(place)?;
+    joined(found, methods(place))
+}
+
+/// Members in braces.
+fn braced<'a>(place: &mut Place<'_, 'a>) -> Result<Members<'a>, Error>
+    ensures { Reads members_view (λ ts. spec.braced (next ts)) place.old result place.new }
+{
+    let Some(mut inside) = place.group(Delim::Brace) else {
+        return Err(place.refused());
+    };
+    all_members(&mut inside)
+}
+
+/// A head and its members.
+fn behind_impl<'a>(place: &mut Place<'_, 'a>) -> Result<(Head<'a>, Members<'a>), Error>
+    ensures { Reads unmarked_view spec.behind_impl place.old result place.new }
+{
+    let found = printed_head(place)?;
+    joined(found, braced(place))
+}
+
+/// What stands behind the attributes.
+fn unmarked<'a>(place: &mut Place<'_, 'a>) -> Result<(Head<'a>, Members<'a>), Error>
+    ensures { Reads unmarked_view spec.unmarked place.old result place.new }
+{
+    if !place.take_keyword(Keyword::Impl) {
+        return Err(place.refused());
+    }
+    behind_impl(place)
+}
+
+/// The parts as one.
+fn item_of<'a>(attrs: Seq<ItemAttr>, parts: (Head<'a>, Members<'a>)) -> Item<'a>
+    ensures { item_view result ≡ spec.made_item attrs (unmarked_view parts.entry) }
+{
+    let (head, (assocs, methods)) = parts;
+    let Head {
+        params,
+        trait_path,
+        ty,
+        predicates,
+    } = head;
+    Item {
+        attrs,
+        params,
+        trait_path,
+        ty,
+        predicates,
+        assocs,
+        methods,
+    }
+}
+
+/// An implementation.
+fn item<'a>(place: &mut Place<'_, 'a>) -> Result<Item<'a>, Error>
+    ensures { Reads item_view (plain.read_item item_leaves) place.old result place.new }
+{
+    let found = attrs(place)?;
+    let (found, parts) = joined(found, unmarked(place))?;
+    Ok(item_of(found, parts))
+}
+
+/// Implementations, to the end of the trees. Refuses where none stand there, or anything else does.
+#[derive(Clone, Copy)]
+struct ItemRule;
+
+impl<'a> Rule<'a> for ItemRule {
+    ghost use Rattle.dm_output.specs.Output.{ItemTree};
+    ghost use Rattle.dm_output.specs.Views.{item_view};
+    ghost use Rattle.dm_read_members.specs.Rows.{item_turn};
+
+    type Part = Item<'a>;
+
+    type Last = ();
+
+    ghost Tree = { ItemTree };
+
+    ghost Tail = { Unit {0} };
+
+    ghost view = { item_view };
+
+    ghost last = { λ u. u };
+
+    ghost usable = { λ _. Unit {0} };
+
+    ghost reader = { λ _. item_turn };
+
+    fn turn(&self, _fuel: usize, place: &mut Place<'_, 'a>) -> Result<Turn<Item<'a>, ()>, Error> {
+        if place.at_end() {
+            return Ok(Turn::End(()));
+        }
+        Ok(Turn::One(item(place)?))
+    }
+}
+
+/// Implementations, to the end, in at most so many turns.
+fn items_within<'a>(most: usize, place: &mut Place<'_, 'a>) -> Result<Seq<Item<'a>>, Error>
+    ensures { ReadsWhole (map item_view) (plain.items_with item_leaves most) place.old result }
+{
+    let (found, _) = repeated(&ItemRule, most, place)?;
+    Ok(found)
+}
+
+/// Implementations, to the end of the trees. Refuses where none stand there, or anything else does.
+pub fn items<'a>(place: &mut Place<'_, 'a>) -> Result<Seq<Item<'a>>, Error>
+    ensures { ReadsWhole (map item_view) read_output place.old result }
+{
+    let most = turns(place.cursor());
+    items_within(most, place)
+}

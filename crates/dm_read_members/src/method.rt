@@ -1,0 +1,150 @@
+//! Methods.
+#![tactic(auto, using(crate::proofs::MethodSteps::method_steps))]
+
+ghost use Rattle.std.specs.Prelude.{◌≡◌, map};
+ghost use Rattle.dm_output.specs.Views.{block_view, method_view};
+ghost use Rattle.dm_reread.specs.Next.{next};
+ghost use Rattle.dm_reread.specs.Items as plain;
+ghost use Rattle.dm_reread.specs.ReadBack.{leaves};
+ghost use Rattle.dm_reread.specs.Whole.{read_inside};
+ghost use Rattle.dm_read_patterns.specs.Reads.{Reads, ReadsWhole};
+ghost use Rattle.dm_read_members.specs.Rows as spec;
+ghost use Rattle.dm_read_members.specs.Views.{behind_view, unnamed_view};
+
+use crate::count::{fuel, turns};
+use dm_input::join::joined;
+use dm_output::{Block, ItemAttr, Method};
+use dm_read_exprs::nested::block;
+use dm_read_heads::attr::attrs;
+use dm_read_heads::signature::{Inputs, Signature, named_signature};
+use dm_read_patterns::front::Keyword;
+use dm_read_patterns::list::{Rule, Turn, repeated};
+use dm_read_patterns::place::Place;
+use dm_stream::{Delim, Error, Ident, Seq};
+
+/// How many expressions may stand in one another. Deeper ones want memory: that of the stack.
+const ROOM: usize = 1024;
+
+/// The inside of a body, to the end.
+fn inside<'a>(place: &mut Place<'_, 'a>) -> Result<Block<'a>, Error>
+    ensures { ReadsWhole block_view (read_inside leaves) place.old result }
+{
+    match fuel(place.cursor()) {
+        Some(found) => block(place, found, ROOM),
+        None => Err(Error::NoMemory),
+    }
+}
+
+/// A body in braces.
+fn body<'a>(place: &mut Place<'_, 'a>) -> Result<Block<'a>, Error>
+    ensures { Reads block_view (λ ts. plain.body_after leaves (next ts)) place.old result place.new }
+{
+    let Some(mut found) = place.group(Delim::Brace) else {
+        return Err(place.refused());
+    };
+    inside(&mut found)
+}
+
+/// `const` perhaps, and `fn`: whether it is `const`.
+fn const_fn(place: &mut Place<'_, '_>) -> Result<bool, Error>
+    ensures { Reads (λ b. b) (λ ts. spec.const_fn (next ts)) place.old result place.new }
+{
+    let is_const = place.take_keyword(Keyword::Const);
+    if !place.take_keyword(Keyword::Fn) {
+        return Err(place.refused());
+    }
+    Ok(is_const)
+}
+
+type Behind<'a> = ((Ident<'a>, Signature<'a>), Block<'a>);
+
+/// What stands behind `fn`.
+fn behind_fn<'a>(place: &mut Place<'_, 'a>) -> Result<Behind<'a>, Error>
+    ensures { Reads behind_view spec.behind_fn place.old result place.new }
+{
+    let found = named_signature(place)?;
+    joined(found, body(place))
+}
+
+/// What stands behind the attributes.
+fn unnamed<'a>(place: &mut Place<'_, 'a>) -> Result<(bool, Behind<'a>), Error>
+    ensures { Reads unnamed_view spec.unnamed place.old result place.new }
+{
+    let is_const = const_fn(place)?;
+    joined(is_const, behind_fn(place))
+}
+
+/// The parts as one.
+fn method_of<'a>(attrs: Seq<ItemAttr>, parts: (bool, Behind<'a>)) -> Method<'a>
+    ensures { method_view result ≡ spec.made_method attrs (unnamed_view parts.entry) }
+{
+    let (is_const, ((name, Signature { inputs, output }), body)) = parts;
+    let Inputs { receiver, param } = inputs;
+    Method {
+        attrs,
+        is_const,
+        name,
+        receiver,
+        param,
+        output,
+        body,
+    }
+}
+
+/// A method.
+fn method<'a>(place: &mut Place<'_, 'a>) -> Result<Method<'a>, Error>
+    ensures { Reads method_view (plain.read_method leaves) place.old result place.new }
+{
+    let found = attrs(place)?;
+    let (found, parts) = joined(found, unnamed(place))?;
+    Ok(method_of(found, parts))
+}
+
+/// Methods, to the end.
+#[derive(Clone, Copy)]
+struct MethodRule;
+
+impl<'a> Rule<'a> for MethodRule {
+    ghost use Rattle.dm_output.specs.Output.{MethodTree};
+    ghost use Rattle.dm_output.specs.Views.{method_view};
+    ghost use Rattle.dm_read_members.specs.Rows.{method_turn};
+
+    type Part = Method<'a>;
+
+    type Last = ();
+
+    ghost Tree = { MethodTree };
+
+    ghost Tail = { Unit {0} };
+
+    ghost view = { method_view };
+
+    ghost last = { λ u. u };
+
+    ghost usable = { λ _. Unit {0} };
+
+    ghost reader = { λ _. method_turn };
+
+    fn turn(&self, _fuel: usize, place: &mut Place<'_, 'a>) -> Result<Turn<Method<'a>, ()>, Error> {
+        if place.at_end() {
+            return Ok(Turn::End(()));
+        }
+        Ok(Turn::One(method(place)?))
+    }
+}
+
+/// Methods, to the end, in at most so many turns.
+fn methods_within<'a>(most: usize, place: &mut Place<'_, 'a>) -> Result<Seq<Method<'a>>, Error>
+    ensures { ReadsWhole (map method_view) (plain.read_methods leaves most) place.old result }
+{
+    let (found, _) = repeated(&MethodRule, most, place)?;
+    Ok(found)
+}
+
+/// Methods, to the end.
+pub(crate) fn methods<'a>(place: &mut Place<'_, 'a>) -> Result<Seq<Method<'a>>, Error>
+    ensures { ReadsWhole (map method_view) spec.all_methods place.old result }
+{
+    let most = turns(place.cursor());
+    methods_within(most, place)
+}

@@ -1,0 +1,6 @@
+pub mod Grouped
+pub mod PartSteps
+pub mod Passes
+pub mod TypePasses
+pub mod TypeSteps
+pub mod Marked

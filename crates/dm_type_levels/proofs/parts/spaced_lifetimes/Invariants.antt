@@ -1,0 +1,8 @@
+use Rattle.std.proofs.Common.{◌≡◌, ◌==◌, drop, true, [], ◌∷◌}
+use Rattle.dm_type_levels.specs.Passing.{pass}
+use Rattle.dm_type_levels.specs.TypeLevels.{spaced_levels, alone}
+use Rattle.dm_type_levels.proofs.parts.spaced_lifetimes.Given as goal
+
+abbrev pub invariant-loop-i : goal.invariant-loop-i
+invariant-loop-i l =
+    pass (spaced_levels (l.level ∷ []) (l.i == 0) (alone l.level (drop l.i l.all))) l.at.left.now ≡ pass (spaced_levels (l.level ∷ []) true (alone l.level l.all)) l.initial.rest
