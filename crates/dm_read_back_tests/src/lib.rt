@@ -1,0 +1,5 @@
+//! Implementations of the output language, read back from their text, by tables.
+#![tactic(auto)]
+
+#[cfg(test)]
+mod items;
