@@ -1,4 +1,4 @@
-#![tactic(auto, using(dm_operands::proofs::Builders::builder_steps))]
+#![tactic(auto, using(dm_output::proofs::View::view_steps))]
 
 ghost use Rattle.std.specs.Prelude.{◌≡◌, ◌++◌, [], map, IfOk, string_bytes};
 ghost use Rattle.std.specs.Fmt.{decimal};

@@ -1,5 +1,15 @@
-//! Comparison and operators, gathered: from a declaration to the implementation of `PartialEq`, or of an operator of `core::ops`.
+//! Comparison and operators: from a declaration to the implementation of `PartialEq`, or of an operator of `core::ops`.
+//!
+//! Each trait prints its implementation, and what it answers is read back from that text.
 #![tactic(auto)]
 
-pub use dm_operations::{add, add_assign, mul, mul_assign, not_like};
-pub use dm_partial_eq::{partial_eq, predicates_cover_calls};
+pub mod add;
+pub mod add_assign;
+pub mod expand;
+pub mod mul;
+pub mod mul_assign;
+pub mod not_like;
+pub mod partial_eq;
+mod reading;
+
+pub use dm_partial_eq::predicates_cover_calls;

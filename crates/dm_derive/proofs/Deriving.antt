@@ -1,5 +1,5 @@
 -- What the steps of a derive say of the text.
-use Rattle.std.proofs.Common.{◌≡◌, ℕ, List, [], ◌∷◌, length, map, true, false, cond, codes, Option, option_map, None, Some, Result, Ok, Err, ap, sym, subst, ◌∙◌, inl, inr}
+use Rattle.std.proofs.Common.{◌≡◌, ℕ, List, [], ◌∷◌, length, true, false, cond, codes, Option, option_map, None, Some, Result, Ok, Err, ap, sym, subst, ◌∙◌, inl, inr}
 use Rattle.std.specs.Prelude.{◌⊎◌, IfOk, String}
 use Rattle.std.specs.declared.alloc.Global.{Global}
 use Rattle.std.specs.Str.{chars, bytes_eq}
@@ -10,26 +10,28 @@ use Rattle.dm_stream.specs.declared.error.Refusal.{Refusal}
 use Rattle.dm_stream.specs.declared.error.Error.{Error}
 use Rattle.dm_stream.specs.declared.error.Error.TheVariants.{NoMemory, Refused}
 use Rattle.dm_stream.specs.Trees.{Trees}
-use Rattle.dm_lexer.specs.Rows.{reading}
-use Rattle.dm_lexer.specs.Nesting.{IsTreesOf, AreTheOnly, IsRefusalOf, IsRefused, IsWhole}
+use Rattle.dm_stream.specs.declared.levels.TheConstants.{DEEPEST}
+use Rattle.dm_lexer.specs.Rows.{Reading, reading}
+use Rattle.dm_lexer.specs.Nesting.{first_deep, IsTreesOf, AreTheOnly, IsRefusalOf, IsRefused, IsWhole}
+use Rattle.dm_lexer.specs.Written.{AreWritable, AreShallow}
 use Rattle.dm_lexer.proofs.Nestings.{trees-only}
 use Rattle.dm_ast.specs.declared.decl.DeriveInput.{DeriveInput}
 use Rattle.dm_ast.specs.Declarations.{Declaration, declaration_view}
 use Rattle.dm_ast.specs.Spelling.{Marks, first_too_deep}
 use Rattle.dm_ast.specs.Parsed.{SpelledBy, IsTheDeclaration, IsUnread, IsRefusal}
-use Rattle.dm_ast.specs.Names.{names_refusal, IsNamesError}
+use Rattle.dm_ast.specs.Names.{Named, names_refusal, IsNamesError}
 use Rattle.dm_names.proofs.NameRefusals.{refused_not_named}
 use Rattle.dm_expansion.specs.declared.expansion.Expansion.{Expansion}
-use Rattle.dm_output.specs.Views.{item_view}
 use Rattle.dm_output.specs.Output.{ItemTree}
 use Rattle.dm_output.specs.Tokens as tokens
 use Rattle.dm_operands.specs.Readable.{IsReadable}
-use Rattle.dm_partial_eq.specs.Expanded.{IsAnswer, IsPrinted}
+use Rattle.dm_partial_eq.specs.Expanded.{IsPrinted}
 use Rattle.dm_partial_eq.proofs.CheckLaws as compared
 use Rattle.dm_operators.proofs.ValidLaws as operators
 use Rattle.dm_operators.specs.declared.operator.Operator as programs-operator
 use Rattle.dm_operators.specs.Operators.{Operator, IsOperator, operator_named}
 use Rattle.dm_operators.specs.Table.{operator_view}
+use Rattle.dm_cmp_ops.specs.Expanded.{IsOfText}
 use Rattle.dm_derive.specs.declared.traits.Trait as programs
 use Rattle.dm_derive.specs.declared.traits.Trait.TheVariants as variants
 use Rattle.dm_derive.specs.Answers.{trait_view, IsDerived, TraitAnswers, TraitPrints}
@@ -67,6 +69,25 @@ is-read text limit ts d l h =
       only = λ e g. (whole.only e g.marks (subst (λ us. SpelledBy e (length text) us g.marks) (l.only g.trees g.are_trees) g.spelled)).0;
     }
 
+-- none of its trees stands inside more groups than are read
+shallow : (text : List ℕ) (limit : ℕ) (ts : Trees) → IsLexed text limit ts → AreShallow ts
+shallow text limit ts l = sym (ap (λ (r : Reading). first_deep DEEPEST 0 r.lexemes) l.trees) ∙ l.whole.shallow
+
+-- what was read is what the reader gives of a text
+pub of-text : (text : List ℕ) (limit : ℕ) (ts : Trees) (d : Declaration) → IsLexed text limit ts → AreWritable ts → IsTheDeclaration d limit ts →
+    Named d → IsOfText d
+of-text text limit ts d l w h named =
+    record {
+      limit = limit;
+      trees = ts;
+      marks = h.marks;
+      spelled = h.there;
+      within = h.within;
+      writable = w;
+      shallow = shallow text limit ts l;
+      named = named;
+    }
+
 pub misnamed : (text : List ℕ) (limit : ℕ) (ts : Trees) (d : Declaration) (e : Error) → IsTheDeclaration d limit ts → IsLexed text limit ts →
     IsNamesError d e → Reads text (Err e)
 misnamed text limit ts d NoMemory h l m = tt
@@ -88,7 +109,7 @@ pub not-known : (name text : List ℕ) (r : Refusal) → (IsKnown name → ⊥) 
 unfolding Refuses
 not-known name text r un is = inl (record { unknown = un; is = is })
 
--- what was read can be expanded
+-- what was read can be printed
 pub can-expand : (text : List ℕ) (d : DeriveInput) → Reads text (Ok d) → IsReadable (declaration_view d)
 can-expand text d h =
     let one = h.0.is_the_one in
@@ -97,8 +118,11 @@ can-expand text d h =
 pub derived : (t : Trait) (name text : List ℕ) (d : DeriveInput) (r : Result Expansion Error) → Names name t → Reads text (Ok d) →
     TraitAnswers t (declaration_view d) r → Derives name text r
 unfolding Refuses
-derived t name text d (Ok x) known h m =
-    record { derived = t; is_known = known; declaration = declaration_view d; is_read = h.0; named = h.1; expanded = m.1 }
+derived t name text d (Ok x) known h m = (
+  m.1.0,
+  record { derived = t; is_known = known; declaration = declaration_view d; is_read = h.0; named = h.1; expanded = m.1.1 },
+  m.1.2,
+)
 derived t name text d (Err NoMemory) known h m = tt
 derived t name text d (Err (Refused r)) known h m =
     inr (t, known, inr (inr (inr (record { declaration = declaration_view d; is_read = h.0; named = h.1; refused = m }))))
@@ -107,17 +131,12 @@ pub answered : (t : Trait) (name text : List ℕ) (d : DeriveInput) (r : Result 
     TraitAnswers t (declaration_view d) r → IfOk r (λ x. Answers name text x.text)
 unfolding Answers
 answered t name text d (Ok x) known h m = (
-  map item_view x.items,
-  record { derived = t; is_known = known; declaration = declaration_view d; is_read = h.0; named = h.1; expanded = m.1 },
+  m.1.0,
+  record { derived = t; is_known = known; declaration = declaration_view d; is_read = h.0; named = h.1; expanded = m.1.1 },
 )
 answered t name text d (Err e) known h m = tt
 
--- what `PartialEq` answers is what its trait does
-pub compares : (d : Declaration) (r : Result Expansion Error) → IsAnswer d r → TraitAnswers partial_eq d r
-compares d (Ok x) h = h
-compares d (Err NoMemory) h = h
-compares d (Err (Refused r)) h = h
-
+-- what `PartialEq` prints is what its trait does
 pub compares-text : (d : Declaration) (r : Result (String Global) Error) → IsPrinted d r → TraitPrints partial_eq d r
 compares-text d (Ok x) h = h
 compares-text d (Err NoMemory) h = h
@@ -231,9 +250,9 @@ prints-it name text (Ok x) h d = tt
 prints-it name text (Err NoMemory) h d = tt
 prints-it name text (Err (Refused r)) h d = derivable name text d r h
 
-pub ruleset derive_steps = (not-lexed, not-parsed, is-read, misnamed, not-derived, not-known, unnamed, can-expand, derived, answered, not-printed, printed, expands-it, prints-it)
+pub ruleset derive_steps = (not-lexed, not-parsed, is-read, of-text, misnamed, not-derived, not-known, unnamed, can-expand, derived, answered, not-printed, printed, expands-it, prints-it)
 
-pub ruleset trait_steps = (compares, compares-text, derived-operator)
+pub ruleset trait_steps = (compares-text, derived-operator)
 
 -- ---- a text has one answer
 

@@ -2,12 +2,16 @@
 use Rattle.std.proofs.Common.{◌≡◌, ℕ, ◌≤◌, ◌<◌, ◌+◌, List, [], ◌∷◌, ◌++◌, Option, map, length, drop, get_or, String, string_bytes, codes, inl, inr, refl, sym, ap, subst, ◌∙◌, arith}
 use Rattle.std.proofs.lemmas.List.{append-nil, append_assoc, drop_all, drop_more, length-map}
 use Rattle.std.proofs.lemmas.Fmt.{decimal_injective}
-use Rattle.std.specs.Prelude.{◌↔◌}
+use Rattle.std.specs.Prelude.{◌↔◌, sum}
 use Rattle.std.specs.declared.alloc.Global.{Global}
 use Rattle.dm_expansion.specs.declared.expansion.Expansion.{Expansion}
+use Rattle.dm_output.specs.Output.{ItemTree}
 use Rattle.dm_output.specs.Views.{item_view}
+use Rattle.dm_reread.specs.Bare.{bare_item, bare_predicate}
+use Rattle.dm_reread.specs.Unplaced.{bare_items}
 use Rattle.dm_operators.specs.declared.operator.Operator.{Operator}
 use Rattle.dm_operators.specs.Table.{operator_view}
+use Rattle.dm_cmp_ops.specs.Expanded.{IsReadOf}
 use Rattle.dm_sample.specs.Samples.{IsSample}
 use Rattle.dm_sample.specs.Summaries.{told_line}
 use Rattle.dm_sample.specs.declared.summary.Told.{Told}
@@ -62,17 +66,35 @@ all_operators text lines before os i behind now = (
   now.1,
 )
 
+-- implementations that are the same, ranges aside, are as many
+as_many : (is js : List ItemTree) → bare_items is ≡ bare_items js → length is ≡ length js
+as_many is js same = sym (length-map is bare_item) ∙ ap length same ∙ length-map js bare_item
+
+-- and have as many predicates
+abbrev counts : List ItemTree → List ℕ
+counts is = map (λ (i : ItemTree). length i.predicates) is
+
+counts-bare : (is : List ItemTree) → counts (bare_items is) ≡ counts is
+counts-bare [] = refl
+counts-bare (i ∷ is) =
+    ap (λ n. n ∷ counts (bare_items is)) (length-map i.predicates bare_predicate) ∙
+    ap (λ ns. length i.predicates ∷ ns) (counts-bare is)
+
+same_predicates : (is js : List ItemTree) → bare_items is ≡ bare_items js → predicates_of is ≡ predicates_of js
+same_predicates is js same = ap sum (sym (counts-bare is) ∙ ap counts same ∙ counts-bare js)
+
 -- what is told of implementations is told of the answer
-pub told_counts : (name text : List ℕ) (x : Expansion) (t : Told) → Expands name text (map item_view x.items) x.text →
+pub told_counts : (name text : List ℕ) (x : Expansion) (t : Told) → IsReadOf (Expands name text) x →
     ((items : ℕ) × (predicates : ℕ) × (t ≡ told.Done items predicates) × (items ≡ length x.items) × (predicates ≡ predicates_of (map item_view x.items))) →
     IsTold name text t
 told_counts name text x t e h =
+    let read : List ItemTree = map item_view x.items in
     subst (IsTold name text) (sym h.2) (record {
-      made = map item_view x.items;
+      made = e.0;
       written = x.text;
-      expanded = e;
-      items_are = h.3 ∙ sym (length-map x.items item_view);
-      predicates_are = h.4;
+      expanded = e.1;
+      items_are = h.3 ∙ sym (length-map x.items item_view) ∙ as_many read e.0 e.2.same;
+      predicates_are = h.4 ∙ same_predicates read e.0 e.2.same;
     })
 
 -- ---- words

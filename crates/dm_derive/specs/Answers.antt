@@ -1,12 +1,12 @@
 -- Traits as the program has them, and what each answers of a declaration.
-use Rattle.std.specs.Prelude.{◌≡◌, ℕ, List, map, Some, Result, String, string_bytes}
+use Rattle.std.specs.Prelude.{◌≡◌, ℕ, List, Some, Result, String, string_bytes}
 use Rattle.std.specs.declared.alloc.Global.{Global}
 use Rattle.dm_stream.specs.declared.error.Error.{Error}
 use Rattle.dm_ast.specs.Declarations.{Declaration}
 use Rattle.dm_expansion.specs.declared.expansion.Expansion.{Expansion}
-use Rattle.dm_output.specs.Views.{item_view}
 use Rattle.dm_attr.specs.Answers.{IsWalked}
 use Rattle.dm_operators.specs.Table.{operator_view}
+use Rattle.dm_cmp_ops.specs.Expanded.{IsReadOf}
 use Rattle.dm_derive.specs.declared.traits.Trait.{Trait}
 use Rattle.dm_derive.specs.declared.traits.Trait.TheVariants.{PartialEq, Operator}
 use Rattle.dm_derive.specs.Traits as traits
@@ -20,9 +20,10 @@ pub record IsDerived (t : Trait) : Type 0 where
   pub name : List ℕ
   pub named : traits.trait_named name ≡ Some (trait_view t)
 
--- want of memory aside: an expansion where nothing is refused, and else the first refusal
+-- want of memory aside: an expansion where nothing is refused, whose implementations are those that its text is of, ranges aside; and else
+-- the first refusal
 abbrev pub TraitAnswers : traits.Trait → Declaration → Result Expansion Error → Type 0
-TraitAnswers t d r = IsWalked (traits.refusal t d) (λ x. traits.IsExpanded t d (map item_view x.items) x.text) r
+TraitAnswers t d r = IsWalked (traits.refusal t d) (λ x. IsReadOf (traits.IsExpanded t d) x) r
 
 -- the same where the text alone is wanted
 abbrev pub TraitPrints : traits.Trait → Declaration → Result (String Global) Error → Type 0

@@ -1,5 +1,5 @@
 -- What a trait's name and the text of a declaration are answered with.
-use Rattle.std.specs.Prelude.{◌≡◌, ℕ, List, map, length, None, Some, Result, Ok, Err, ◌⊎◌, String, string_bytes}
+use Rattle.std.specs.Prelude.{◌≡◌, ℕ, List, length, None, Some, Result, Ok, Err, ◌⊎◌, String, string_bytes}
 use Rattle.std.specs.declared.alloc.Global.{Global}
 use Rattle.dm_stream.specs.declared.error.Kind.TheVariants.{UnknownTrait}
 use Rattle.dm_stream.specs.declared.error.Refusal.{Refusal}
@@ -14,7 +14,7 @@ use Rattle.dm_ast.specs.Parsed.{SpelledBy, IsTheDeclaration, IsUnread}
 use Rattle.dm_ast.specs.Names.{Named, names_refusal}
 use Rattle.dm_expansion.specs.declared.expansion.Expansion.{Expansion}
 use Rattle.dm_output.specs.Output.{ItemTree}
-use Rattle.dm_output.specs.Views.{item_view}
+use Rattle.dm_cmp_ops.specs.Expanded.{IsReadOf}
 use Rattle.dm_derive.specs.Traits.{Trait, trait_named, refusal, IsValid, IsExpanded, IsText}
 
 -- the name of a trait that is derived
@@ -120,9 +120,9 @@ IsUnrefused (Ok x) = Unit {0}
 IsUnrefused (Err NoMemory) = Unit {0}
 IsUnrefused (Err (Refused r)) = ⊥
 
--- what a derive answers, want of memory aside
+-- what a derive answers, want of memory aside: implementations that are those that the trait derives, ranges aside, with their text
 abbrev pub Derives : List ℕ → List ℕ → Result Expansion Error → Type 0
-Derives name text (Ok x) = Expands name text (map item_view x.items) x.text
+Derives name text (Ok x) = IsReadOf (Expands name text) x
 Derives name text (Err NoMemory) = Unit {0}
 Derives name text (Err (Refused r)) = Refuses name text r
 

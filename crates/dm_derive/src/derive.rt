@@ -4,6 +4,8 @@
 ghost use Rattle.std.specs.Prelude.{◌≡◌, ℕ, List, IfOk};
 ghost use Rattle.dm_stream.specs.declared.error.Error.TheVariants as error;
 ghost use Rattle.dm_stream.specs.declared.error.Kind.TheVariants as kind;
+ghost use Rattle.dm_ast.specs.Declarations.{declaration_view};
+ghost use Rattle.dm_cmp_ops.specs.Expanded.{IsOfText};
 ghost use Rattle.dm_derive.specs.Answers.{IsDerived, trait_view};
 ghost use Rattle.dm_derive.specs.Derived.{Answers, Derives, IsDerivable, IsUnrefused, Names, Prints, Reads};
 
@@ -18,6 +20,8 @@ use std::alloc::Global;
 
 /// The implementations that the trait of this name derives for the declaration.
 ///
+/// The trait prints them, and they are read back from the text: they are what it derives but for their ranges, which are places in that text.
+///
 /// The name is that of the trait alone, as `PartialEq` or `AddAssign`. Of these refusals the first that applies is the answer; ranges are in
 /// bytes of the declaration's text:
 ///
@@ -30,7 +34,7 @@ use std::alloc::Global;
 /// - `Kind::DuplicateName`: a name is declared twice, at the first name that stands for an earlier one again;
 /// - `Kind::ReservedName`: a name begins with `__`, or the type or a type or const parameter is called `derive_more`, at the first
 ///   such name;
-/// - what the trait refuses, see `partial_eq::expand`, and of the operators `plan_for`.
+/// - what the trait refuses, see `partial_eq::print`, and of the operators `plan_for`.
 pub fn derive_text<'a>(
     alloc: Global,
     trait_name: &str,
@@ -68,7 +72,8 @@ fn unknown_trait() -> Error
 
 /// The declaration of a text, whose names may be declared.
 fn read<'a>(alloc: Global, decl: &'a str) -> Result<DeriveInput<'a>, Error>
-    ensures { Reads decl.now result }
+    ensures reads { Reads decl.now result }
+    ensures of_text { IfOk result (λ d. IsOfText (declaration_view d)) }
 {
     let stream = lex(alloc, decl)?;
     let input = parse_decl(alloc, &stream)?;
@@ -78,7 +83,7 @@ fn read<'a>(alloc: Global, decl: &'a str) -> Result<DeriveInput<'a>, Error>
 
 /// The text of what [derive_text] gives, by the same rules. It refuses where that does.
 ///
-/// It takes less time and memory, since it doesn't make the trees of a long implementation.
+/// It takes less time and memory, since it doesn't read the text back.
 pub fn derive_printed(alloc: Global, trait_name: &str, decl: &str) -> Result<String, Error>
     ensures prints { Prints trait_name.now decl.now result }
     ensures complete { IsDerivable trait_name.now decl.now → IsUnrefused result }

@@ -4,14 +4,14 @@
 ghost use Rattle.std.specs.Prelude.{◌≡◌, Some, option_map};
 ghost use Rattle.dm_ast.specs.Declarations.{declaration_view};
 ghost use Rattle.dm_operands.specs.Readable.{IsReadable};
+ghost use Rattle.dm_cmp_ops.specs.Expanded.{IsOfText};
 ghost use Rattle.dm_derive.specs.Traits as spec;
 ghost use Rattle.dm_derive.specs.Answers.{IsDerived, TraitAnswers, TraitPrints, trait_view};
 
 use dm_ast::DeriveInput;
+use dm_cmp_ops::{expand, partial_eq};
 use dm_expansion::Expansion;
-use dm_operations::expand;
 use dm_operators::operator::{Operator, operator_named};
-use dm_partial_eq::partial_eq;
 use dm_stream::Error;
 use std::alloc::Global;
 
@@ -42,7 +42,7 @@ pub(crate) fn expanded<'a>(
     input: &DeriveInput<'a>,
 ) -> Result<Expansion<'a>, Error>
     requires derived { IsDerived derived }
-    requires readable { IsReadable (declaration_view input.now) }
+    requires of_text { IsOfText (declaration_view input.now) }
     ensures { TraitAnswers (trait_view derived) (declaration_view input.now) result }
 {
     match derived {

@@ -8,3 +8,4 @@ pub use dm_output::{
     MethodParam, NamedExpr, NamedPattern, PathExpr, Pattern, Receiver, Stmt,
 };
 pub use dm_output_copy::CloneEmitted;
+pub use dm_read_items::read_items;

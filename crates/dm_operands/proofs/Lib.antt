@@ -3,5 +3,4 @@ pub mod BindingLaws
 pub mod ArmLaws
 pub mod FirstLaws
 pub mod PlaceLaws
-pub mod Builders
 pub mod ReadNames

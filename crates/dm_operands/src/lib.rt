@@ -1,10 +1,6 @@
-//! The operands of emitted methods: the variants of a declaration, and the patterns that bind their fields.
+//! The operands of emitted methods: the variants of a declaration, their fields, and the names that bind these.
 #![tactic(auto)]
 
-pub mod arms;
 pub mod cases;
-pub mod exprs;
-pub mod heads;
-pub mod names;
 pub mod places;
 pub mod sides;

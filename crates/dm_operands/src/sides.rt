@@ -1,22 +1,14 @@
-//! The patterns by which a case's fields are bound, for each operand.
-#![tactic(auto, using(crate::proofs::Builders::builder_steps))]
+//! The names by which a case's fields are bound, for each operand.
+#![tactic(auto)]
 
-ghost use Rattle.std.specs.Prelude.{◌≡◌, map, IfOk, IfSome, string_bytes};
-ghost use Rattle.dm_ast.specs.Tree.{path_view};
-ghost use Rattle.dm_ast.specs.Declarations.{declaration_view};
-ghost use Rattle.dm_output.specs.Output.{bind};
-ghost use Rattle.dm_output.specs.Views.{pattern_view, named_view};
-ghost use Rattle.dm_output.specs.declared.pattern.Binding.TheVariants.{Plain};
-ghost use Rattle.dm_generics.specs.Words as heads;
+ghost use Rattle.std.specs.Prelude.{◌≡◌, IfOk, IfSome, string_bytes};
 ghost use Rattle.dm_operands.specs.Sides as spec;
 ghost use Rattle.dm_operands.specs.Numbered.{self_name, other_name, right_name, inner_name};
-ghost use Rattle.dm_operands.specs.CaseViews.{case_view, field_ref_view, naming};
+ghost use Rattle.dm_operands.specs.CaseViews.{naming};
 
-use crate::cases::{CaseRef, FieldRef, Form, is_enum, some_left_out};
-use dm_ast::{DeriveInput, Field, Path};
-use dm_generics::names::{emitted, path_of_one, path_of_two, word};
-use dm_output::{Binding, NamedPattern, Pattern};
-use dm_stream::{Ident, Seq, Text};
+use dm_ast::Field;
+use dm_generics::names::word;
+use dm_stream::Ident;
 use std::alloc::{AllocError, Global};
 
 /// Whose fields are named.
@@ -122,51 +114,6 @@ pub fn formatted(alloc: Global, operand: Operand, n: usize) -> Result<String, Al
     }
 }
 
-/// The name of a field of an operand, by its number.
-pub fn numbered<'a>(alloc: Global, operand: Operand, n: usize) -> Result<Ident<'a>, AllocError>
-    ensures { IfOk result (λ i. i ≡ heads.word (naming operand n)) }
-{
-    match first_name(operand, n) {
-        Some(name) => Ok(word(name)),
-        None => Ok(emitted(Text::owned(formatted(alloc, operand, n)?))),
-    }
-}
-
-fn bound<'a>(alloc: Global, operand: Operand, n: usize) -> Result<Pattern<'a>, AllocError>
-    ensures { IfOk result (λ p. pattern_view p ≡ bind Plain (heads.word (naming operand n))) }
-{
-    Ok(Pattern::Bind(Binding::Plain, numbered(alloc, operand, n)?))
-}
-
-fn binding<'a>(
-    alloc: Global,
-    operand: Operand,
-    n: usize,
-    skip: bool,
-) -> Result<Pattern<'a>, AllocError>
-    ensures { IfOk result (λ p. pattern_view p ≡ spec.binding skip (naming operand n)) }
-{
-    if skip {
-        return Ok(Pattern::Wild);
-    }
-    bound(alloc, operand, n)
-}
-
-fn bindings<'a>(
-    alloc: Global,
-    operand: Operand,
-    fields: &[FieldRef<'_, '_>],
-) -> Result<Seq<Pattern<'a>>, AllocError>
-    ensures { IfOk result (λ ps. map pattern_view ps ≡ spec.bindings (naming operand) 0 (map field_ref_view fields.now)) }
-{
-    let mut out = Seq::with_capacity(alloc, fields.len())?;
-    for (i, field) in fields.iter().enumerate() {
-        let pattern = binding(alloc, operand, i, field.left_out)?;
-        out.add(pattern)?;
-    }
-    Ok(out)
-}
-
 /// The name of a field in braces.
 pub fn field_ident<'a>(alloc: Global, field: &Field<'a>) -> Result<Ident<'a>, AllocError>
     ensures { IfOk result (λ i. i ≡ spec.field_ident field.now.ident) }
@@ -175,95 +122,4 @@ pub fn field_ident<'a>(alloc: Global, field: &Field<'a>) -> Result<Ident<'a>, Al
         Some(ident) => ident.clone_in(alloc),
         None => Ok(word("")),
     }
-}
-
-fn named_binding<'a>(
-    alloc: Global,
-    operand: Operand,
-    n: usize,
-    field: &Field<'a>,
-) -> Result<NamedPattern<'a>, AllocError>
-    ensures { IfOk result (λ p. named_view p ≡ (spec.field_ident field.now.ident, bind Plain (heads.word (naming operand n)))) }
-{
-    Ok(NamedPattern {
-        name: field_ident(alloc, field)?,
-        pattern: bound(alloc, operand, n)?,
-    })
-}
-
-fn named_bindings<'a>(
-    alloc: Global,
-    operand: Operand,
-    fields: &[FieldRef<'_, 'a>],
-) -> Result<Seq<NamedPattern<'a>>, AllocError>
-    ensures { IfOk result (λ ps. map named_view ps ≡ spec.named_bindings (naming operand) 0 (map field_ref_view fields.now)) }
-{
-    let mut out = Seq::with_capacity(alloc, fields.len())?;
-    for (i, field) in fields.iter().enumerate() {
-        if !field.left_out {
-            let pattern = named_binding(alloc, operand, i, field.field)?;
-            out.add(pattern)?;
-        }
-    }
-    Ok(out)
-}
-
-/// `Self`, or `Self::V`.
-pub fn case_path<'a>(
-    alloc: Global,
-    input: &DeriveInput<'a>,
-    ident: &Ident<'a>,
-) -> Result<Path<'a>, AllocError>
-    ensures { IfOk result (λ p. path_view p ≡ spec.case_path (declaration_view input.now) ident.now) }
-{
-    if is_enum(input) {
-        return path_of_two(alloc, word("Self"), ident.clone_in(alloc)?);
-    }
-    path_of_one(alloc, word("Self"))
-}
-
-/// The pattern of an operand with this path, whose fields stand as in the case.
-pub fn side_pattern<'a>(
-    alloc: Global,
-    operand: Operand,
-    path: Path<'a>,
-    case: &CaseRef<'_, 'a>,
-) -> Result<Pattern<'a>, AllocError>
-    ensures { IfOk result (λ p. pattern_view p ≡ spec.side_pattern (naming operand) (path_view path.entry) (case_view case.now).form (case_view case.now).fields) }
-{
-    let fields = case.fields.as_slice();
-    match case.form {
-        Form::Named => {
-            let rest = some_left_out(fields);
-            Ok(Pattern::Named(path, named_bindings(alloc, operand, fields)?, rest))
-        }
-        Form::Unnamed => Ok(Pattern::Tuple(path, bindings(alloc, operand, fields)?)),
-        Form::Unit => Ok(Pattern::Path(path)),
-    }
-}
-
-/// The pattern of an operand that is of this case.
-pub fn case_pattern<'a>(
-    alloc: Global,
-    operand: Operand,
-    input: &DeriveInput<'a>,
-    case: &CaseRef<'_, 'a>,
-) -> Result<Pattern<'a>, AllocError>
-    ensures { IfOk result (λ p. pattern_view p ≡ spec.side (naming operand) (declaration_view input.now) (case_view case.now)) }
-{
-    let path = case_path(alloc, input, case.ident)?;
-    side_pattern(alloc, operand, path, case)
-}
-
-/// That pattern in a box.
-pub fn side<'a>(
-    alloc: Global,
-    operand: Operand,
-    input: &DeriveInput<'a>,
-    case: &CaseRef<'_, 'a>,
-) -> Result<Box<Pattern<'a>>, AllocError>
-    ensures { IfOk result (λ p. pattern_view p.value ≡ spec.side (naming operand) (declaration_view input.now) (case_view case.now)) }
-{
-    let pattern = case_pattern(alloc, operand, input, case)?;
-    Ok(Box::new(alloc, pattern)?)
 }

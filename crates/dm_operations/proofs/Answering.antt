@@ -1,18 +1,14 @@
--- An operator's plan makes its implementation.
-use Rattle.std.proofs.Common.{◌≡◌, ℕ, zero, suc, ◌≤◌, ◌^◌, List, [], ◌∷◌, map, length, Bool, true, false, cond, Option, Some, None, Result, Ok, Err, IfOk, slice_get, refl, sym, ap, ◌∙◌, subst, arith}
-use Rattle.std.specs.Prelude.{String, string_bytes, IsOkAnd}
+-- An operator's plan makes the text of its implementation.
+use Rattle.std.proofs.Common.{◌≡◌, ℕ, zero, suc, ◌≤◌, ◌^◌, List, [], ◌∷◌, map, length, cond, Some, None, Result, Ok, Err, IfOk, slice_get, refl, sym, ap, ◌∙◌, subst, arith}
+use Rattle.std.specs.Prelude.{String, string_bytes}
 use Rattle.std.specs.declared.alloc.Global.{Global}
 use Rattle.std.proofs.lemmas.List.{length-map}
-use Rattle.std.proofs.lemmas.Result.{IfOk-weaker}
 use Rattle.std.proofs.lemmas.Grind.{common_steps}
 use Rattle.dm_stream.specs.declared.error.Error.{Error}
 use Rattle.dm_stream.specs.declared.error.Error.TheVariants.{NoMemory, Refused}
 use Rattle.dm_ast.specs.Declarations.{Declaration, FieldTree}
-use Rattle.dm_expansion.specs.declared.expansion.Expansion.{Expansion}
-use Rattle.dm_output.specs.declared.item.Item.{Item}
 use Rattle.dm_output.specs.Output.{ItemTree}
-use Rattle.dm_output.specs.Values.{Text, cases, field_list}
-use Rattle.dm_output.specs.Views.{item_view}
+use Rattle.dm_output.specs.Values.{cases, field_list}
 use Rattle.dm_output.specs.Tokens.{printed}
 use Rattle.dm_operands.specs.declared.cases.CaseRef.{CaseRef}
 use Rattle.dm_operands.specs.Marked.{MarkedField, MarkedCase, mark_field, mark_case}
@@ -20,7 +16,7 @@ use Rattle.dm_operands.specs.CaseViews.{case_view, field_ref_view}
 use Rattle.dm_operands.specs.Readable.{IsReadable}
 use Rattle.dm_operands.proofs.ReadNames.{readable-named}
 use Rattle.dm_operators.specs.declared.places.Plan.{Plan}
-use Rattle.dm_operators.specs.Operators.{Form, Operator, IsOperator, operator_named}
+use Rattle.dm_operators.specs.Operators.{Form, Operator, IsOperator}
 use Rattle.dm_operators.specs.Table.{form_view}
 use Rattle.dm_operators.specs.Attributes.{skips, cases_for, form_in}
 use Rattle.dm_operators.specs.Heads.{IsOperation}
@@ -31,7 +27,7 @@ use Rattle.dm_operators.specs.Laws.{AreFew}
 use Rattle.dm_operators.proofs.Operations.{operation}
 use Rattle.dm_operators.proofs.RefusalLaws.{unrefused-open}
 use Rattle.dm_operations.specs.Items.{item_for}
-use Rattle.dm_operations.specs.Expanded.{IsExpanded, IsAnswer, IsText, IsPrinted, is_in, if_in, member}
+use Rattle.dm_operations.specs.Expanded.{IsExpanded, IsText, IsPrinted}
 
 -- ---- the fields of a case that is held in memory can be numbered
 
@@ -50,7 +46,8 @@ held-few r fs l same =
     let n : length r.fields.items ≡ length fs = sym (length-map r.fields.items field_ref_view) ∙ ap length same ∙ length-map fs l in
     omega (arith, n, r.fields.ok.0, r.fields.ok.1, r.fields.small)
 
-few : (o : Operator) (d : Declaration) (rs : List CaseRef) → refusal o d ≡ None → map case_view rs ≡ cases_for o d → AreFew o d
+-- no refusal and the cases of the declaration: so the fields are few
+pub few : (o : Operator) (d : Declaration) (rs : List CaseRef) → refusal o d ≡ None → map case_view rs ≡ cases_for o d → AreFew o d
 few o d rs none same = λ form struct n c at.
     let found = in-mapped case_view rs n (mark_case (skips o) c) (ap (λ cs. slice_get cs n) same ∙ mapped-at (mark_case (skips o)) (cases d) n c at) in
     let fields : map field_ref_view found.0.fields.items ≡ cond (skips o c.attrs) [] (map (mark_field (skips o)) (field_list c.fields)) =
@@ -58,13 +55,10 @@ few o d rs none same = λ form struct n c at.
     held-few found.0 (field_list c.fields) (mark_field (skips o)) (fields ∙
     ap (λ b. cond b [] (map (mark_field (skips o)) (field_list c.fields))) (unrefused-open o d none n c at))
 
--- ---- one item with its text
-
-pub items_with_text : {E F : Type 0} (all : Result (List Item) E) (r : Result Expansion F) (i : ItemTree) → IfOk all (λ is. map item_view is ≡ i ∷ []) →
-    IfOk r (λ x. IsOkAnd all (λ is. (x.items ≡ is) × (x.text ≡ printed (map item_view is)))) →
-    IfOk r (λ x. (map item_view x.items ≡ i ∷ []) × (x.text ≡ printed (i ∷ [])))
-items_with_text (Ok is) r i made h = IfOk-weaker r _ _ (λ x k. (ap (map item_view) k.0 ∙ made, k.1 ∙ ap printed made)) h
-items_with_text (Err e) r i made h = IfOk-weaker r _ _ (λ x k. absurd k) h
+-- what holds anyway holds of each value
+pub where-ok : {A E P : Type 0} (r : Result A E) → P → IfOk r (λ _. P)
+where-ok (Ok x) h = h
+where-ok (Err e) h = tt
 
 -- ---- the implementation by a plan
 
@@ -81,13 +75,7 @@ expanded o d p i items text operator readable none is made one t =
     let whole : IsOperation o d (item_of o d) = operation o d operator (readable-named d readable) (few o d p.cases.items none is.cases) none in
     record { item = i; one = one; is_emitted = emitted; is_one = subst (IsOperation o d) (sym emitted) whole; text_is = t }
 
-pub expands : {E : Type 0} (o : Operator) (d : Declaration) (p : Plan) (i : ItemTree) (r : Result Expansion E) → IsOperator o → IsReadable d →
-    refusal o d ≡ None → IsPlan o d p → i ≡ item_for (form_view p.form) o d (map case_view p.cases.items) →
-    IfOk r (λ x. (map item_view x.items ≡ i ∷ []) × (x.text ≡ printed (i ∷ []))) → IfOk r (λ x. IsExpanded o d (map item_view x.items) x.text)
-expands o d p i (Ok x) operator readable none is made h = expanded o d p i (map item_view x.items) x.text operator readable none is made h.0 h.1
-expands o d p i (Err e) operator readable none is made h = tt
-
--- and its text alone
+-- its text alone
 pub prints : {E : Type 0} (o : Operator) (d : Declaration) (p : Plan) (i : ItemTree) (r : Result (String Global) E) → IsOperator o → IsReadable d →
     refusal o d ≡ None → IsPlan o d p → i ≡ item_for (form_view p.form) o d (map case_view p.cases.items) →
     IfOk r (λ s. string_bytes s ≡ printed (i ∷ [])) → IfOk r (λ s. IsText o d (string_bytes s))
@@ -101,21 +89,8 @@ text-once o d x y a b =
 
 -- ---- answers
 
-pub not-planned : (o : Operator) (d : Declaration) (e : Error) → IsPlanned o d (Err e) → IsAnswer o d (Err e)
-not-planned o d NoMemory h = tt
-not-planned o d (Refused r) h = h
-
 pub not-written : (o : Operator) (d : Declaration) (e : Error) → IsPlanned o d (Err e) → IsPrinted o d (Err e)
 not-written o d NoMemory h = tt
 not-written o d (Refused r) h = h
 
-in-family : (form : Form) (assigning : Bool) (p : Option Operator) (o : Operator) → if_in form assigning p ≡ Some o → p ≡ Some o
-in-family form assigning None o h = absurd cc
-in-family form assigning (Some q) o h =
-    (elim (is_in form assigning q) as (λ b. cond b (Some q) None ≡ Some o → Some q ≡ Some o) [ true ↦ λ k. k | false ↦ λ k. absurd cc ]) h
-
--- a member of a family is one of the table
-pub in-table : (form : Form) (assigning : Bool) (name : Text) (o : Operator) → member form assigning name ≡ Some o → IsOperator o
-in-table form assigning name o h = record { name = name; found = in-family form assigning (operator_named name) o h }
-
-pub ruleset answer_steps = (common_steps, not-planned, not-written, in-table)
+pub ruleset answer_steps = (common_steps, not-written)

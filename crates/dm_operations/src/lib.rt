@@ -1,11 +1,5 @@
-//! The implementations of the operators of `core::ops`, and the calls that derive them.
+//! The implementations of the operators of `core::ops`, printed without their trees.
 #![tactic(auto)]
 
-pub mod add;
-pub mod add_assign;
 pub mod expand;
-mod item;
-pub mod mul;
-pub mod mul_assign;
-pub mod not_like;
 mod printing;

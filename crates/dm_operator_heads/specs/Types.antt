@@ -1,5 +1,5 @@
 -- Parts of the head of an implementation, as the functions that make them are called with them.
-use Rattle.std.specs.Prelude.{List, [], ◌∷◌, ◌++◌, false, Option, Some, codes}
+use Rattle.std.specs.Prelude.{List, [], ◌∷◌, ◌++◌, false, codes}
 use Rattle.dm_stream.specs.Layout.{nowhere}
 use Rattle.dm_ast.specs.Tree.{TypeTree, type_tree, path, PathTree, path_tree, segment, segments_of, ArgumentTree, no_self}
 use Rattle.dm_ast.specs.Declarations.{ParamTree}
@@ -24,9 +24,6 @@ result_of t error = heads.result_of t (codes "derive_more" ∷ error ∷ [])
 
 abbrev pub output_named : TypeTree → AssocTree
 output_named t = record { name = word (codes "Output"); ty = t }
-
-abbrev pub some_type : TypeTree → Option TypeTree
-some_type t = Some t
 
 abbrev pub with_right : List ParamTree → List ParamTree
 with_right ps = ps ++ right_param ∷ []

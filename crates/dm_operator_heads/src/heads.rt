@@ -1,11 +1,11 @@
-//! The implementation of an operator but for its body.
+//! The parameters and types that stand in the implementation of an operator.
 #![tactic(auto, using(crate::proofs::HeadSteps::head_steps))]
 
-ghost use Rattle.std.specs.Prelude.{◌≡◌, map, option_map, IfOk, IsOkAnd};
+ghost use Rattle.std.specs.Prelude.{◌≡◌, map, IfOk, IsOkAnd};
 ghost use Rattle.dm_ast.specs.Tree.{ty_view, path_view, argument_view};
 ghost use Rattle.dm_ast.specs.Declarations.{declaration_view, variant_view, param_view};
 ghost use Rattle.dm_output.specs.Values as values;
-ghost use Rattle.dm_output.specs.Views.{method_param_view, assoc_view};
+ghost use Rattle.dm_output.specs.Views.{assoc_view};
 ghost use Rattle.dm_operators.specs.Operators as ops;
 ghost use Rattle.dm_operators.specs.Meaning as meaning;
 ghost use Rattle.dm_operators.specs.Heads as spec;
@@ -15,15 +15,15 @@ ghost use Rattle.dm_operator_heads.specs.Types as parts;
 use dm_ast::{Data, DeriveInput, GenericArgument, GenericParam, Path, Ty, Variant};
 use dm_generics::bounds::{path_to, segment};
 use dm_generics::implementors::params;
-use dm_generics::lists::{appended, one, one_of, two, two_of};
+use dm_generics::lists::{appended, one_of, two_of};
 use dm_generics::names::{path_of, word};
 use dm_generics::types::{plain_type, word_type};
 use dm_generics::{Split, add_extra_type_param_bound_op_output, implementor_type, split_for_impl};
 use dm_operands::cases::is_enum;
 use dm_operators::operator::{Form, Operator};
 use dm_operators::places::is_unit;
-use dm_operators::predicates::{Implemented, angled, right_param, right_type, type_argument};
-use dm_output::{Assoc, ItemAttr, MethodParam, Receiver};
+use dm_operators::predicates::{Implemented, angled, right_param, type_argument};
+use dm_output::Assoc;
 use dm_stream::Seq;
 use std::alloc::{AllocError, Global};
 
@@ -150,50 +150,6 @@ pub fn assocs<'a>(
     )
 }
 
-pub fn method_attrs(alloc: Global, form: Form) -> Result<Seq<ItemAttr>, AllocError>
-    ensures { IfOk result (λ all. all ≡ spec.method_attrs (form_view form)) }
-{
-    match form {
-        Form::Structural => two(alloc, ItemAttr::Inline, ItemAttr::TrackCaller),
-        Form::Scalar => two(alloc, ItemAttr::Inline, ItemAttr::TrackCaller),
-        Form::Unary => one(alloc, ItemAttr::Inline),
-    }
-}
-
-/// `&mut self`, or `self`.
-pub fn receiver_of(operator: &Operator) -> Receiver
-    ensures { result ≡ spec.receiver_of (operator_view operator.now) }
-{
-    if operator.assigning {
-        Receiver::RefMut
-    } else {
-        Receiver::Value
-    }
-}
-
-/// The right side as a parameter.
-fn right_of<'a>(ty: Result<Ty<'a>, AllocError>) -> Result<Option<MethodParam<'a>>, AllocError>
-    ensures { IfOk result (λ p. IsOkAnd ty.entry (λ t. option_map method_param_view p ≡ spec.right_of (ty_view t))) }
-{
-    match ty {
-        Ok(ty) => Ok(Some(MethodParam {
-            name: word("__rhs"),
-            ty,
-        })),
-        Err(error) => Err(error),
-    }
-}
-
-pub fn method_param<'a>(alloc: Global, form: Form) -> Result<Option<MethodParam<'a>>, AllocError>
-    ensures { IfOk result (λ p. option_map method_param_view p ≡ spec.method_param (form_view form)) }
-{
-    match form {
-        Form::Structural => right_of(word_type(alloc, "Self")),
-        Form::Scalar => right_of(right_type(alloc)),
-        Form::Unary => Ok(None),
-    }
-}
-
 /// `Self::Output`.
 fn own_output<'a>(alloc: Global) -> Result<Ty<'a>, AllocError>
     ensures { IfOk result (λ t. ty_view t ≡ spec.own_output) }
@@ -201,59 +157,18 @@ fn own_output<'a>(alloc: Global) -> Result<Ty<'a>, AllocError>
     type_at(path_of(alloc, &["Self", "Output"]))
 }
 
-/// The operator of one value writes its type out.
-fn returned<'a>(alloc: Global, form: Form, input: &DeriveInput<'a>) -> Result<Ty<'a>, AllocError>
+/// The type that a method which doesn't assign returns: that of one value writes it out.
+pub fn returned<'a>(
+    alloc: Global,
+    form: Form,
+    input: &DeriveInput<'a>,
+) -> Result<Ty<'a>, AllocError>
     ensures { IfOk result (λ t. ty_view t ≡ spec.returned (form_view form) (declaration_view input.now)) }
 {
     match form {
         Form::Structural => own_output(alloc),
         Form::Scalar => own_output(alloc),
         Form::Unary => unary_output(alloc, input),
-    }
-}
-
-fn some_type<'a>(ty: Result<Ty<'a>, AllocError>) -> Result<Option<Ty<'a>>, AllocError>
-    ensures { IfOk result (λ o. IsOkAnd ty.entry (λ t. option_map ty_view o ≡ parts.some_type (ty_view t))) }
-{
-    match ty {
-        Ok(ty) => Ok(Some(ty)),
-        Err(error) => Err(error),
-    }
-}
-
-/// An assigning method returns nothing.
-pub fn method_output<'a>(
-    alloc: Global,
-    implemented: &Implemented,
-    input: &DeriveInput<'a>,
-) -> Result<Option<Ty<'a>>, AllocError>
-    ensures { IfOk result (λ o. option_map ty_view o ≡ spec.method_output (form_view implemented.now.form) (operator_view implemented.now.operator) (declaration_view input.now)) }
-{
-    if implemented.operator.assigning {
-        return Ok(None);
-    }
-    some_type(returned(alloc, implemented.form, input))
-}
-
-fn unary_attrs(alloc: Global) -> Result<Seq<ItemAttr>, AllocError>
-    ensures { IfOk result (λ all. all ≡ spec.item_attrs ops.unary) }
-{
-    let lints = two(
-        alloc,
-        ItemAttr::AllowDeprecated,
-        ItemAttr::AllowUnreachableCode,
-    )?;
-    Ok(appended(lints, ItemAttr::AutomaticallyDerived)?)
-}
-
-pub fn item_attrs(alloc: Global, form: Form) -> Result<Seq<ItemAttr>, AllocError>
-    ensures { IfOk result (λ all. all ≡ spec.item_attrs (form_view form)) }
-{
-    let private = ItemAttr::AllowPrivateBounds;
-    match form {
-        Form::Structural => two(alloc, private, ItemAttr::AutomaticallyDerived),
-        Form::Scalar => two(alloc, private, ItemAttr::AutomaticallyDerived),
-        Form::Unary => unary_attrs(alloc),
     }
 }
 

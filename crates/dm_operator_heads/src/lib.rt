@@ -1,8 +1,6 @@
-//! The heads of operators' implementations.
+//! The parameters and types that stand in operators' implementations.
 #![tactic(auto)]
 
 mod heads;
 
-pub use heads::{
-    assocs, item_attrs, item_params, method_attrs, method_output, method_param, receiver_of,
-};
+pub use heads::{assocs, item_params, returned};

@@ -2,7 +2,7 @@
 //!
 //! The texts follow derive_more's documentation of each trait; the crate's own output stands nowhere in them.
 
-use dm_derive::{derive_printed, derive_text};
+use dm_derive::derive_printed;
 use dm_tokens::{Error, Kind};
 use std::alloc::Global;
 
@@ -21,9 +21,7 @@ fn is_line(text: &str, line: &str) -> bool {
 fn first_other(alloc: Global, rows: &[Row]) -> Result<usize, Error> {
     let mut count = 0;
     for (name, decl, want) in rows.iter().copied() {
-        let made = derive_text(alloc, name, decl)?;
-        let printed = derive_printed(alloc, name, decl)?;
-        if !is_line(made.text.as_str(), want) || printed.as_str() != made.text.as_str() {
+        if !is_line(derive_printed(alloc, name, decl)?.as_str(), want) {
             return Ok(count);
         }
         count = count.saturating_add(1);

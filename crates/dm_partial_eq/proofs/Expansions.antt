@@ -3,9 +3,7 @@ use Rattle.std.proofs.Common.{◌≡◌, ℕ, List, [], ◌∷◌, map, true, fa
 use Rattle.std.specs.Prelude.{IfOk, String, string_bytes}
 use Rattle.std.specs.declared.alloc.Global.{Global}
 use Rattle.dm_ast.specs.Declarations.{Declaration}
-use Rattle.dm_expansion.specs.declared.expansion.Expansion.{Expansion}
 use Rattle.dm_output.specs.Output.{ItemTree}
-use Rattle.dm_output.specs.Views.{item_view}
 use Rattle.dm_output.specs.Tokens.{printed}
 use Rattle.dm_partial_eq.specs.declared.comparing.Comparing.{Comparing}
 use Rattle.dm_partial_eq.specs.declared.comparing.Comparing.TheVariants.{Equal, Unequal}
@@ -37,7 +35,8 @@ are-methods d names =
       | false ↦ eq-method d names
     ]
 
-expanded : (d : Declaration) (i : ItemTree) (items : List ItemTree) (text : List ℕ) → IsReadable d → i ≡ item d →
+-- the emitted implementation and its text are those of `PartialEq`
+pub expanded : (d : Declaration) (i : ItemTree) (items : List ItemTree) (text : List ℕ) → IsReadable d → i ≡ item d →
     items ≡ i ∷ [] → text ≡ printed (i ∷ []) → IsExpanded d items text
 expanded d i items text s is one t =
     let P : ItemTree → Type 0 = IsPartialEq d in
@@ -62,9 +61,3 @@ prints d (Err e) readable h = tt
 pub text-once : (d : Declaration) (x y : List ℕ) → IsText d x → IsText d y → x ≡ y
 text-once d x y a b =
     a.1.text_is ∙ ap (λ (i : ItemTree). printed (i ∷ [])) (a.1.is_emitted ∙ sym b.1.is_emitted) ∙ sym b.1.text_is
-
-pub expands : {E : Type 0} (d : Declaration) (i : ItemTree) (r : Result Expansion E) → IsReadable d → i ≡ item d →
-    IfOk r (λ x. (map item_view x.items ≡ i ∷ []) × (x.text ≡ printed (i ∷ []))) →
-    IfOk r (λ x. IsExpanded d (map item_view x.items) x.text)
-expands d i (Ok x) s is h = expanded d i (map item_view x.items) x.text s is h.0 h.1
-expands d i (Err e) s is h = tt

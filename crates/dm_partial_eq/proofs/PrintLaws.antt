@@ -1,22 +1,26 @@
 -- Steps of what is printed without its trees.
-use Rattle.std.proofs.Common.{◌≡◌, ℕ, ◌+◌, List, [], ◌∷◌, map, Bool, true, false, cond, Result, Ok, Err, IfOk, OnOk, IsOkAnd, refl, sym, ap, ◌∙◌}
+use Rattle.std.proofs.Common.{◌≡◌, ℕ, ◌+◌, List, [], ◌∷◌, map, length, Bool, true, false, cond, eqb, Some, refl, sym, ap, ◌∙◌}
 use Rattle.std.specs.Prelude.{not, ◌&&◌, ◌||◌}
 use Rattle.dm_stream.specs.declared.tokens.Delim.TheVariants.{Brace}
-use Rattle.dm_stream.specs.Trees.{Trees, no_trees}
+use Rattle.dm_stream.specs.Trees.{no_trees, join}
 use Rattle.dm_stream.specs.Layout.{Laid}
 use Rattle.dm_ast.specs.Declarations.{Declaration}
+use Rattle.dm_ast.specs.Implementors.{params_of, implementor}
+use Rattle.dm_ast.specs.TypeTokens.{type_trees}
 use Rattle.dm_print_types.specs.Laying.{lay, begun, done}
-use Rattle.dm_output.specs.Output.{ExprTree}
-use Rattle.dm_output.specs.Tokens.{expr_trees, word, enclosed, in_turn, method_trees, head_trees, item_trees}
+use Rattle.dm_output.specs.Output.{ExprTree, bool}
+use Rattle.dm_output.specs.Tokens.{expr_trees, word, enclosed, in_turn, params_trees, trait_trees, where_trees, method_trees, head_trees, item_trees}
 use Rattle.dm_print_types.proofs.Laying.{lay-join}
 use Rattle.dm_partial_eq.specs.declared.comparing.Comparing.{Comparing}
 use Rattle.dm_partial_eq.specs.declared.comparing.Comparing.TheVariants.{Equal, Unequal}
+use Rattle.dm_operands.specs.Bodies.{no_match}
 use Rattle.dm_operands.specs.Marked.{MarkedField, MarkedCase}
-use Rattle.dm_operands.specs.Kept.{keeps_some, is_compared}
-use Rattle.dm_partial_eq.specs.Emitted.{test, tests, chain, methods, item_for}
+use Rattle.dm_operands.specs.Kept.{keeps_some, is_compared, some_compared}
+use Rattle.dm_partial_eq.specs.Heads.{partial_eq_path}
+use Rattle.dm_partial_eq.specs.Emitted.{neutral_of, test, tests, chain, matching, discriminants, needs_discriminants, with_discriminants, body_expr, methods, predicates_for, with_methods, item_for}
 use Rattle.dm_operands.specs.declared.sides.Operand.TheVariants.{Mine, Theirs}
 use Rattle.dm_operands.specs.CaseViews.{naming}
-use Rattle.dm_partial_eq.specs.Printed.{sign_trees, joined}
+use Rattle.dm_partial_eq.specs.Printed.{sign_trees, joined, uncompared, impl_trees}
 use Rattle.dm_sides.proofs.Patterns.{pattern_steps}
 
 pub ruleset printing_steps = (pattern_steps)
@@ -57,7 +61,32 @@ both false b h = cc
 pub keeps : (v : MarkedCase) → is_compared v ≡ true → keeps_some v.fields ≡ true
 keeps v h = both (not v.left_out) (keeps_some v.fields) h
 
+-- ---- a body without arms
+
+alone : (c : Comparing) (d : Declaration) (vs : List MarkedCase) (b some : Bool) → some ≡ false →
+    chain c (with_discriminants c b (cond some (matching c d vs ∷ []) [])) ≡ cond b (discriminants c) (bool (neutral_of c))
+alone c d vs true some h = rw h refl
+alone c d vs false some h = rw h refl
+
+-- where no case is compared the test of the discriminants stands alone, or the neutral truth
+pub uncompared-body : (c : Comparing) (d : Declaration) (vs : List MarkedCase) → some_compared vs ≡ false → uncompared c d vs ≡ body_expr c d vs
+uncompared-body c d vs h =
+    ap (λ e. cond (eqb (length vs) 0) no_match e) (sym (alone c d vs (needs_discriminants d vs) (some_compared vs) h))
+
 -- ---- the implementation
+
+-- the parts of the head, one behind the other
+pub head-laid : (s : Laid) (d : Declaration) (vs : List MarkedCase) →
+    lay (lay (lay (lay (lay s impl_trees) (params_trees (params_of d))) (trait_trees (Some partial_eq_path))) (type_trees (implementor d))) (where_trees (predicates_for d vs)) ≡
+    lay s (head_trees (with_methods d vs []))
+head-laid s d vs =
+    let l : Laid = lay s impl_trees in
+    let ps = params_trees (params_of d) in
+    let t = trait_trees (Some partial_eq_path) in
+    let ty = type_trees (implementor d) in
+    let wheres = where_trees (predicates_for d vs) in
+    sym (lay-join s impl_trees (join ps (join t (join ty wheres))) ∙ lay-join l ps (join t (join ty wheres)) ∙
+    lay-join (lay l ps) t (join ty wheres) ∙ lay-join (lay (lay l ps) t) ty wheres)
 
 -- the head, and the methods in braces
 pub item-laid : (s : Laid) (d : Declaration) (vs : List MarkedCase) →

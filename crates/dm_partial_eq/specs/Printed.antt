@@ -1,14 +1,16 @@
 -- The tokens of the parts that are printed without their trees.
-use Rattle.std.specs.Prelude.{Bool, List, cond}
+use Rattle.std.specs.Prelude.{Bool, List, [], ◌∷◌, map, length, cond, eqb, codes}
 use Rattle.dm_stream.specs.Trees.{Trees, no_trees, join}
 use Rattle.dm_ast.specs.Declarations.{Declaration}
 use Rattle.dm_ast.specs.TypeTokens.{spaced}
-use Rattle.dm_output.specs.Output.{ExprTree, exprs_of}
-use Rattle.dm_output.specs.Tokens.{joint, each_expr, expr_trees}
+use Rattle.dm_output.specs.Output.{ExprTree, exprs_of, bool}
+use Rattle.dm_output.specs.Tokens.{joint, word, in_turn, attr_trees, each_expr, expr_trees}
+use Rattle.dm_output.specs.declared.item.ItemAttr.TheVariants.{AllowPrivateBounds, AutomaticallyDerived}
 use Rattle.dm_partial_eq.specs.declared.comparing.Comparing.{Comparing}
 use Rattle.dm_partial_eq.specs.declared.comparing.Comparing.TheVariants.{Equal, Unequal}
+use Rattle.dm_operands.specs.Bodies.{no_match}
 use Rattle.dm_operands.specs.Marked.{MarkedCase}
-use Rattle.dm_partial_eq.specs.Emitted.{discriminants, matching, needs_discriminants}
+use Rattle.dm_partial_eq.specs.Emitted.{neutral_of, discriminants, matching, needs_discriminants}
 
 -- `==`, or `!=`
 abbrev pub sign_trees : Comparing → Trees
@@ -31,3 +33,11 @@ discriminants_trees c wanted = cond wanted (join (expr_trees (discriminants c)) 
 -- the body where some case is compared
 abbrev pub compared_trees : Comparing → Declaration → List MarkedCase → Trees
 compared_trees c d vs = join (discriminants_trees c (needs_discriminants d vs)) (expr_trees (matching c d vs))
+
+-- the body where no case is compared
+abbrev pub uncompared : Comparing → Declaration → List MarkedCase → ExprTree
+uncompared c d vs = cond (eqb (length vs) 0) no_match (cond (needs_discriminants d vs) (discriminants c) (bool (neutral_of c)))
+
+-- `#[allow(private_bounds)] #[automatically_derived] impl`
+abbrev pub impl_trees : Trees
+impl_trees = join (in_turn (map attr_trees (AllowPrivateBounds ∷ AutomaticallyDerived ∷ []))) (word (codes "impl"))

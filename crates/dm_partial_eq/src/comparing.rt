@@ -1,22 +1,19 @@
-//! The two ways in which values are compared.
-#![tactic(auto, using(crate::proofs::Builders::builder_steps))]
+//! The two ways in which values are compared, and the texts that each of them has.
+#![tactic(auto, using(crate::proofs::PrintLaws::printing_steps))]
 
-ghost use Rattle.std.specs.Prelude.{◌≡◌, [], map, OnOk};
-ghost use Rattle.dm_output.specs.Output.{exprs_of};
-ghost use Rattle.dm_output.specs.Views.{expr_view};
+ghost use Rattle.std.specs.Prelude.{◌≡◌, ◌∷◌, [], OnOk};
+ghost use Rattle.dm_output.specs.Output.{last_expr, no_expr, bool, arms_of};
+ghost use Rattle.dm_output.specs.Tokens as tokens;
 ghost use Rattle.dm_print_types.specs.Laying.{lay};
-ghost use Rattle.dm_generics.specs.Words as heads;
+ghost use Rattle.dm_operands.specs.Bodies as bodies;
 ghost use Rattle.dm_partial_eq.specs.Emitted as spec;
 ghost use Rattle.dm_partial_eq.specs.Printed as printed;
 
-use dm_generics::names::word;
 use dm_layout::Layout;
-use dm_output::Expr;
-use dm_print_types::token::joint;
-use dm_stream::{Ident, Seq};
+use dm_print_types::token::{fixed, joint, word};
 use std::alloc::AllocError;
 
-/// Which of the two methods is made.
+/// Which of the two methods is printed.
 #[derive(Clone, Copy, Debug, PartialEq, Eq)]
 pub(crate) enum Comparing {
     Equal,
@@ -24,52 +21,6 @@ pub(crate) enum Comparing {
 }
 
 impl Comparing {
-    /// The test of two parts.
-    pub(crate) fn test_of<'a>(self, a: Box<Expr<'a>>, b: Box<Expr<'a>>) -> Expr<'a>
-        ensures { expr_view result ≡ spec.test_of self (expr_view a.entry.value) (expr_view b.entry.value) }
-    {
-        match self {
-            Comparing::Equal => Expr::Equal(a, b),
-            Comparing::Unequal => Expr::Unequal(a, b),
-        }
-    }
-
-    /// Two tests or more, joined.
-    pub(crate) fn join_of(self, parts: Seq<Expr<'_>>) -> Expr<'_>
-        ensures { expr_view result ≡ spec.join_of self (exprs_of (map expr_view parts.entry)) }
-    {
-        match self {
-            Comparing::Equal => Expr::And(parts),
-            Comparing::Unequal => Expr::Or(parts),
-        }
-    }
-
-    fn neutral_of(self) -> bool
-        ensures { result ≡ spec.neutral_of self }
-    {
-        match self {
-            Comparing::Equal => true,
-            Comparing::Unequal => false,
-        }
-    }
-
-    /// What no test at all gives.
-    pub(crate) fn neutral<'a>(self) -> Expr<'a>
-        ensures { expr_view result ≡ spec.chain self [] }
-    {
-        Expr::Bool(self.neutral_of())
-    }
-
-    /// The name of the method.
-    pub(crate) fn method_name<'a>(self) -> Ident<'a>
-        ensures { result ≡ heads.word (spec.method_name self) }
-    {
-        match self {
-            Comparing::Equal => word("eq"),
-            Comparing::Unequal => word("ne"),
-        }
-    }
-
     /// Adds the sign of a test.
     pub(crate) fn sign(self, out: &mut Layout) -> Result<(), AllocError>
         ensures { OnOk result (out.new ≡ lay out.old (printed.sign_trees self)) }
@@ -87,6 +38,55 @@ impl Comparing {
         match self {
             Comparing::Equal => joint(out, '&', '&'),
             Comparing::Unequal => joint(out, '|', '|'),
+        }
+    }
+
+    /// Adds what no test at all gives.
+    pub(crate) fn neutral(self, out: &mut Layout) -> Result<(), AllocError>
+        ensures { OnOk result (out.new ≡ lay out.old (tokens.expr_trees (bool (spec.neutral_of self)))) }
+    {
+        match self {
+            Comparing::Equal => word(out, "true"),
+            Comparing::Unequal => word(out, "false"),
+        }
+    }
+
+    /// Adds the arm of every other pair, which gives what no test at all gives.
+    pub(crate) fn other_pairs(self, out: &mut Layout) -> Result<(), AllocError>
+        ensures { OnOk result (out.new ≡ lay out.old (tokens.arms_trees (arms_of (bodies.otherwise (bool (spec.neutral_of self)) ∷ [])))) }
+    {
+        match self {
+            Comparing::Equal => fixed(out, "_ => true ,"),
+            Comparing::Unequal => fixed(out, "_ => false ,"),
+        }
+    }
+
+    /// Adds the test of the discriminants.
+    pub(crate) fn discriminants(self, out: &mut Layout) -> Result<(), AllocError>
+        ensures { OnOk result (out.new ≡ lay out.old (tokens.expr_trees (spec.discriminants self))) }
+    {
+        match self {
+            Comparing::Equal => fixed(
+                out,
+                "derive_more :: core :: mem :: discriminant (self) == derive_more :: core :: mem :: discriminant (__other)",
+            ),
+            Comparing::Unequal => fixed(
+                out,
+                "derive_more :: core :: mem :: discriminant (self) != derive_more :: core :: mem :: discriminant (__other)",
+            ),
+        }
+    }
+
+    /// Adds what stands in front of the method's body.
+    pub(crate) fn method_head(self, out: &mut Layout) -> Result<(), AllocError>
+        ensures { OnOk result (out.new ≡ lay out.old (tokens.signature_trees (spec.method_with self (last_expr no_expr)))) }
+    {
+        match self {
+            Comparing::Equal => fixed(out, "# [inline] fn eq (& self , __other : & Self) -> bool"),
+            Comparing::Unequal => fixed(
+                out,
+                "# [inline] fn ne (& self , __other : & Self) -> bool",
+            ),
         }
     }
 }

@@ -1,11 +1,11 @@
-//! `PartialEq`: from a declaration to its implementation.
+//! `PartialEq`: from a declaration to the text of its implementation.
 #![tactic(auto)]
 
-mod arms;
 mod checks;
 mod comparing;
 mod laws;
 pub mod partial_eq;
+mod predicates;
 mod printing;
 
 pub use laws::predicates_cover_calls;

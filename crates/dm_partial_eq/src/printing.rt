@@ -1,11 +1,8 @@
-//! The text of the implementation, for which the trees of its arms aren't made.
-//!
-//! An arm of a tree is some twenty allocations, an arm of a text none: for a long enum that is most of the time.
+//! The text of the implementation. No tree of it is made: an arm of a tree is some twenty allocations, an arm of a text none.
 #![tactic(auto, using(crate::proofs::PrintLaws::printing_steps))]
 
 ghost use Rattle.std.specs.Prelude.{◌≡◌, ◌∷◌, [], map, IfOk, OnOk, string_bytes};
 ghost use Rattle.dm_ast.specs.Declarations.{declaration_view};
-ghost use Rattle.dm_output.specs.Output.{last_expr, no_expr};
 ghost use Rattle.dm_output.specs.Tokens as tokens;
 ghost use Rattle.dm_print_types.specs.Laying.{lay};
 ghost use Rattle.dm_partial_eq.specs.Emitted as spec;
@@ -13,26 +10,30 @@ ghost use Rattle.dm_partial_eq.specs.Printed as printed;
 ghost use Rattle.dm_operands.specs.CaseViews.{case_view};
 
 mod arms;
+mod heads;
 
 use crate::comparing::Comparing;
-use crate::partial_eq::{
-    body_expr, both_expr, discriminants, method_with, needs_discriminants, with_methods,
-};
 use arms::arms;
 use dm_ast::DeriveInput;
 use dm_layout::Layout;
-use dm_operands::cases::{CaseRef, some_compared};
-use dm_output::Block;
-use dm_print_types::token::{close, open, word};
-use dm_sides::made::print;
-use dm_stream::{Delim, Seq};
+use dm_operands::cases::{CaseRef, is_enum, some_case_left_out, some_compared};
+use dm_print_types::token::{close, fixed, open, word};
+use dm_stream::Delim;
+use heads::item_head;
 use std::alloc::{AllocError, Global};
 
+/// Whether values of two variants have to be told apart.
+fn needs_discriminants(input: &DeriveInput<'_>, cases: &[CaseRef<'_, '_>]) -> bool
+    ensures { result ≡ spec.needs_discriminants (declaration_view input.now) (map case_view cases.now) }
+{
+    is_enum(input) && (some_case_left_out(cases) || cases.len() > 1)
+}
+
 /// Adds the pair of the operands.
-fn subject(alloc: Global, out: &mut Layout) -> Result<(), AllocError>
+fn subject(out: &mut Layout) -> Result<(), AllocError>
     ensures { OnOk result (out.new ≡ lay out.old (tokens.expr_trees spec.both)) }
 {
-    print(both_expr(alloc), alloc, out)
+    fixed(out, "(self , __other)")
 }
 
 fn matching<'a>(
@@ -45,25 +46,14 @@ fn matching<'a>(
     ensures { OnOk result (out.new ≡ lay out.old (tokens.expr_trees (spec.matching comparing (declaration_view input.now) (map case_view cases.now)))) }
 {
     word(out, "match")?;
-    subject(alloc, out)?;
+    subject(out)?;
     open(out, Delim::Brace)?;
     arms(alloc, out, comparing, input, cases)?;
     close(out, Delim::Brace)
 }
 
-fn discriminant_tests(
-    alloc: Global,
-    out: &mut Layout,
-    comparing: Comparing,
-) -> Result<(), AllocError>
-    ensures { OnOk result (out.new ≡ lay out.old (tokens.expr_trees (spec.discriminants comparing))) }
-{
-    print(discriminants(alloc, comparing), alloc, out)
-}
-
 /// Adds the tests of the discriminants, where they are wanted, and what joins them to the match.
 fn discriminants_part(
-    alloc: Global,
     out: &mut Layout,
     comparing: Comparing,
     wanted: bool,
@@ -71,7 +61,7 @@ fn discriminants_part(
     ensures { OnOk result (out.new ≡ lay out.old (printed.discriminants_trees comparing wanted)) }
 {
     if wanted {
-        discriminant_tests(alloc, out, comparing)?;
+        comparing.discriminants(out)?;
         comparing.join(out)?;
     }
     Ok(())
@@ -86,8 +76,26 @@ fn compared<'a>(
 ) -> Result<(), AllocError>
     ensures { OnOk result (out.new ≡ lay out.old (printed.compared_trees comparing (declaration_view input.now) (map case_view cases.now))) }
 {
-    discriminants_part(alloc, out, comparing, needs_discriminants(input, cases))?;
+    discriminants_part(out, comparing, needs_discriminants(input, cases))?;
     matching(alloc, out, comparing, input, cases)
+}
+
+/// Adds the body where no case is compared.
+fn uncompared(
+    out: &mut Layout,
+    comparing: Comparing,
+    input: &DeriveInput<'_>,
+    cases: &[CaseRef<'_, '_>],
+) -> Result<(), AllocError>
+    ensures { OnOk result (out.new ≡ lay out.old (tokens.expr_trees (printed.uncompared comparing (declaration_view input.now) (map case_view cases.now)))) }
+{
+    if cases.is_empty() {
+        return fixed(out, "match * self { }");
+    }
+    if needs_discriminants(input, cases) {
+        return comparing.discriminants(out);
+    }
+    comparing.neutral(out)
 }
 
 fn body<'a>(
@@ -102,18 +110,7 @@ fn body<'a>(
     if some_compared(cases) {
         return compared(alloc, out, comparing, input, cases);
     }
-    print(body_expr(alloc, comparing, input, cases), alloc, out)
-}
-
-/// Adds what stands in front of a method's body.
-fn method_head(alloc: Global, out: &mut Layout, comparing: Comparing) -> Result<(), AllocError>
-    ensures { OnOk result (out.new ≡ lay out.old (tokens.signature_trees (spec.method_with comparing (last_expr no_expr)))) }
-{
-    let empty = Block {
-        stmts: Seq::new(alloc),
-        last: None,
-    };
-    print(method_with(alloc, comparing, empty), alloc, out)
+    uncompared(out, comparing, input, cases)
 }
 
 fn method<'a>(
@@ -125,7 +122,7 @@ fn method<'a>(
 ) -> Result<(), AllocError>
     ensures { OnOk result (out.new ≡ lay out.old (tokens.method_trees (spec.method comparing (declaration_view input.now) (map case_view cases.now)))) }
 {
-    method_head(alloc, out, comparing)?;
+    comparing.method_head(out)?;
     open(out, Delim::Brace)?;
     body(alloc, out, comparing, input, cases)?;
     close(out, Delim::Brace)
@@ -140,26 +137,10 @@ fn methods<'a>(
     ensures { OnOk result (out.new ≡ lay out.old (tokens.in_turn (map tokens.method_trees (spec.methods (declaration_view input.now) (map case_view cases.now))))) }
 {
     method(alloc, out, Comparing::Equal, input, cases)?;
-    if some_compared(cases) {
-        method(alloc, out, Comparing::Unequal, input, cases)?;
+    if !some_compared(cases) {
+        return Ok(());
     }
-    Ok(())
-}
-
-/// Adds what stands in front of the implementation's methods.
-fn item_head<'a>(
-    alloc: Global,
-    out: &mut Layout,
-    input: &DeriveInput<'a>,
-    cases: &[CaseRef<'_, 'a>],
-) -> Result<(), AllocError>
-    ensures { OnOk result (out.new ≡ lay out.old (tokens.head_trees (spec.with_methods (declaration_view input.now) (map case_view cases.now) []))) }
-{
-    print(
-        with_methods(alloc, input, cases, Seq::new(alloc)),
-        alloc,
-        out,
-    )
+    method(alloc, out, Comparing::Unequal, input, cases)
 }
 
 fn item<'a>(

@@ -37,7 +37,8 @@ fn joined_params(
     Ok(())
 }
 
-fn params(all: &[GenericParam<'_>], alloc: Global, out: &mut Layout) -> Result<(), AllocError>
+/// Adds an implementation's parameters, where it has some: `<'a, T>`.
+pub fn params(all: &[GenericParam<'_>], alloc: Global, out: &mut Layout) -> Result<(), AllocError>
     ensures { OnOk result (out.new ≡ lay out.old (spec.params_trees (map param_view all.now))) }
 {
     if all.is_empty() {
@@ -65,7 +66,12 @@ fn joined_predicates(
     Ok(())
 }
 
-fn predicates(all: &[WherePredicate<'_>], alloc: Global, out: &mut Layout) -> Result<(), AllocError>
+/// Adds an implementation's predicates, where it has some: `where T: A, U: B`.
+pub fn predicates(
+    all: &[WherePredicate<'_>],
+    alloc: Global,
+    out: &mut Layout,
+) -> Result<(), AllocError>
     ensures { OnOk result (out.new ≡ lay out.old (spec.where_trees (map predicate_view all.now))) }
 {
     if all.is_empty() {
@@ -158,8 +164,8 @@ fn output(of: &Option<Ty<'_>>, alloc: Global, out: &mut Layout) -> Result<(), Al
     }
 }
 
-/// Adds all of a method in front of its body, which isn't looked at.
-pub fn signature(tree: &Method<'_>, alloc: Global, out: &mut Layout) -> Result<(), AllocError>
+/// Adds all of a method in front of its body.
+fn signature(tree: &Method<'_>, alloc: Global, out: &mut Layout) -> Result<(), AllocError>
     ensures { OnOk result (out.new ≡ lay out.old (spec.signature_trees (method_view tree.now))) }
 {
     attrs(out, tree.attrs.as_slice())?;
@@ -189,7 +195,7 @@ fn methods(all: &[Method<'_>], alloc: Global, out: &mut Layout) -> Result<(), Al
 }
 
 /// Adds all of an implementation in front of its brace.
-pub fn head(tree: &Item<'_>, alloc: Global, out: &mut Layout) -> Result<(), AllocError>
+fn head(tree: &Item<'_>, alloc: Global, out: &mut Layout) -> Result<(), AllocError>
     ensures { OnOk result (out.new ≡ lay out.old (spec.head_trees (item_view tree.now))) }
 {
     attrs(out, tree.attrs.as_slice())?;

@@ -2,4 +2,6 @@
 #![tactic(auto)]
 
 #[cfg(test)]
+mod derived;
+#[cfg(test)]
 mod items;

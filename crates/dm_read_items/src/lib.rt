@@ -5,4 +5,4 @@ mod laws;
 mod read;
 
 pub use laws::printed_reads_back;
-pub use read::read_items;
+pub use read::{read_items, read_owned_items};

@@ -1,8 +1,9 @@
 //! Texts.
 #![tactic(auto, using(crate::proofs::ReadSteps::read_steps))]
 
-ghost use Rattle.std.specs.Prelude.{◌≡◌, map, None, IfOk, IfErr};
+ghost use Rattle.std.specs.Prelude.{◌≡◌, ℕ, List, map, None, IfOk, IfErr};
 ghost use Rattle.dm_stream.specs.declared.error.Kind.TheVariants.{Syntax};
+ghost use Rattle.dm_lexer.specs.Nesting.{IsTreesOf};
 ghost use Rattle.dm_output.specs.Views.{item_view};
 ghost use Rattle.dm_read_items.specs.Reading.{IsFollowed, Becomes, IsWithin, IsUnread};
 
@@ -11,7 +12,7 @@ use dm_lexer::lex;
 use dm_output::Item;
 use dm_read_members::item::items;
 use dm_read_patterns::place::Place;
-use dm_stream::{Error, Kind, Refusal, Seq, Span};
+use dm_stream::{Error, Kind, Refusal, Seq, Span, TokenStream};
 use std::alloc::Global;
 
 /// A refusal of trees that no implementation has.
@@ -41,6 +42,20 @@ fn within<T: Drop>(found: T, deep: Option<Span>) -> Result<T, Error>
     }
 }
 
+/// The implementations of a text's trees, whose texts are the stream's.
+fn items_of<'a>(alloc: Global, stream: &TokenStream<'a>) -> Result<Seq<Item<'a>>, Error>
+    ensures items { (text : List ℕ) → IsTreesOf text stream.now.trees → IfOk result (λ all. IsFollowed text (map item_view all) None) }
+    ensures unread { (text : List ℕ) → IsTreesOf text stream.now.trees → IfErr result (IsUnread text) }
+{
+    match items(&mut Place::new(alloc, stream.cursor())) {
+        Ok(found) => {
+            let deep = first_deep(found.as_slice(), stream.entries());
+            within(found, deep)
+        }
+        Err(error) => Err(unlike(error)),
+    }
+}
+
 /// The implementations that a text is made of, as `print_items` prints them, in any layout. What is read borrows the text.
 ///
 /// Errors: those of `lex`; `Kind::TooDeep` where the text would be made of implementations but for its depth, at the first token that stands
@@ -52,11 +67,15 @@ pub fn read_items<'a>(alloc: Global, text: &'a str) -> Result<Seq<Item<'a>>, Err
     ensures unread { IfErr result (IsUnread text.now) }
 {
     let stream = lex(alloc, text)?;
-    match items(&mut Place::new(alloc, stream.cursor())) {
-        Ok(found) => {
-            let deep = first_deep(found.as_slice(), stream.entries());
-            within(found, deep)
-        }
-        Err(error) => Err(unlike(error)),
-    }
+    items_of(alloc, &stream)
+}
+
+/// The same, where what is read borrows nothing.
+pub fn read_owned_items<'a>(alloc: Global, text: &str) -> Result<Seq<Item<'a>>, Error>
+    ensures items { IfOk result (λ all. IsFollowed text.now (map item_view all) None) }
+    ensures unread { IfErr result (IsUnread text.now) }
+{
+    let stream = lex(alloc, text)?;
+    let owned = stream.into_owned(alloc)?;
+    items_of(alloc, &owned)
 }

@@ -3,16 +3,19 @@
 
 ghost use Rattle.std.specs.Prelude.{◌≡◌, map, OnOk, IsOkAnd};
 ghost use Rattle.dm_stream.specs.Trees.{Trees};
-ghost use Rattle.dm_output.specs.Output.{arms_of};
+ghost use Rattle.dm_stream.specs.Layout.{nowhere};
+ghost use Rattle.dm_ast.specs.Tree.{ty_view, path_view};
+ghost use Rattle.dm_ast.specs.Declarations.{param_view, predicate_view};
+ghost use Rattle.dm_ast.specs.TypeTokens.{type_trees, path_trees};
 ghost use Rattle.dm_output.specs.Tokens as tokens;
-ghost use Rattle.dm_output.specs.Views.{expr_view, arm_view, assoc_view, method_view, item_view};
+ghost use Rattle.dm_output.specs.Views.{assoc_view};
 ghost use Rattle.dm_print_types.specs.Laying.{lay};
 
+use dm_ast::{GenericParam, Path, Ty, WherePredicate};
 use dm_layout::Layout;
-use dm_output::{Arm, Assoc, Expr, Item, Method};
-use dm_print::expr::{arms, expr};
-use dm_print::item::{head, signature};
-use dm_print_types::path::ty;
+use dm_output::Assoc;
+use dm_print::item::{params, predicates};
+use dm_print_types::path::{path, ty};
 use dm_print_types::token::{name, punct, word};
 use dm_stream::Seq;
 use std::alloc::{AllocError, Global};
@@ -39,19 +42,37 @@ pub fn print<T: Prints>(
     }
 }
 
-impl<'a> Prints for Expr<'a> {
-    ghost trees = { λ e. tokens.expr_trees (expr_view e) };
+impl<'a> Prints for Ty<'a> {
+    ghost trees = { λ t. type_trees (ty_view t) };
 
     fn print(&self, alloc: Global, out: &mut Layout) -> Result<(), AllocError> {
-        expr(self, alloc, out)
+        ty(self, alloc, out)
     }
 }
 
-impl<'a> Prints for Seq<Arm<'a>> {
-    ghost trees = { λ all. tokens.arms_trees (arms_of (map arm_view all)) };
+impl<'a> Prints for Path<'a> {
+    ghost trees = { λ p. path_trees nowhere (path_view p) };
 
     fn print(&self, alloc: Global, out: &mut Layout) -> Result<(), AllocError> {
-        arms(self.as_slice(), alloc, out)
+        path(self, alloc, out)
+    }
+}
+
+/// The parameters of an implementation, in `<..>` where there are some.
+impl<'a> Prints for Seq<GenericParam<'a>> {
+    ghost trees = { λ all. tokens.params_trees (map param_view all) };
+
+    fn print(&self, alloc: Global, out: &mut Layout) -> Result<(), AllocError> {
+        params(self.as_slice(), alloc, out)
+    }
+}
+
+/// The predicates of an implementation, behind `where` where there are some.
+impl<'a> Prints for Seq<WherePredicate<'a>> {
+    ghost trees = { λ all. tokens.where_trees (map predicate_view all) };
+
+    fn print(&self, alloc: Global, out: &mut Layout) -> Result<(), AllocError> {
+        predicates(self.as_slice(), alloc, out)
     }
 }
 
@@ -79,23 +100,5 @@ impl<'a> Prints for Seq<Assoc<'a>> {
 
     fn print(&self, alloc: Global, out: &mut Layout) -> Result<(), AllocError> {
         assocs(self.as_slice(), alloc, out)
-    }
-}
-
-/// All of a method in front of its body.
-impl<'a> Prints for Method<'a> {
-    ghost trees = { λ m. tokens.signature_trees (method_view m) };
-
-    fn print(&self, alloc: Global, out: &mut Layout) -> Result<(), AllocError> {
-        signature(self, alloc, out)
-    }
-}
-
-/// All of an implementation in front of its methods.
-impl<'a> Prints for Item<'a> {
-    ghost trees = { λ i. tokens.head_trees (item_view i) };
-
-    fn print(&self, alloc: Global, out: &mut Layout) -> Result<(), AllocError> {
-        head(self, alloc, out)
     }
 }

@@ -1,28 +1,27 @@
 //! Arms as text.
 #![tactic(auto, using(crate::proofs::PrintLaws::printing_steps))]
 
-ghost use Rattle.std.specs.Prelude.{◌≡◌, cond, true, map, OnOk, IsTrue};
+ghost use Rattle.std.specs.Prelude.{◌≡◌, ◌∷◌, [], cond, true, map, OnOk, IsTrue};
 ghost use Rattle.dm_stream.specs.Trees as trees;
 ghost use Rattle.dm_stream.specs.Trees.{no_trees};
 ghost use Rattle.dm_ast.specs.Declarations.{declaration_view};
-ghost use Rattle.dm_output.specs.Output.{arms_of};
+ghost use Rattle.dm_output.specs.Output.{arms_of, unsafe_expr};
 ghost use Rattle.dm_output.specs.Tokens as tokens;
 ghost use Rattle.dm_print_types.specs.Laying.{lay};
+ghost use Rattle.dm_operands.specs.Bodies as bodies;
 ghost use Rattle.dm_operands.specs.Kept as kept;
 ghost use Rattle.dm_partial_eq.specs.Emitted as spec;
 ghost use Rattle.dm_partial_eq.specs.Printed as printed;
 ghost use Rattle.dm_operands.specs.CaseViews.{case_view, field_ref_view};
 
-use crate::arms::with_rest;
 use crate::comparing::Comparing;
 use dm_ast::DeriveInput;
 use dm_layout::Layout;
-use dm_operands::cases::{CaseRef, FieldRef, is_compared};
+use dm_operands::cases::{CaseRef, FieldRef, all_compared, is_compared};
 use dm_operands::sides::Operand;
-use dm_print_types::token::{close, joint, open, punct};
-use dm_sides::made::print;
+use dm_print_types::token::{close, fixed, joint, open, punct};
 use dm_sides::pattern::{numbered, side};
-use dm_stream::{Delim, Seq};
+use dm_stream::Delim;
 use std::alloc::{AllocError, Global};
 
 fn test(alloc: Global, out: &mut Layout, comparing: Comparing, n: usize) -> Result<(), AllocError>
@@ -102,24 +101,31 @@ fn arm(
     punct(out, ',')
 }
 
-/// Adds the arm of every other pair, where there is one.
-fn rest<'a>(
-    alloc: Global,
-    out: &mut Layout,
-    comparing: Comparing,
-    cases: &[CaseRef<'_, 'a>],
-) -> Result<(), AllocError>
-    ensures { OnOk result (out.new ≡ lay out.old (tokens.arms_trees (arms_of (spec.rest comparing (map case_view cases.now))))) }
+/// Adds the arm that is never reached.
+fn never(out: &mut Layout) -> Result<(), AllocError>
+    ensures { OnOk result (out.new ≡ lay out.old (tokens.arms_trees (arms_of (bodies.otherwise (unsafe_expr bodies.unreachable_call) ∷ [])))) }
 {
-    print(
-        with_rest(alloc, comparing, cases, Seq::new(alloc)),
-        alloc,
+    fixed(
         out,
+        "_ => unsafe { derive_more :: core :: hint :: unreachable_unchecked () } ,",
     )
 }
 
+/// Adds the arm of every other pair, where there is one.
+fn rest(out: &mut Layout, comparing: Comparing, cases: &[CaseRef<'_, '_>]) -> Result<(), AllocError>
+    ensures { OnOk result (out.new ≡ lay out.old (tokens.arms_trees (arms_of (spec.rest comparing (map case_view cases.now))))) }
+{
+    if !all_compared(cases) {
+        return comparing.other_pairs(out);
+    }
+    if cases.len() > 1 {
+        return never(out);
+    }
+    Ok(())
+}
+
 /// Adds an arm for each case that is compared, and perhaps one for every other pair.
-pub fn arms<'a>(
+pub(crate) fn arms<'a>(
     alloc: Global,
     out: &mut Layout,
     comparing: Comparing,
@@ -133,5 +139,5 @@ pub fn arms<'a>(
             arm(alloc, out, comparing, input, case)?;
         }
     }
-    rest(alloc, out, comparing, cases)
+    rest(out, comparing, cases)
 }

@@ -4,12 +4,12 @@ use Rattle.dm_derive.proofs.derive.derive_known.Goals as goal
 
 pub returns-in-Ok-clause-derives : goal.returns-in-Ok-clause-derives
 returns-in-Ok-clause-derives c = λ name known.
-    derived (trait_view c.args.derived) name c.args.decl.now c.in-Ok.input c.expanded.result known c.in-Ok.ensures c.expanded.ensures
+    derived (trait_view c.args.derived) name c.args.decl.now c.in-Ok.input c.expanded.result known c.in-Ok.ensures.reads c.expanded.ensures
 
 pub returns-in-Ok-clause-answers : goal.returns-in-Ok-clause-answers
 returns-in-Ok-clause-answers c = λ name known.
-    answered (trait_view c.args.derived) name c.args.decl.now c.in-Ok.input c.expanded.result known c.in-Ok.ensures c.expanded.ensures
+    answered (trait_view c.args.derived) name c.args.decl.now c.in-Ok.input c.expanded.result known c.in-Ok.ensures.reads c.expanded.ensures
 
 pub returns-in-Err-clause-derives : goal.returns-in-Err-clause-derives
 returns-in-Err-clause-derives c = λ name known.
-    not-derived (trait_view c.args.derived) name c.args.decl.now c.in-Err.error known c.in-Err.ensures
+    not-derived (trait_view c.args.derived) name c.args.decl.now c.in-Err.error known c.in-Err.ensures.reads
