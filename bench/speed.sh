@@ -1,17 +1,19 @@
 #!/usr/bin/env bash
-# Times the program on texts of growing size, one process each, and prints bytes, seconds and the ratio to the size before.
+# Times the program on texts of growing size, and `dm_reprint` on what the program writes, one process each, and prints bytes, seconds and
+# the ratio to the size before.
 # It asserts nothing, and the gate doesn't run it. Needs `rt` and python3.
 set -eu
 cd "$(dirname "$0")/.."
 (cd crates/dm_prog && rt run < stdin > /dev/null)
-program=crates/dm_prog/out/dm_prog
+(cd crates/dm_reprint && rt run < stdin > /dev/null)
+program=crates/dm_prog/out/dm_prog reprint=crates/dm_reprint/out/dm_reprint
 work=$(mktemp -d)
 trap 'rm -rf "$work"' EXIT
 
 cat > "$work/speed.py" <<'PY'
 import subprocess, sys, time
 
-program, work = sys.argv[1:]
+program, reprint, work = sys.argv[1:]
 SIZES = (16 << 10, 64 << 10, 256 << 10, 1 << 20)
 
 
@@ -88,12 +90,12 @@ DERIVED = [(name, sample(2000)) for name in ["PartialEq", *ALIKE, "Not", "Neg"]]
 DERIVED += [(name, STRUCT) for name in ["PartialEq", *(it + "Assign" for it in ALIKE), *ANY, *(it + "Assign" for it in ANY)]]
 
 
-def best_of(path, times):
+def best_of(path, times, run=program):
     best = None
     for _ in range(times):
         with open(path) as source:
             start = time.perf_counter()
-            answer = subprocess.run([program], stdin=source, stdout=subprocess.PIPE)
+            answer = subprocess.run([run], stdin=source, stdout=subprocess.PIPE)
             took = time.perf_counter() - start
         best = took if best is None else min(best, took)
     return best, answer.stdout
@@ -117,6 +119,29 @@ start = time.perf_counter()
 subprocess.run([program, "sample", "2000"], stdout=subprocess.DEVNULL)
 print(f"sample 2000: {time.perf_counter() - start:.4f}")
 
+# Implementations, which `dm_reprint` reads by `read_items` and prints again by `print_items`. What `derive_text` does beside printing is to
+# read its text so.
+path = f"{work}/input"
+with open(path, "w") as file:
+    file.write("PartialEq\n" + sample(2000))
+written = best_of(path, 1)[1]
+with open(path, "wb") as file:
+    file.write(written)
+took, again = best_of(path, 20, reprint)
+print(f"read_items and print_items, PartialEq of 2000: {took:.4f}, {len(again)} bytes, {'the same' if again == written else 'another text'}")
+with open(path, "w") as file:
+    file.write("PartialEq\n" + sample(20))
+one = best_of(path, 1)[1]
+print("read_items and print_items, implementations of PartialEq")
+before = None
+for size in SIZES:
+    with open(path, "wb") as file:
+        file.write(one * (size // len(one)))
+    took, again = best_of(path, 5, reprint)
+    ratio = "" if before is None else f"{took / before:8.2f}"
+    print(f"{size:10d}{took:10.4f} {ratio:>8}  {len(again)} bytes written")
+    before = took
+
 for name, text in TEXTS.items():
     print(name)
     before = None
@@ -131,4 +156,4 @@ for name, text in TEXTS.items():
         print(f"{size:10d}{took:10.4f} {ratio:>8}  {answer}")
         before = took
 PY
-python3 "$work/speed.py" "$program" "$work"
+python3 "$work/speed.py" "$program" "$reprint" "$work"

@@ -4,6 +4,7 @@
 ghost use Rattle.std.specs.Prelude.{◌≡◌, [], ◌∷◌, OnOk, IfOk, IsOkAnd, map, flat_map, ◌++◌};
 ghost use Rattle.dm_ast.specs.Tree.{ty_view, path_view};
 ghost use Rattle.dm_ast.specs.Declarations.{predicate_view, declaration_view};
+ghost use Rattle.dm_ast.specs.Implementors.{predicates_of};
 ghost use Rattle.dm_operands.specs.CaseViews.{case_view, field_ref_view};
 ghost use Rattle.dm_bounds.specs.Needed as spec;
 ghost use Rattle.dm_bounds.specs.Needed.{Asking, Wanted};
@@ -11,7 +12,7 @@ ghost use Rattle.dm_bounds.specs.Needed.{Asking, Wanted};
 use crate::predicate::bounded;
 use dm_ast::{DeriveInput, Path, Ty, WherePredicate};
 use dm_copy::both;
-use dm_generics::implementors::{implementor, params};
+use dm_generics::implementors::{implementor, params, predicates};
 use dm_generics::types::word_type;
 use dm_operands::cases::{CaseRef, FieldRef};
 use dm_searches::{GenericsSearch, contains_type_structurally};
@@ -215,4 +216,19 @@ pub fn add_needed<'a, A: Asks>(
         spec.needed_by (A.asking asks.now) (declaration_view input.now) (map case_view cases.now)) }
 {
     add_by(cases, sought_in(alloc, input), asks, alloc, out)
+}
+
+/// The declared predicates, and behind them those that [add_needed] adds.
+pub fn with_needed<'a, A: Asks>(
+    cases: &[CaseRef<'_, 'a>],
+    input: &DeriveInput<'a>,
+    asks: &A,
+    alloc: Global,
+) -> Result<Seq<WherePredicate<'a>>, AllocError>
+    ensures { IfOk result (λ ps. map predicate_view ps ≡ predicates_of (declaration_view input.now) ++
+        spec.needed_by (A.asking asks.now) (declaration_view input.now) (map case_view cases.now)) }
+{
+    let mut all = predicates(alloc, input)?;
+    add_needed(cases, input, asks, alloc, &mut all)?;
+    Ok(all)
 }

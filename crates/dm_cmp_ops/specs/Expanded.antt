@@ -1,13 +1,8 @@
 -- What deriving answers: an implementation that is read back from its text, with that text, or a refusal.
-use Rattle.std.specs.Prelude.{◌≡◌, ℕ, List, [], ◌∷◌, map, None, Result, Ok, Err}
+use Rattle.std.specs.Prelude.{◌≡◌, ℕ, List, [], ◌∷◌, map, Result, Ok, Err}
 use Rattle.dm_stream.specs.declared.error.Error.{Error}
 use Rattle.dm_stream.specs.declared.error.Error.TheVariants.{NoMemory}
-use Rattle.dm_stream.specs.Trees.{Trees}
-use Rattle.dm_lexer.specs.Written.{AreWritable, AreShallow}
 use Rattle.dm_ast.specs.Declarations.{Declaration}
-use Rattle.dm_ast.specs.Spelling.{Marks, first_too_deep}
-use Rattle.dm_ast.specs.Parsed.{SpelledBy}
-use Rattle.dm_ast.specs.Names.{Named}
 use Rattle.dm_output.specs.Output.{ItemTree}
 use Rattle.dm_output.specs.Tokens.{printed}
 use Rattle.dm_output.specs.Views.{item_view}
@@ -19,18 +14,8 @@ use Rattle.dm_partial_eq.specs.Expanded as compared
 use Rattle.dm_operators.specs.Operators.{Operator}
 use Rattle.dm_operators.specs.Refusals as operating
 use Rattle.dm_operations.specs.Expanded as operated
-
--- what the reader gives of a text: the declaration of trees that a text can have, with no token at a level over 128 or inside more groups than
--- are read, and whose names may be declared
-pub record IsOfText (d : Declaration) : Type 0 where
-  pub limit : ℕ
-  pub trees : Trees
-  pub marks : Marks
-  pub spelled : SpelledBy d limit trees marks
-  pub within : first_too_deep marks ≡ None
-  pub writable : AreWritable trees
-  pub shallow : AreShallow trees
-  pub named : Named d
+-- what the reader gives of a text
+pub use Rattle.dm_printed.specs.Texts.{IsOfText}
 
 -- implementations that are these, ranges aside, and have this text
 pub record AreReadFrom (text : List ℕ) (emitted read : List ItemTree) : Type 0 where

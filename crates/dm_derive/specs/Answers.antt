@@ -1,30 +1,13 @@
--- Traits as the program has them, and what each answers of a declaration.
-use Rattle.std.specs.Prelude.{◌≡◌, ℕ, List, Some, Result, String, string_bytes}
-use Rattle.std.specs.declared.alloc.Global.{Global}
+-- What a trait answers of a declaration.
+use Rattle.std.specs.Prelude.{Result}
 use Rattle.dm_stream.specs.declared.error.Error.{Error}
 use Rattle.dm_ast.specs.Declarations.{Declaration}
 use Rattle.dm_expansion.specs.declared.expansion.Expansion.{Expansion}
 use Rattle.dm_attr.specs.Answers.{IsWalked}
-use Rattle.dm_operators.specs.Table.{operator_view}
 use Rattle.dm_cmp_ops.specs.Expanded.{IsReadOf}
-use Rattle.dm_derive.specs.declared.traits.Trait.{Trait}
-use Rattle.dm_derive.specs.declared.traits.Trait.TheVariants.{PartialEq, Operator}
-use Rattle.dm_derive.specs.Traits as traits
-
-abbrev pub trait_view : Trait → traits.Trait
-trait_view PartialEq = traits.partial_eq
-trait_view (Operator o) = traits.an_operator (operator_view o)
-
--- it has a name
-pub record IsDerived (t : Trait) : Type 0 where
-  pub name : List ℕ
-  pub named : traits.trait_named name ≡ Some (trait_view t)
+use Rattle.dm_printed.specs.Traits.{Trait, refusal, IsExpanded}
 
 -- want of memory aside: an expansion where nothing is refused, whose implementations are those that its text is of, ranges aside; and else
 -- the first refusal
-abbrev pub TraitAnswers : traits.Trait → Declaration → Result Expansion Error → Type 0
-TraitAnswers t d r = IsWalked (traits.refusal t d) (λ x. IsReadOf (traits.IsExpanded t d) x) r
-
--- the same where the text alone is wanted
-abbrev pub TraitPrints : traits.Trait → Declaration → Result (String Global) Error → Type 0
-TraitPrints t d r = IsWalked (traits.refusal t d) (λ s. traits.IsText t d (string_bytes s)) r
+abbrev pub TraitAnswers : Trait → Declaration → Result Expansion Error → Type 0
+TraitAnswers t d r = IsWalked (refusal t d) (λ x. IsReadOf (IsExpanded t d) x) r

@@ -1,24 +1,11 @@
-//! The derives from bytes to bytes: what the program reads and writes, and the calls over it.
+//! The derives: from a trait's name and a declaration to implementations with their text, or to the text alone, and the runs of the program.
 #![tactic(auto)]
 
 mod derive;
-mod ended;
-mod input;
-mod laws;
-mod line;
-mod memory;
-mod outside;
-mod summary;
-mod top;
-mod traits;
-mod transfer;
 
-pub use derive::{derive_printed, derive_text};
+pub use derive::derive_text;
+pub use dm_printed::{answers_once, derive_printed};
+pub use dm_run::{
+    Failed, LARGEST_INPUT, MemSink, MemSource, Sink, Source, Status, derive_main, ended_run, split,
+};
 pub use dm_sample::sample_text;
-pub use ended::ended_run;
-pub use input::split;
-pub use laws::answers_once;
-pub use memory::{MemSink, MemSource};
-pub use outside::{Failed, Sink, Source};
-pub use top::{Status, derive_main};
-pub use transfer::LARGEST_INPUT;

@@ -6,7 +6,7 @@ ghost use Rattle.dm_ast.specs.Tree.{path_view, segment_view, segment, absent};
 ghost use Rattle.dm_ast.specs.Implementors as implementors;
 ghost use Rattle.dm_generics.specs.Words as spec;
 
-use crate::lists::{one, two};
+use crate::lists::one;
 use dm_ast::{Path, PathArguments, PathSegment};
 use dm_stream::{Ident, Seq, Span, Text};
 use std::alloc::{AllocError, Global};
@@ -52,20 +52,6 @@ pub fn path_of_one(alloc: Global, ident: Ident<'_>) -> Result<Path<'_>, AllocErr
     Ok(Path {
         leading_colon: false,
         segments: one(alloc, segment(ident))?,
-    })
-}
-
-/// A path of two identifiers.
-pub fn path_of_two<'a>(
-    alloc: Global,
-    first: Ident<'a>,
-    second: Ident<'a>,
-) -> Result<Path<'a>, AllocError>
-    ensures { IfOk result (λ p. path_view p ≡ implementors.plain_path (first.entry ∷ second.entry ∷ [])) }
-{
-    Ok(Path {
-        leading_colon: false,
-        segments: two(alloc, segment(first), segment(second))?,
     })
 }
 

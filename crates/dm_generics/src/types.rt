@@ -1,8 +1,8 @@
 //! Types of names.
 #![tactic(auto, using(crate::proofs::Builders::builder_steps))]
 
-ghost use Rattle.std.specs.Prelude.{◌≡◌, None, false, IfOk};
-ghost use Rattle.dm_ast.specs.Tree.{ty_view, path_view, type_tree, path as tree_path, reference, no_self};
+ghost use Rattle.std.specs.Prelude.{◌≡◌, IfOk};
+ghost use Rattle.dm_ast.specs.Tree.{ty_view, path_view, type_tree, path as tree_path, no_self};
 ghost use Rattle.dm_stream.specs.Layout.{nowhere};
 ghost use Rattle.dm_ast.specs.Implementors as implementors;
 ghost use Rattle.dm_generics.specs.Words as spec;
@@ -34,29 +34,4 @@ pub fn word_type<'a>(alloc: Global, name: &'a str) -> Result<Ty<'a>, AllocError>
     ensures { IfOk result (λ t. ty_view t ≡ implementors.name_type (spec.word name.now)) }
 {
     name_type(alloc, word(name))
-}
-
-#[tactic(auto, using(crate::proofs::Builders::type_steps))]
-fn reference_to<'a>(target: Box<Ty<'a>>) -> Ty<'a>
-    ensures { ty_view result ≡ type_tree (reference None false (ty_view target.entry.value)) nowhere }
-{
-    Ty {
-        node: TyNode::Reference(None, false, target),
-        span: Span::nowhere(),
-    }
-}
-
-fn self_type<'a>(alloc: Global) -> Result<Box<Ty<'a>>, AllocError>
-    ensures { IfOk result (λ t. ty_view t.value ≡ spec.self_type) }
-{
-    let this = word_type(alloc, "Self")?;
-    Ok(Box::new(alloc, this)?)
-}
-
-/// `&Self`.
-pub fn ref_self<'a>(alloc: Global) -> Result<Ty<'a>, AllocError>
-    ensures { IfOk result (λ t. ty_view t ≡ spec.ref_self) }
-{
-    let target = self_type(alloc)?;
-    Ok(reference_to(target))
 }

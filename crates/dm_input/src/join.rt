@@ -1,9 +1,11 @@
-//! Parts behind one another. A part waits here for the next one, so that no function drops it where the next one is refused.
+//! Parts behind one another, and in boxes. What they are is open here, so nothing has to be known of how they are dropped: a part waits
+//! here for the next one, so that no function drops it where the next one is refused.
 #![tactic(auto)]
 
-ghost use Rattle.std.specs.Prelude.{◌≡◌, Ok, Err, MatchResult};
+ghost use Rattle.std.specs.Prelude.{◌≡◌, ◌++◌, Ok, Err, IfOk, MatchResult};
 
-use dm_stream::Error;
+use dm_stream::{Error, Seq};
+use std::alloc::{AllocError, Global};
 
 /// A part, and the one that was read behind it.
 pub fn joined<T: Drop, U: Drop>(first: T, second: Result<U, Error>) -> Result<(T, U), Error>
@@ -23,4 +25,30 @@ pub fn ended<T: Drop>(first: T, end: Result<(), Error>) -> Result<T, Error>
         Ok(_) => Ok(first),
         Err(error) => Err(error),
     }
+}
+
+/// A part in a box.
+pub fn boxed<T: Drop>(alloc: Global, part: T) -> Result<Box<T>, AllocError>
+    ensures { IfOk result (λ b. b.value ≡ part) }
+{
+    Ok(Box::new(alloc, part)?)
+}
+
+/// A part that was made, and one that waited for it.
+pub fn beside<T: Drop, U: Drop>(made: Result<T, AllocError>, other: U) -> Result<(T, U), AllocError>
+    ensures { MatchResult result (λ r. (made ≡ Ok r.0) × (r.1 ≡ other)) (λ e. made ≡ Err e) }
+{
+    match made {
+        Ok(part) => Ok((part, other)),
+        Err(error) => Err(error),
+    }
+}
+
+/// The parts of a list, and those of another behind them.
+pub fn appended<T: Drop>(front: Seq<T>, behind: Seq<T>) -> Result<Seq<T>, AllocError>
+    ensures { IfOk result (λ all. all ≡ front ++ behind) }
+{
+    let mut all = front;
+    all.append(behind)?;
+    Ok(all)
 }

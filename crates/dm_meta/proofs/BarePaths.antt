@@ -15,7 +15,7 @@ use Rattle.dm_read.proofs.Groups.{pair_seen}
 use Rattle.dm_read_paths.proofs.PlainParts.{decides_nothing, leading_behind}
 use Rattle.dm_read_paths.proofs.Paths.{or_first, or_second, Angled, reads_angled, reads_path_by}
 use Rattle.dm_read_paths.proofs.ArgumentRules.{reads_arguments}
-use Rattle.dm_read_types.proofs.TypeTheorem.{reads_type}
+use Rattle.dm_grammar_laws.proofs.TypeTheorem.{reads_type}
 
 -- ---- arguments of a segment
 

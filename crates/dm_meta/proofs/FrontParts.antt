@@ -18,17 +18,17 @@ use Rattle.dm_ast.specs.Runs.{run, read_run}
 use Rattle.dm_ast.specs.Readers.{Outcome, Reads}
 use Rattle.dm_meta.specs.Fronts.{IsFront, IsUnreadFront, NoFront, ToEnd}
 use Rattle.dm_ast.specs.Places.{IsPlaceIn, IsRefusedAt}
-use Rattle.dm_read_decl.proofs.LicensedSteps.{Licensed}
-use Rattle.dm_read_types.specs.WholeReaders.{whole_type, whole_bound, parts}
+use Rattle.dm_grammar_laws.proofs.LicensedSteps.{Licensed}
+use Rattle.dm_read_paths.specs.WholeReaders.{whole_type, whole_bound, parts}
 use Rattle.dm_read_paths.proofs.PlainParts.{nothing_left}
 use Rattle.dm_read.proofs.Deciding.{Same, IsRead, IsRefused, Decides, Reader}
-use Rattle.dm_read_decl.proofs.Licensing.{syntax_by, syntax_in_front, refused_behind}
-use Rattle.dm_read_types.proofs.TypeTheorem.{type_decided, bound_decided}
-use Rattle.dm_read_decl.proofs.TypeFronts.{Begins, behind_perhaps, type_front, type_no_end}
-use Rattle.dm_read_decl.proofs.DeclarationParts.{reads_listed}
-use Rattle.dm_read_decl.proofs.DeclarationGenerics.{reads_predicate}
-use Rattle.dm_read_decl.proofs.DeclarationRules.{parts_decided}
-use Rattle.dm_read_decl.proofs.Runs.{reads_run}
+use Rattle.dm_grammar_laws.proofs.Licensing.{syntax_by, syntax_in_front, refused_behind}
+use Rattle.dm_grammar_laws.proofs.TypeTheorem.{type_decided, bound_decided}
+use Rattle.dm_grammar_laws.proofs.TypeFronts.{Begins, behind_perhaps, type_front, type_no_end}
+use Rattle.dm_grammar_laws.proofs.DeclarationParts.{reads_listed}
+use Rattle.dm_grammar_laws.proofs.DeclarationGenerics.{reads_predicate}
+use Rattle.dm_grammar_laws.proofs.DeclarationRules.{parts_decided}
+use Rattle.dm_grammar_laws.proofs.Runs.{reads_run}
 
 module _ {A : Type 0} (S : A → Spelling) (ts : Trees) where
   same_parts : (x : A) (others : Trees) (k : Marks) (y : A) (o : Trees) (m : Marks) → Same x others k y o m → (y ≡ x) × (o ≡ others) × (m ≡ k)

@@ -9,9 +9,9 @@ use Rattle.dm_ast.specs.Readers.{Outcome, mapped, read_any, read_rest, inside_at
 use Rattle.dm_read_paths.specs.TypeReaders.{read_type}
 use Rattle.dm_meta.specs.Metas.{PathOrKeywordTree, path_meta}
 use Rattle.dm_meta.specs.MetaReaders.{is_syntax, keyword_of, if_no_path, read_keyword, read_path_or_keyword, read_enclosed, list_of, read_meta_list, list_behind, behind_path, read_meta, lit_of, nested_of, read_nested_meta}
-use Rattle.dm_read_decl.proofs.LicensedSteps.{Licensed}
-use Rattle.dm_read_decl.proofs.Licensing.{Licenses, licensed_any, licensed_gives, licensed_and, licensed_bind, licensed_test, licensed_either, licensed_nothing, licensed_any_ident, licensed_literal, licensed_group, licensed_rest}
-use Rattle.dm_read_decl.proofs.LicensedTypes.{licensed_path, licensed_type}
+use Rattle.dm_grammar_laws.proofs.LicensedSteps.{Licensed}
+use Rattle.dm_grammar_laws.proofs.Licensing.{Licenses, licensed_any, licensed_gives, licensed_and, licensed_bind, licensed_test, licensed_either, licensed_nothing, licensed_any_ident, licensed_literal, licensed_group, licensed_rest}
+use Rattle.dm_grammar_laws.proofs.LicensedTypes.{licensed_path, licensed_type}
 
 module _ (w : Where) where
   pub licensed_bare_path : Licenses 0 w (read_bare_path (read_type 129) w)

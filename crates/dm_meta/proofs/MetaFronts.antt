@@ -15,8 +15,8 @@ use Rattle.dm_meta.specs.Fronts.{IsFront}
 use Rattle.dm_meta.specs.Metas.{IsUnreadMeta, NoMeta}
 use Rattle.dm_ast.specs.Places.{IsRefusedAt}
 use Rattle.dm_meta.specs.MetaReaders.{refusal_at, error_at}
-use Rattle.dm_read_decl.proofs.Licensing.{Licenses}
-use Rattle.dm_read_decl.proofs.LicensedDeclarations.{refused_there}
+use Rattle.dm_grammar_laws.proofs.Licensing.{Licenses}
+use Rattle.dm_grammar_laws.proofs.LicensedDeclarations.{refused_there}
 use Rattle.dm_meta.proofs.FrontParts.{is_front}
 use Rattle.dm_meta.proofs.MetaRules.{IsRefusedBut, DecidesBut}
 

@@ -22,7 +22,7 @@ use Rattle.dm_read.proofs.Tokens.{reads_any, reads_literal, literal_seen}
 use Rattle.dm_read.proofs.Groups.{reads_group, reads_rest, group_seen}
 use Rattle.dm_read.proofs.PathSeeing.{no_turbofish}
 use Rattle.dm_meta.proofs.BarePaths.{bare_decided}
-use Rattle.dm_read_decl.proofs.TypeFronts.{Begins, behind_flag}
+use Rattle.dm_grammar_laws.proofs.TypeFronts.{Begins, behind_flag}
 use Rattle.dm_read_paths.proofs.Sequences.{then_nothing, then_with}
 
 -- ---- what is decided where a keyword isn't looked for, since a path that began there is too deep

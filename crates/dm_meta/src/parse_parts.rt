@@ -9,7 +9,7 @@ ghost use Rattle.dm_ast.specs.TypeGrammar as grammar;
 ghost use Rattle.dm_read_paths.specs.BarePaths.{bare_path as bare_spelled};
 ghost use Rattle.dm_ast.specs.DeclarationGrammar as declarations;
 ghost use Rattle.dm_read.specs.DeclarationReaders as spec;
-ghost use Rattle.dm_read_types.specs.WholeReaders.{whole_type, parts};
+ghost use Rattle.dm_read_paths.specs.WholeReaders.{whole_type, parts};
 ghost use Rattle.dm_ast.specs.Declarations as tree;
 ghost use Rattle.dm_ast.specs.Tree.{ty_view, path_view};
 ghost use Rattle.dm_ast.specs.Readers.{place, Reads};

@@ -9,7 +9,7 @@ use Rattle.dm_names.specs.declared.places.Wanted.TheVariants.{MacroType, Reserve
 use Rattle.dm_ast.specs.Declarations.{Declaration}
 use Rattle.dm_ast.specs.Names.{Found, found, is_macro, is_again, is_reserved, first_again, range_of, refused_at, names_refusal, Named}
 use Rattle.dm_names.specs.NamePlaces.{first_place}
-use Rattle.dm_names.specs.Repeats.{repeated}
+use Rattle.dm_repeats.specs.Repeats.{repeated}
 use Rattle.dm_names.proofs.NamePlaces.{place_found}
 use Rattle.dm_names.proofs.NameRefusals.{named_by}
 use Rattle.dm_names.proofs.RepeatedNames.{repeated_is}

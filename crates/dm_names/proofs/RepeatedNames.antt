@@ -11,7 +11,7 @@ use Rattle.dm_stream.specs.declared.tokens.Span.{Span}
 use Rattle.dm_stream.specs.declared.tokens.Ident.{Ident}
 use Rattle.dm_ast.specs.Declarations.{FieldTree, FieldsTree, named, unnamed, unit, VariantTree, ShapeTree, struct_shape, enum_shape, union_shape, ParamTree, lifetime_param, type_param, const_param, Declaration}
 use Rattle.dm_ast.specs.Names.{Scope, types, lifetimes, variants, fields, is_shared, Found, name_at, is_again, first_again, range_of, declared, found}
-use Rattle.dm_names.specs.Repeats.{repeats, place_if, is_called, is_field_called, label_again, field_again, repeated_in_fields, is_variant_called, variant_again, is_lifetime_called, is_type_called, type_again, param_again, repeated_in_shape, repeated}
+use Rattle.dm_repeats.specs.Repeats.{repeats, place_if, is_called, is_field_called, label_again, field_again, repeated_in_fields, is_variant_called, variant_again, is_lifetime_called, is_type_called, type_again, param_again, repeated_in_shape, repeated}
 use Rattle.dm_names.proofs.OwnNames.{own_again, own_label, own_field, own_fields, own_variants, own_param, own_shape, own_found}
 
 -- ---- one list after another

@@ -9,7 +9,7 @@ use Rattle.std.specs.Str.{bytes_eq}
 use Rattle.dm_stream.specs.declared.tokens.Span.{Span}
 use Rattle.dm_stream.specs.declared.tokens.Ident.{Ident}
 use Rattle.dm_ast.specs.Declarations.{ParamTree, lifetime_param, type_param, const_param}
-use Rattle.dm_names.specs.Repeats.{repeats, place_if, is_lifetime_called, is_type_called, param_again}
+use Rattle.dm_repeats.specs.Repeats.{repeats, place_if, is_lifetime_called, is_type_called, param_again}
 use Rattle.dm_names.specs.SeenNames.{param_seen}
 
 -- ---- one item more

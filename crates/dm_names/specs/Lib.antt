@@ -1,3 +1,2 @@
 pub mod NamePlaces
-pub mod Repeats
 pub mod SeenNames

@@ -6,7 +6,7 @@ use Rattle.std.specs.Str.{bytes_eq}
 use Rattle.dm_stream.specs.declared.tokens.Span.{Span}
 use Rattle.dm_stream.specs.declared.tokens.Ident.{Ident}
 use Rattle.dm_ast.specs.Declarations.{ParamTree, lifetime_param, type_param, const_param}
-use Rattle.dm_names.specs.Repeats.{place_if}
+use Rattle.dm_repeats.specs.Repeats.{place_if}
 
 abbrev pub was_seen : {S : Type 0} → HashSet (Bor (List ℕ)) S → List ℕ → Bool
 was_seen seen name = contains_by (λ k. bytes_eq name k.now) seen

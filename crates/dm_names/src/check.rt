@@ -7,8 +7,8 @@ ghost use Rattle.dm_ast.specs.Names.{Named, names_refusal};
 
 use crate::declarations::{in_declaration, place_of};
 use crate::places::Wanted;
-use crate::repeats::repeated_name;
 use dm_ast::DeriveInput;
+use dm_repeats::repeats::repeated_name;
 use dm_stream::{Kind, Refusal};
 
 /// Whether the names that a declaration declares may stand: no macro type stands in it, the names of one list are

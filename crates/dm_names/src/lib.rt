@@ -4,7 +4,6 @@
 mod check;
 mod declarations;
 mod places;
-mod repeats;
 mod seen;
 
 pub use check::check_names;

@@ -6,13 +6,13 @@ ghost use Rattle.std.specs.Option.{option_or};
 ghost use Rattle.std.specs.Str.{bytes_eq};
 ghost use Rattle.dm_ast.specs.Declarations as tree;
 ghost use Rattle.dm_ast.specs.Names.{Named, IsNamesError};
-ghost use Rattle.dm_names.specs.Repeats as spec;
+ghost use Rattle.dm_repeats.specs.Repeats as spec;
 ghost use Rattle.dm_names.specs.SeenNames.{was_seen, label_seen, param_seen};
 
 use crate::declarations::{in_declaration, place_of};
 use crate::places::Wanted;
-use crate::repeats::place_if;
 use dm_ast::{Data, DeriveInput, Field, Fields, GenericParam, Variant};
+use dm_repeats::repeats::place_if;
 use dm_stream::{Error, Ident, Kind, Refusal, Span};
 use std::alloc::{AllocError, Global};
 use std::collections::HashSet;

@@ -1,12 +1,12 @@
 -- Steps of an implementation that is printed without its tree.
-use Rattle.std.proofs.Common.{◌≡◌, List, [], ◌∷◌, map, Bool, false, Option, Some, None, codes, refl, sym, ap, ◌∙◌}
+use Rattle.std.proofs.Common.{◌≡◌, [], ◌∷◌, map, Bool, false, Option, Some, None, codes, refl, sym, ap, ◌∙◌}
 use Rattle.dm_stream.specs.declared.tokens.Delim.TheVariants.{Paren, Brace}
 use Rattle.dm_stream.specs.Layout.{Laid, nowhere}
 use Rattle.dm_stream.specs.Trees.{Trees, no_trees, join}
 use Rattle.dm_ast.specs.Tree.{PathTree}
 use Rattle.dm_ast.specs.TypeTokens.{given, name, type_trees, path_trees}
 use Rattle.dm_output.specs.declared.item.Receiver.{Receiver}
-use Rattle.dm_output.specs.Output.{ParamOfMethod, AssocTree, MethodTree, ItemTree}
+use Rattle.dm_output.specs.Output.{ParamOfMethod, MethodTree, ItemTree}
 use Rattle.dm_output.specs.Tokens.{word, comma, enclosed, in_turn, attr_trees, params_trees, trait_trees, where_trees, assoc_trees, receiver_trees, method_param_trees, inputs_trees, output_trees, signature_trees, method_trees, head_trees, item_trees}
 use Rattle.dm_print_types.specs.Laying.{lay, begun, done}
 use Rattle.dm_print_types.proofs.Laying.{lay-join}

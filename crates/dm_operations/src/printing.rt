@@ -5,7 +5,6 @@ ghost use Rattle.std.specs.Prelude.{◌≡◌, [], ◌∷◌, map, Some, OnOk, I
 ghost use Rattle.dm_stream.specs.declared.tokens.Delim.TheVariants.{Paren};
 ghost use Rattle.dm_stream.specs.Layout.{nowhere};
 ghost use Rattle.dm_ast.specs.Declarations.{declaration_view};
-ghost use Rattle.dm_ast.specs.Implementors.{implementor};
 ghost use Rattle.dm_ast.specs.TypeTokens.{type_trees, path_trees};
 ghost use Rattle.dm_output.specs.Output.{last_expr, no_expr};
 ghost use Rattle.dm_output.specs.Tokens as tokens;
@@ -19,7 +18,6 @@ ghost use Rattle.dm_operators.specs.Table.{form_view, operator_view};
 ghost use Rattle.dm_operations.specs.Items as items;
 
 use dm_ast::DeriveInput;
-use dm_generics::implementor_type;
 use dm_layout::Layout;
 use dm_operands::cases::CaseRef;
 use dm_operator_heads::{assocs, item_params, returned};
@@ -27,7 +25,8 @@ use dm_operator_prints::body;
 use dm_operators::operator::{Form, Operator};
 use dm_operators::predicates::{Implemented, all_predicates, trait_path};
 use dm_print_types::token::{close, fixed, joint, open, word};
-use dm_sides::made::print;
+use dm_sides::heads::declared_type;
+use dm_sides::made::{made_assocs, made_params, made_path, made_predicates, made_type};
 use dm_stream::Delim;
 use std::alloc::{AllocError, Global};
 
@@ -68,7 +67,7 @@ fn params<'a>(
 ) -> Result<(), AllocError>
     ensures { OnOk result (out.new ≡ lay out.old (tokens.params_trees (heads.item_params (form_view implemented.now.form) (operator_view implemented.now.operator) (declaration_view input.now)))) }
 {
-    print(item_params(alloc, implemented, input), alloc, out)
+    made_params(item_params(alloc, implemented, input), alloc, out)
 }
 
 /// Adds the path of the trait that is implemented.
@@ -79,18 +78,7 @@ fn implemented_trait(
 ) -> Result<(), AllocError>
     ensures { OnOk result (out.new ≡ lay out.old (path_trees nowhere (traits.implemented (form_view implemented.now.form) (operator_view implemented.now.operator)))) }
 {
-    print(trait_path(alloc, implemented), alloc, out)
-}
-
-/// Adds the type that the trait is implemented for.
-fn implementing<'a>(
-    alloc: Global,
-    out: &mut Layout,
-    input: &DeriveInput<'a>,
-) -> Result<(), AllocError>
-    ensures { OnOk result (out.new ≡ lay out.old (type_trees (implementor (declaration_view input.now)))) }
-{
-    print(implementor_type(alloc, input), alloc, out)
+    made_path(trait_path(alloc, implemented), alloc, out)
 }
 
 /// Adds the predicates, behind `where` where there are some.
@@ -103,7 +91,7 @@ fn predicates<'a>(
 ) -> Result<(), AllocError>
     ensures { OnOk result (out.new ≡ lay out.old (tokens.where_trees (items.predicates_in (form_view implemented.now.form) (operator_view implemented.now.operator) (declaration_view input.now) (map case_view cases.now)))) }
 {
-    print(all_predicates(alloc, implemented, input, cases), alloc, out)
+    made_predicates(all_predicates(alloc, implemented, input, cases), alloc, out)
 }
 
 /// Adds what stands in front of the implementation's brace.
@@ -120,7 +108,7 @@ fn item_head<'a>(
     params(alloc, out, implemented, input)?;
     implemented_trait(alloc, out, implemented)?;
     word(out, "for")?;
-    implementing(alloc, out, input)?;
+    declared_type(alloc, out, input)?;
     predicates(alloc, out, implemented, input, cases)
 }
 
@@ -133,7 +121,7 @@ fn output_type<'a>(
 ) -> Result<(), AllocError>
     ensures { OnOk result (out.new ≡ lay out.old (tokens.in_turn (map tokens.assoc_trees (heads.assocs (form_view implemented.now.form) (operator_view implemented.now.operator) (declaration_view input.now))))) }
 {
-    print(assocs(alloc, implemented, input), alloc, out)
+    made_assocs(assocs(alloc, implemented, input), alloc, out)
 }
 
 /// Adds the attributes of the method, and `fn`.
@@ -187,7 +175,7 @@ fn returned_type<'a>(
 ) -> Result<(), AllocError>
     ensures { OnOk result (out.new ≡ lay out.old (type_trees (heads.returned (form_view form) (declaration_view input.now)))) }
 {
-    print(returned(alloc, form, input), alloc, out)
+    made_type(returned(alloc, form, input), alloc, out)
 }
 
 /// Adds `->` and what the method returns, where it doesn't assign.

@@ -1,5 +1,5 @@
 -- Steps that the builders of parameters and types take.
-use Rattle.std.proofs.Common.{◌≡◌, List, [], ◌∷◌, ◌++◌, map, filter, Bool, true, false, cond, Option, None, refl, sym, ap, ◌∙◌}
+use Rattle.std.proofs.Common.{◌≡◌, List, [], ◌∷◌, ◌++◌, map, filter, Bool, true, false, cond, None, refl, sym, ap, ◌∙◌}
 use Rattle.std.proofs.lemmas.List.{map-append}
 use Rattle.dm_stream.specs.declared.tokens.Ident.{Ident}
 use Rattle.dm_ast.specs.Tree.{BoundTree}

@@ -1,5 +1,5 @@
 -- The emitted implementation is one of `PartialEq`, and the premises of its laws hold of what is read.
-use Rattle.std.proofs.Common.{◌≡◌, ℕ, List, [], ◌∷◌, map, true, false, cond, Result, Ok, Err, refl, sym, ap, ◌∙◌, subst, codes}
+use Rattle.std.proofs.Common.{◌≡◌, ℕ, List, [], ◌∷◌, true, false, cond, Result, Ok, Err, refl, sym, ap, ◌∙◌, subst, codes}
 use Rattle.std.specs.Prelude.{IfOk, String, string_bytes}
 use Rattle.std.specs.declared.alloc.Global.{Global}
 use Rattle.dm_ast.specs.Declarations.{Declaration}

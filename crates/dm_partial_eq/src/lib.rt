@@ -5,7 +5,7 @@ mod checks;
 mod comparing;
 mod laws;
 pub mod partial_eq;
-mod predicates;
+pub mod predicates;
 mod printing;
 
 pub use laws::predicates_cover_calls;

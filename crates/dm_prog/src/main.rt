@@ -7,7 +7,7 @@ mod standard;
 mod tests;
 mod words;
 
-use dm_derive::ended_run;
+use dm_run::ended_run;
 use standard::{StdSink, StdSource};
 use std::io;
 use std::process::ExitCode;

@@ -1,9 +1,9 @@
 ghost use Rattle.std.specs.Prelude.{◌≡◌, ◌+◌, ◌-◌, ◌^◌, ◌<◌, min, length, IfOk, OnOk, OnErr};
 ghost use Rattle.std.specs.Io.{ReadsAtMost, WritesAtMost};
 ghost use Rattle.std.specs.Io.KnownBytes.{ReadConsumes, WriteAppends};
-ghost use Rattle.dm_derive.specs.Causes.{HasCause};
+ghost use Rattle.dm_run.specs.Causes.{HasCause};
 
-use dm_derive::{Failed, Sink, Source};
+use dm_run::{Failed, Sink, Source};
 use std::io::{Read, Write};
 
 /// A reader as a source, which tells the bytes that the reader tells and counts its failures. Standard input tells

@@ -1,5 +1,5 @@
 use super::standard::{StdSink, StdSource};
-use dm_derive::{Status, derive_main};
+use dm_run::{Status, derive_main};
 use std::alloc::AllocError;
 use std::io;
 use std::io::{Read, Write};

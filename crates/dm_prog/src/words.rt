@@ -1,7 +1,7 @@
 ghost use Rattle.std.specs.Prelude.{◌≡◌, ◌≢◌, ◌⊎◌, IfErr, IfOk};
 ghost use Rattle.std.specs.Iterator.{Drains};
 
-use dm_derive::Status;
+use dm_run::Status;
 use std::alloc::Global;
 use std::env;
 use std::env::Args;

@@ -16,11 +16,10 @@ use crate::nodes::{block_of, do_of, let_of};
 use crate::rules::Exprs;
 use crate::sort::Wanted;
 use crate::statement::{check, constant, import};
-use dm_input::join::{ended, joined};
+use dm_input::join::{boxed, ended, joined};
 use dm_output::{Block, Expr, Stmt};
 use dm_read_patterns::front::Keyword;
 use dm_read_patterns::list::{Rule, Turn, repeated};
-use dm_read_patterns::node::boxed;
 use dm_read_patterns::place::Place;
 use dm_stream::Error;
 

@@ -1,17 +1,2 @@
-pub mod DeclarationBounds
-pub mod DeclarationFields
-pub mod DeclarationGenerics
-pub mod DeclarationParts
-pub mod DeclarationRules
-pub mod DeclarationSteps
-pub mod DeclarationTheorem
-pub mod LicensedDeclarations
-pub mod LicensedParts
-pub mod LicensedSteps
-pub mod LicensedTypes
-pub mod Licensing
-pub mod Runs
-pub mod TypeFronts
-pub mod WholeDeclarations
 pub mod WholeSteps
 pub mod WordRanges

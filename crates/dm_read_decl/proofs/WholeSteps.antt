@@ -13,7 +13,7 @@ use Rattle.dm_ast.specs.Declarations.{Declaration, declaration_view}
 use Rattle.dm_ast.specs.Spelling.{at_end}
 use Rattle.dm_ast.specs.Readers.{Outcome, and_then, ended, refuse, place}
 use Rattle.dm_read.specs.DeclarationReaders.{value_of, read_front, read_declaration}
-use Rattle.dm_read_types.specs.WholeReaders.{parts, ReadsWhole}
+use Rattle.dm_read_paths.specs.WholeReaders.{parts, ReadsWhole}
 use Rattle.dm_read.proofs.Deciding.{pair}
 use Rattle.dm_input.specs.State.{State}
 use Rattle.dm_input.specs.Inputs.{Reads}

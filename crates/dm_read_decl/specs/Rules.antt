@@ -19,7 +19,7 @@ use Rattle.dm_ast.specs.PlainReaders.{read_attributes, read_visibility, read_con
 use Rattle.dm_ast.specs.Runs.{read_run}
 use Rattle.dm_read.specs.DeclarationReaders as spec
 use Rattle.dm_read.specs.DeclarationReaders.{read_name, read_word_at, read_listed, read_bound_list, read_lifetime_bounds}
-use Rattle.dm_read_types.specs.WholeReaders.{whole_type, whole_bound, parts}
+use Rattle.dm_read_paths.specs.WholeReaders.{whole_type, whole_bound, parts}
 
 -- ---- forms
 

@@ -4,7 +4,7 @@
 ghost use Rattle.dm_ast.specs.Tree.{ty_view};
 ghost use Rattle.dm_ast.specs.Declarations as tree;
 ghost use Rattle.dm_read.specs.DeclarationReaders as spec;
-ghost use Rattle.dm_read_types.specs.WholeReaders.{parts};
+ghost use Rattle.dm_read_paths.specs.WholeReaders.{parts};
 ghost use Rattle.dm_read_decl.specs.Rules as rules;
 ghost use Rattle.dm_input.specs.Inputs.{Reads};
 
@@ -55,7 +55,7 @@ struct OnlyType;
 
 impl<'a> Rule<'a> for OnlyType {
     ghost use Rattle.dm_ast.specs.Tree.{TypeTree, ty_view};
-    ghost use Rattle.dm_read_types.specs.WholeReaders.{whole_type};
+    ghost use Rattle.dm_read_paths.specs.WholeReaders.{whole_type};
 
     type Part = Ty<'a>;
 
@@ -109,7 +109,7 @@ pub struct FieldRule;
 impl<'a> Rule<'a> for FieldRule {
     ghost use Rattle.dm_ast.specs.Declarations.{FieldTree, field_view};
     ghost use Rattle.dm_read.specs.DeclarationReaders as spec;
-    ghost use Rattle.dm_read_types.specs.WholeReaders.{parts};
+    ghost use Rattle.dm_read_paths.specs.WholeReaders.{parts};
 
     type Part = Field<'a>;
 
@@ -133,7 +133,7 @@ struct SlotRule;
 impl<'a> Rule<'a> for SlotRule {
     ghost use Rattle.dm_ast.specs.Declarations.{FieldTree, field_view};
     ghost use Rattle.dm_read.specs.DeclarationReaders as spec;
-    ghost use Rattle.dm_read_types.specs.WholeReaders.{parts};
+    ghost use Rattle.dm_read_paths.specs.WholeReaders.{parts};
 
     type Part = Field<'a>;
 

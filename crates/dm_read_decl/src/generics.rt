@@ -6,7 +6,7 @@ ghost use Rattle.dm_ast.specs.Spelling.{deepest};
 ghost use Rattle.dm_ast.specs.Tree.{ty_view, bound_view};
 ghost use Rattle.dm_ast.specs.Declarations as tree;
 ghost use Rattle.dm_read.specs.DeclarationReaders as spec;
-ghost use Rattle.dm_read_types.specs.WholeReaders.{parts};
+ghost use Rattle.dm_read_paths.specs.WholeReaders.{parts};
 ghost use Rattle.dm_read_decl.specs.Rules as rules;
 ghost use Rattle.dm_read_decl.specs.ShapeViews.{both_views, second_view, angled_view, clause_view};
 ghost use Rattle.dm_input.specs.Inputs.{Reads};
@@ -136,7 +136,7 @@ pub struct PredicateRule;
 impl<'a> Rule<'a> for PredicateRule {
     ghost use Rattle.dm_ast.specs.Declarations.{PredicateTree, predicate_view};
     ghost use Rattle.dm_read.specs.DeclarationReaders as spec;
-    ghost use Rattle.dm_read_types.specs.WholeReaders.{parts};
+    ghost use Rattle.dm_read_paths.specs.WholeReaders.{parts};
 
     type Part = WherePredicate<'a>;
 

@@ -4,7 +4,7 @@
 ghost use Rattle.std.specs.Prelude.{codes};
 ghost use Rattle.dm_ast.specs.Declarations as tree;
 ghost use Rattle.dm_read.specs.DeclarationReaders as spec;
-ghost use Rattle.dm_read_types.specs.WholeReaders.{parts};
+ghost use Rattle.dm_read_paths.specs.WholeReaders.{parts};
 ghost use Rattle.dm_read_decl.specs.Rules as rules;
 ghost use Rattle.dm_read_decl.specs.ShapeViews as views;
 ghost use Rattle.dm_read_decl.specs.ShapeViews.{both_views, second_view};
@@ -206,7 +206,7 @@ impl<'a> Rule<'a> for StructBody {
     ghost use Rattle.std.specs.Prelude.{Option};
     ghost use Rattle.dm_ast.specs.Declarations.{Listed, FieldsTree, PredicateTree};
     ghost use Rattle.dm_read.specs.DeclarationReaders as spec;
-    ghost use Rattle.dm_read_types.specs.WholeReaders.{parts};
+    ghost use Rattle.dm_read_paths.specs.WholeReaders.{parts};
     ghost use Rattle.dm_read_decl.specs.ShapeViews.{struct_view};
 
     type Part = (Fields<'a>, Option<Punctuated<WherePredicate<'a>>>);
@@ -271,7 +271,7 @@ pub struct ShapeRule;
 impl<'a> Rule<'a> for ShapeRule {
     ghost use Rattle.dm_read.specs.DeclarationReaders as spec;
     ghost use Rattle.dm_read.specs.DeclarationReaders.{Shaped};
-    ghost use Rattle.dm_read_types.specs.WholeReaders.{parts};
+    ghost use Rattle.dm_read_paths.specs.WholeReaders.{parts};
     ghost use Rattle.dm_read_decl.specs.ShapeViews.{shaped_view};
 
     type Part = (Data<'a>, (Ident<'a>, Generics<'a>));

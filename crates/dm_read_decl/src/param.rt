@@ -5,7 +5,7 @@ ghost use Rattle.std.specs.Prelude.{option_map};
 ghost use Rattle.dm_ast.specs.Tree.{ty_view, bound_view};
 ghost use Rattle.dm_ast.specs.Declarations as tree;
 ghost use Rattle.dm_read.specs.DeclarationReaders as spec;
-ghost use Rattle.dm_read_types.specs.WholeReaders.{parts};
+ghost use Rattle.dm_read_paths.specs.WholeReaders.{parts};
 ghost use Rattle.dm_read_decl.specs.Rules as rules;
 ghost use Rattle.dm_read_decl.specs.ShapeViews.{second_view, value_view, bounds_default_view};
 ghost use Rattle.dm_input.specs.Inputs.{Reads};
@@ -211,7 +211,7 @@ pub struct ParamRule;
 impl<'a> Rule<'a> for ParamRule {
     ghost use Rattle.dm_ast.specs.Declarations.{ParamTree, param_view};
     ghost use Rattle.dm_read.specs.DeclarationReaders as spec;
-    ghost use Rattle.dm_read_types.specs.WholeReaders.{parts};
+    ghost use Rattle.dm_read_paths.specs.WholeReaders.{parts};
 
     type Part = GenericParam<'a>;
 

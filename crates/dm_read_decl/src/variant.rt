@@ -3,7 +3,7 @@
 
 ghost use Rattle.dm_ast.specs.Declarations as tree;
 ghost use Rattle.dm_read.specs.DeclarationReaders as spec;
-ghost use Rattle.dm_read_types.specs.WholeReaders.{parts};
+ghost use Rattle.dm_read_paths.specs.WholeReaders.{parts};
 ghost use Rattle.dm_read_decl.specs.Rules as rules;
 ghost use Rattle.dm_read_decl.specs.ShapeViews.{body_view};
 ghost use Rattle.dm_input.specs.Inputs.{Reads};
@@ -89,7 +89,7 @@ pub struct VariantRule;
 impl<'a> Rule<'a> for VariantRule {
     ghost use Rattle.dm_ast.specs.Declarations.{VariantTree, variant_view};
     ghost use Rattle.dm_read.specs.DeclarationReaders as spec;
-    ghost use Rattle.dm_read_types.specs.WholeReaders.{parts};
+    ghost use Rattle.dm_read_paths.specs.WholeReaders.{parts};
 
     type Part = Variant<'a>;
 

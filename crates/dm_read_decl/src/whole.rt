@@ -3,7 +3,7 @@
 
 ghost use Rattle.dm_ast.specs.Declarations as tree;
 ghost use Rattle.dm_read.specs.DeclarationReaders as spec;
-ghost use Rattle.dm_read_types.specs.WholeReaders.{parts, ReadsWhole};
+ghost use Rattle.dm_read_paths.specs.WholeReaders.{parts, ReadsWhole};
 ghost use Rattle.dm_input.specs.Inputs.{Reads};
 
 use crate::forms::marked;

@@ -9,6 +9,7 @@ ghost use Rattle.dm_reread.specs.Reading as plain;
 ghost use Rattle.dm_read_leaves.specs.Leaves.{path_expr_view};
 
 use dm_ast::{Opaque, Path};
+use dm_input::join::{beside, boxed};
 use dm_output::{Arm, Expr, NamedExpr, PathExpr};
 use dm_stream::{Literal, Seq};
 use std::alloc::{AllocError, Global};
@@ -17,14 +18,14 @@ use std::alloc::{AllocError, Global};
 pub(crate) fn return_of<'a>(alloc: Global, value: Expr<'a>) -> Result<Expr<'a>, AllocError>
     ensures { IfOk result (λ e. expr_view e ≡ tree.return_expr (expr_view value.entry)) }
 {
-    Ok(Expr::Return(Box::new(alloc, value)?))
+    Ok(Expr::Return(boxed(alloc, value)?))
 }
 
 /// `*a`
 pub(crate) fn deref_of<'a>(alloc: Global, value: Expr<'a>) -> Result<Expr<'a>, AllocError>
     ensures { IfOk result (λ e. expr_view e ≡ tree.deref (expr_view value.entry)) }
 {
-    Ok(Expr::Deref(Box::new(alloc, value)?))
+    Ok(Expr::Deref(boxed(alloc, value)?))
 }
 
 /// `&a` or `&mut a`
@@ -35,7 +36,7 @@ pub(crate) fn ref_of<'a>(
 ) -> Result<Expr<'a>, AllocError>
     ensures { IfOk result (λ e. expr_view e ≡ tree.ref_expr is_mut (expr_view value.entry)) }
 {
-    Ok(Expr::Ref(is_mut, Box::new(alloc, value)?))
+    Ok(Expr::Ref(is_mut, boxed(alloc, value)?))
 }
 
 /// `&(tokens)`
@@ -91,7 +92,7 @@ pub(crate) fn bool_of<'a>(value: bool) -> Expr<'a>
 pub(crate) fn unsafe_of<'a>(alloc: Global, value: Expr<'a>) -> Result<Expr<'a>, AllocError>
     ensures { IfOk result (λ e. expr_view e ≡ tree.unsafe_expr (expr_view value.entry)) }
 {
-    Ok(Expr::Unsafe(Box::new(alloc, value)?))
+    Ok(Expr::Unsafe(boxed(alloc, value)?))
 }
 
 /// `match a { arms }`
@@ -102,7 +103,8 @@ pub(crate) fn match_of<'a>(
 ) -> Result<Expr<'a>, AllocError>
     ensures { IfOk result (λ e. expr_view e ≡ tree.match_expr (expr_view value.entry) (tree.arms_of (map arm_view arms.entry))) }
 {
-    Ok(Expr::Match(Box::new(alloc, value)?, arms))
+    let (value, arms) = beside(boxed(alloc, value), arms)?;
+    Ok(Expr::Match(value, arms))
 }
 
 /// `(tokens)(a)`
@@ -113,14 +115,15 @@ pub(crate) fn opaque_call<'a>(
 ) -> Result<Expr<'a>, AllocError>
     ensures { IfOk result (λ e. expr_view e ≡ tree.opaque_call (opaque_view tokens.entry) (expr_view value.entry)) }
 {
-    Ok(Expr::OpaqueCall(tokens, Box::new(alloc, value)?))
+    let (value, tokens) = beside(boxed(alloc, value), tokens)?;
+    Ok(Expr::OpaqueCall(tokens, value))
 }
 
 /// `(a)`
 pub(crate) fn paren_of<'a>(alloc: Global, value: Expr<'a>) -> Result<Expr<'a>, AllocError>
     ensures { IfOk result (λ e. expr_view e ≡ tree.paren (expr_view value.entry)) }
 {
-    Ok(Expr::Paren(Box::new(alloc, value)?))
+    Ok(Expr::Paren(boxed(alloc, value)?))
 }
 
 /// `(a, b)`

@@ -9,6 +9,7 @@ ghost use Rattle.dm_read_exprs.specs.Posts.{post_then, posts_of, post_view};
 ghost use Rattle.dm_read_exprs.specs.Rows as spec;
 
 use dm_ast::Opaque;
+use dm_input::join::{beside, boxed};
 use dm_output::{Expr, Member};
 use dm_stream::{Ident, Seq};
 use std::alloc::{AllocError, Global};
@@ -32,7 +33,7 @@ pub enum Post<'a> {
 fn behind<'a>(alloc: Global, receiver: Expr<'a>, post: Post<'a>) -> Result<Expr<'a>, AllocError>
     ensures { IfOk result (λ e. expr_view e ≡ plain.apply (expr_view receiver.entry) (post_then (post_view post.entry) no_posts)) }
 {
-    let receiver = Box::new(alloc, receiver)?;
+    let (receiver, post) = beside(boxed(alloc, receiver), post)?;
     match post {
         Post::Member(member) => Ok(Expr::Member(receiver, member)),
         Post::Call(name, args) => Ok(Expr::MethodCall(receiver, name, args)),
@@ -46,7 +47,7 @@ fn behind<'a>(alloc: Global, receiver: Expr<'a>, post: Post<'a>) -> Result<Expr<
 pub(crate) fn mapped<'a>(alloc: Global, value: Expr<'a>) -> Result<Post<'a>, AllocError>
     ensures { IfOk result (λ p. post_view p ≡ spec.map_tree (expr_view value.entry)) }
 {
-    Ok(Post::Map(Box::new(alloc, value)?))
+    Ok(Post::Map(boxed(alloc, value)?))
 }
 
 /// A receiver with all of these behind it, the first next to it.

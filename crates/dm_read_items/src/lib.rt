@@ -1,6 +1,7 @@
 //! Reading the implementations that the program prints back from their text.
 #![tactic(auto)]
 
+mod items;
 mod laws;
 mod read;
 

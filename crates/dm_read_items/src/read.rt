@@ -7,10 +7,10 @@ ghost use Rattle.dm_lexer.specs.Nesting.{IsTreesOf};
 ghost use Rattle.dm_output.specs.Views.{item_view};
 ghost use Rattle.dm_read_items.specs.Reading.{IsFollowed, Becomes, IsWithin, IsUnread};
 
+use crate::items::items;
 use dm_levels::first_deep;
 use dm_lexer::lex;
 use dm_output::Item;
-use dm_read_members::item::items;
 use dm_read_patterns::place::Place;
 use dm_stream::{Error, Kind, Refusal, Seq, Span, TokenStream};
 use std::alloc::Global;

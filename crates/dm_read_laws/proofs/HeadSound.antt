@@ -23,7 +23,7 @@ use Rattle.dm_output.specs.Tokens.{param_trees, predicate_trees, params_trees, w
 use Rattle.dm_same.specs.SameTypes.{all_same, same_entry}
 use Rattle.dm_read.specs.DeclarationReaders as decl
 use Rattle.dm_read.proofs.Deciding.{Covers, covers_then, covers_none, IsRead, Reader, deep_behind}
-use Rattle.dm_read_types.specs.WholeReaders.{whole_type, parts}
+use Rattle.dm_read_paths.specs.WholeReaders.{whole_type, parts}
 use Rattle.dm_type_eq.proofs.Cutting.{cut_end}
 use Rattle.dm_type_eq.proofs.Respelling.{Lowered, lowered_within}
 use Rattle.dm_reread.specs.BareTypes.{bare_type, bare_path}

@@ -15,7 +15,7 @@ use Rattle.dm_ast.specs.PlainReaders.{punctuated}
 use Rattle.dm_read_paths.specs.TypeReaders as types
 use Rattle.dm_read.specs.DeclarationReaders as decl
 use Rattle.dm_read.specs.DeclarationReaders.{Parts, read_name, to_listed, read_listed, read_bound_list, ends_lifetimes, read_lifetime_bounds, to_params, read_lifetime_param, read_const_param, read_type_param, read_param_behind, read_param, read_lifetime_predicate, read_type_predicate, read_predicate}
-use Rattle.dm_read_types.specs.WholeReaders.{whole_type, whole_bound, parts}
+use Rattle.dm_read_paths.specs.WholeReaders.{whole_type, whole_bound, parts}
 use Rattle.dm_reread.specs.BareTypes.{bare_ident, bare_attribute, bare_lifetimes, bare_constant, bare_type, bare_bound}
 use Rattle.dm_reread.specs.Bare.{bare_listed, bare_punctuated, bare_param, bare_predicate}
 use Rattle.dm_reread.specs.BareReading.{bare_answer}

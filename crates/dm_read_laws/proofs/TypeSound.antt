@@ -16,7 +16,7 @@ use Rattle.dm_ast.specs.Tree.{Lifetimes, TypeTree, type_tree, TypeNode, paren, t
 use Rattle.dm_ast.specs.TypeGrammar.{type_spelled}
 use Rattle.dm_ast.specs.TypeTokens.{type_trees}
 use Rattle.dm_read.proofs.Deciding.{IsRead}
-use Rattle.dm_read_types.specs.WholeReaders.{whole_type}
+use Rattle.dm_read_paths.specs.WholeReaders.{whole_type}
 use Rattle.dm_type_eq.specs.Unplaced as plain
 use Rattle.dm_type_eq.specs.Unplaced.{unplaced_trees, unplaced_stream, unplaced_opaque, unplaced_option, unplaced_args, unplaced_attribute, unplaced_lifetimes, unplaced_abi, unplaced_constant, unplaced_type, unplaced_node, unplaced_types, unplaced_maybe_type, unplaced_self, unplaced_bound, unplaced_bounds, unplaced_trait, unplaced_fn, unplaced_input, unplaced_inputs, unplaced_path, unplaced_segments, unplaced_segment, unplaced_arguments_of, unplaced_argument, unplaced_arguments, unplaced_maybe_arguments}
 use Rattle.dm_reread.specs.BareTypes.{bare_ident, bare_lifetime, bare_stream, bare_opaque, bare_plain, bare_args, bare_attribute, bare_lifetimes, bare_abi, bare_constant, bare_type, bare_node, bare_types, bare_maybe_type, bare_self, bare_bound, bare_bounds, bare_trait, bare_function, bare_input, bare_inputs, bare_path, bare_segments, bare_segment, bare_arguments_of, bare_argument, bare_arguments, bare_maybe_arguments}

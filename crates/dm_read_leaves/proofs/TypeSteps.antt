@@ -5,7 +5,7 @@ use Rattle.dm_stream.specs.declared.error.Refusal.{Refusal}
 use Rattle.dm_stream.specs.Trees.{Trees}
 use Rattle.dm_ast.specs.Tree.{TypeTree}
 use Rattle.dm_ast.specs.TypeTokens.{type_trees}
-use Rattle.dm_read_types.specs.WholeReaders.{whole_type}
+use Rattle.dm_read_paths.specs.WholeReaders.{whole_type}
 use Rattle.dm_reread.specs.TypeLeaves.{answer_of, read_type}
 use Rattle.dm_reread.specs.ExactLeaves.{exactly}
 use Rattle.dm_reread.proofs.FreeDeclarations.{type_free}

@@ -7,13 +7,15 @@ ghost use Rattle.dm_reread.specs.Next.{next};
 ghost use Rattle.dm_reread.specs.Items as plain;
 ghost use Rattle.dm_reread.specs.ReadBack.{item_leaves, read_output};
 ghost use Rattle.dm_read_patterns.specs.Reads.{Reads, ReadsWhole};
+ghost use Rattle.dm_read_blocks.specs.ExprNests.{ExprNests};
 ghost use Rattle.dm_read_members.specs.Rows as spec;
 ghost use Rattle.dm_read_members.specs.Views.{members_view, unmarked_view};
 
 use crate::count::turns;
-use crate::method::methods;
+use crate::method::Bodies;
 use dm_input::join::joined;
-use dm_output::{Assoc, Item, ItemAttr, Method};
+use dm_output::{Assoc, Expr, Item, ItemAttr, Method};
+use dm_read_blocks::sort::Wanted;
 use dm_read_heads::assoc::assocs;
 use dm_read_heads::attr::attrs;
 use dm_read_heads::head::{Head, printed_head};
@@ -30,42 +32,6 @@ fn all_assocs<'a>(place: &mut Place<'_, 'a>) -> Result<Seq<Assoc<'a>>, Error>
 {
     let fuel = turns(place.cursor());
     assocs(place, fuel)
-}
-
-/// Associated types, and methods to the end.
-fn all_members<'a>(place: &mut Place<'_, 'a>) -> Result<Members<'a>, Error>
-    ensures { ReadsWhole members_view spec.all_members place.old result }
-{
-    let found = all_assocs(place)?;
-    joined(found, methods(place))
-}
-
-/// Members in braces.
-fn braced<'a>(place: &mut Place<'_, 'a>) -> Result<Members<'a>, Error>
-    ensures { Reads members_view (λ ts. spec.braced (next ts)) place.old result place.new }
-{
-    let Some(mut inside) = place.group(Delim::Brace) else {
-        return Err(place.refused());
-    };
-    all_members(&mut inside)
-}
-
-/// A head and its members.
-fn behind_impl<'a>(place: &mut Place<'_, 'a>) -> Result<(Head<'a>, Members<'a>), Error>
-    ensures { Reads unmarked_view spec.behind_impl place.old result place.new }
-{
-    let found = printed_head(place)?;
-    joined(found, braced(place))
-}
-
-/// What stands behind the attributes.
-fn unmarked<'a>(place: &mut Place<'_, 'a>) -> Result<(Head<'a>, Members<'a>), Error>
-    ensures { Reads unmarked_view spec.unmarked place.old result place.new }
-{
-    if !place.take_keyword(Keyword::Impl) {
-        return Err(place.refused());
-    }
-    behind_impl(place)
 }
 
 /// The parts as one.
@@ -90,22 +56,18 @@ fn item_of<'a>(attrs: Seq<ItemAttr>, parts: (Head<'a>, Members<'a>)) -> Item<'a>
     }
 }
 
-/// An implementation.
-fn item<'a>(place: &mut Place<'_, 'a>) -> Result<Item<'a>, Error>
-    ensures { Reads item_view (plain.read_item item_leaves) place.old result place.new }
-{
-    let found = attrs(place)?;
-    let (found, parts) = joined(found, unmarked(place))?;
-    Ok(item_of(found, parts))
+/// Implementations, to the end of the trees. Refuses where none stand there, or anything else does.
+#[derive(Drop)]
+struct ItemRule<'g, F> {
+    bodies: &'g Bodies<F>,
 }
 
-/// Implementations, to the end of the trees. Refuses where none stand there, or anything else does.
-#[derive(Clone, Copy)]
-struct ItemRule;
-
-impl<'a> Rule<'a> for ItemRule {
+impl<'g, 'a, F: Copy + for<'t, 'b> Fn(&mut Place<'t, 'b>, Wanted) -> Result<Expr<'b>, Error>> Rule<
+    'a,
+> for ItemRule<'g, F> {
     ghost use Rattle.dm_output.specs.Output.{ItemTree};
     ghost use Rattle.dm_output.specs.Views.{item_view};
+    ghost use Rattle.dm_read_blocks.specs.ExprNests.{ExprNests};
     ghost use Rattle.dm_read_members.specs.Rows.{item_turn};
 
     type Part = Item<'a>;
@@ -120,7 +82,7 @@ impl<'a> Rule<'a> for ItemRule {
 
     ghost last = { λ u. u };
 
-    ghost usable = { λ _. Unit {0} };
+    ghost usable = { λ r. ExprNests r.bodies.now.room (F.pre r.bodies.now.expr) (F.post r.bodies.now.expr) };
 
     ghost reader = { λ _. item_turn };
 
@@ -128,22 +90,80 @@ impl<'a> Rule<'a> for ItemRule {
         if place.at_end() {
             return Ok(Turn::End(()));
         }
-        Ok(Turn::One(item(place)?))
+        Ok(Turn::One(self.bodies.item(place)?))
     }
 }
 
-/// Implementations, to the end, in at most so many turns.
-fn items_within<'a>(most: usize, place: &mut Place<'_, 'a>) -> Result<Seq<Item<'a>>, Error>
-    ensures { ReadsWhole (map item_view) (plain.items_with item_leaves most) place.old result }
-{
-    let (found, _) = repeated(&ItemRule, most, place)?;
-    Ok(found)
-}
+impl<F: Copy + for<'t, 'b> Fn(&mut Place<'t, 'b>, Wanted) -> Result<Expr<'b>, Error>> Bodies<F> {
+    /// Associated types, and methods to the end.
+    fn all_members<'a>(&self, place: &mut Place<'_, 'a>) -> Result<Members<'a>, Error>
+        requires { ExprNests self.now.room (F.pre self.now.expr) (F.post self.now.expr) }
+        ensures { ReadsWhole members_view spec.all_members place.old result }
+    {
+        let found = all_assocs(place)?;
+        joined(found, self.methods(place))
+    }
 
-/// Implementations, to the end of the trees. Refuses where none stand there, or anything else does.
-pub fn items<'a>(place: &mut Place<'_, 'a>) -> Result<Seq<Item<'a>>, Error>
-    ensures { ReadsWhole (map item_view) read_output place.old result }
-{
-    let most = turns(place.cursor());
-    items_within(most, place)
+    /// Members in braces.
+    fn braced<'a>(&self, place: &mut Place<'_, 'a>) -> Result<Members<'a>, Error>
+        requires { ExprNests self.now.room (F.pre self.now.expr) (F.post self.now.expr) }
+        ensures { Reads members_view (λ ts. spec.braced (next ts)) place.old result place.new }
+    {
+        let Some(mut inside) = place.group(Delim::Brace) else {
+            return Err(place.refused());
+        };
+        self.all_members(&mut inside)
+    }
+
+    /// A head and its members.
+    fn behind_impl<'a>(&self, place: &mut Place<'_, 'a>) -> Result<(Head<'a>, Members<'a>), Error>
+        requires { ExprNests self.now.room (F.pre self.now.expr) (F.post self.now.expr) }
+        ensures { Reads unmarked_view spec.behind_impl place.old result place.new }
+    {
+        let found = printed_head(place)?;
+        joined(found, self.braced(place))
+    }
+
+    /// What stands behind the attributes.
+    fn unmarked<'a>(&self, place: &mut Place<'_, 'a>) -> Result<(Head<'a>, Members<'a>), Error>
+        requires { ExprNests self.now.room (F.pre self.now.expr) (F.post self.now.expr) }
+        ensures { Reads unmarked_view spec.unmarked place.old result place.new }
+    {
+        if !place.take_keyword(Keyword::Impl) {
+            return Err(place.refused());
+        }
+        self.behind_impl(place)
+    }
+
+    /// An implementation.
+    fn item<'a>(&self, place: &mut Place<'_, 'a>) -> Result<Item<'a>, Error>
+        requires { ExprNests self.now.room (F.pre self.now.expr) (F.post self.now.expr) }
+        ensures { Reads item_view (plain.read_item item_leaves) place.old result place.new }
+    {
+        let found = attrs(place)?;
+        let (found, parts) = joined(found, self.unmarked(place))?;
+        Ok(item_of(found, parts))
+    }
+
+    /// Implementations, to the end, in at most so many turns.
+    fn items_within<'a>(
+        &self,
+        most: usize,
+        place: &mut Place<'_, 'a>,
+    ) -> Result<Seq<Item<'a>>, Error>
+        requires { ExprNests self.now.room (F.pre self.now.expr) (F.post self.now.expr) }
+        ensures { ReadsWhole (map item_view) (plain.items_with item_leaves most) place.old result }
+    {
+        let (found, _) = repeated(&ItemRule { bodies: self }, most, place)?;
+        Ok(found)
+    }
+
+    /// Implementations, to the end of the trees. Refuses where none stand there, or anything else does.
+    pub fn items<'a>(&self, place: &mut Place<'_, 'a>) -> Result<Seq<Item<'a>>, Error>
+        requires { ExprNests self.now.room (F.pre self.now.expr) (F.post self.now.expr) }
+        ensures { ReadsWhole (map item_view) read_output place.old result }
+    {
+        let most = turns(place.cursor());
+        self.items_within(most, place)
+    }
 }

@@ -8,13 +8,16 @@ ghost use Rattle.dm_reread.specs.Items as plain;
 ghost use Rattle.dm_reread.specs.ReadBack.{leaves};
 ghost use Rattle.dm_reread.specs.Whole.{read_inside};
 ghost use Rattle.dm_read_patterns.specs.Reads.{Reads, ReadsWhole};
+ghost use Rattle.dm_read_patterns.specs.Turns.{rows};
+ghost use Rattle.dm_read_blocks.specs.ExprNests.{ExprNests};
 ghost use Rattle.dm_read_members.specs.Rows as spec;
 ghost use Rattle.dm_read_members.specs.Views.{behind_view, unnamed_view};
 
 use crate::count::{fuel, turns};
 use dm_input::join::joined;
-use dm_output::{Block, ItemAttr, Method};
-use dm_read_exprs::nested::block;
+use dm_output::{Block, Expr, ItemAttr, Method};
+use dm_read_blocks::rules::Exprs;
+use dm_read_blocks::sort::Wanted;
 use dm_read_heads::attr::attrs;
 use dm_read_heads::signature::{Inputs, Signature, named_signature};
 use dm_read_patterns::front::Keyword;
@@ -22,27 +25,13 @@ use dm_read_patterns::list::{Rule, Turn, repeated};
 use dm_read_patterns::place::Place;
 use dm_stream::{Delim, Error, Ident, Seq};
 
-/// How many expressions may stand in one another. Deeper ones want memory: that of the stack.
-const ROOM: usize = 1024;
-
-/// The inside of a body, to the end.
-fn inside<'a>(place: &mut Place<'_, 'a>) -> Result<Block<'a>, Error>
-    ensures { ReadsWhole block_view (read_inside leaves) place.old result }
-{
-    match fuel(place.cursor()) {
-        Some(found) => block(place, found, ROOM),
-        None => Err(Error::NoMemory),
-    }
-}
-
-/// A body in braces.
-fn body<'a>(place: &mut Place<'_, 'a>) -> Result<Block<'a>, Error>
-    ensures { Reads block_view (λ ts. plain.body_after leaves (next ts)) place.old result place.new }
-{
-    let Some(mut found) = place.group(Delim::Brace) else {
-        return Err(place.refused());
-    };
-    inside(&mut found)
+/// What methods and implementations are read by.
+#[derive(Clone, Copy)]
+pub struct Bodies<F> {
+    /// How many expressions may stand in one another. Deeper ones want memory: that of the stack.
+    pub room: usize,
+    /// Reads an expression in a body.
+    pub expr: F,
 }
 
 /// `const` perhaps, and `fn`: whether it is `const`.
@@ -57,22 +46,6 @@ fn const_fn(place: &mut Place<'_, '_>) -> Result<bool, Error>
 }
 
 type Behind<'a> = ((Ident<'a>, Signature<'a>), Block<'a>);
-
-/// What stands behind `fn`.
-fn behind_fn<'a>(place: &mut Place<'_, 'a>) -> Result<Behind<'a>, Error>
-    ensures { Reads behind_view spec.behind_fn place.old result place.new }
-{
-    let found = named_signature(place)?;
-    joined(found, body(place))
-}
-
-/// What stands behind the attributes.
-fn unnamed<'a>(place: &mut Place<'_, 'a>) -> Result<(bool, Behind<'a>), Error>
-    ensures { Reads unnamed_view spec.unnamed place.old result place.new }
-{
-    let is_const = const_fn(place)?;
-    joined(is_const, behind_fn(place))
-}
 
 /// The parts as one.
 fn method_of<'a>(attrs: Seq<ItemAttr>, parts: (bool, Behind<'a>)) -> Method<'a>
@@ -91,22 +64,18 @@ fn method_of<'a>(attrs: Seq<ItemAttr>, parts: (bool, Behind<'a>)) -> Method<'a>
     }
 }
 
-/// A method.
-fn method<'a>(place: &mut Place<'_, 'a>) -> Result<Method<'a>, Error>
-    ensures { Reads method_view (plain.read_method leaves) place.old result place.new }
-{
-    let found = attrs(place)?;
-    let (found, parts) = joined(found, unnamed(place))?;
-    Ok(method_of(found, parts))
+/// Methods, to the end.
+#[derive(Drop)]
+struct MethodRule<'g, F> {
+    bodies: &'g Bodies<F>,
 }
 
-/// Methods, to the end.
-#[derive(Clone, Copy)]
-struct MethodRule;
-
-impl<'a> Rule<'a> for MethodRule {
+impl<'g, 'a, F: Copy + for<'t, 'b> Fn(&mut Place<'t, 'b>, Wanted) -> Result<Expr<'b>, Error>> Rule<
+    'a,
+> for MethodRule<'g, F> {
     ghost use Rattle.dm_output.specs.Output.{MethodTree};
     ghost use Rattle.dm_output.specs.Views.{method_view};
+    ghost use Rattle.dm_read_blocks.specs.ExprNests.{ExprNests};
     ghost use Rattle.dm_read_members.specs.Rows.{method_turn};
 
     type Part = Method<'a>;
@@ -121,7 +90,7 @@ impl<'a> Rule<'a> for MethodRule {
 
     ghost last = { λ u. u };
 
-    ghost usable = { λ _. Unit {0} };
+    ghost usable = { λ r. ExprNests r.bodies.now.room (F.pre r.bodies.now.expr) (F.post r.bodies.now.expr) };
 
     ghost reader = { λ _. method_turn };
 
@@ -129,22 +98,93 @@ impl<'a> Rule<'a> for MethodRule {
         if place.at_end() {
             return Ok(Turn::End(()));
         }
-        Ok(Turn::One(method(place)?))
+        Ok(Turn::One(self.bodies.method(place)?))
     }
 }
 
-/// Methods, to the end, in at most so many turns.
-fn methods_within<'a>(most: usize, place: &mut Place<'_, 'a>) -> Result<Seq<Method<'a>>, Error>
-    ensures { ReadsWhole (map method_view) (plain.read_methods leaves most) place.old result }
-{
-    let (found, _) = repeated(&MethodRule, most, place)?;
-    Ok(found)
-}
+impl<F: Copy + for<'t, 'b> Fn(&mut Place<'t, 'b>, Wanted) -> Result<Expr<'b>, Error>> Bodies<F> {
+    /// The inside of a block, to the end.
+    fn block<'a>(&self, place: &mut Place<'_, 'a>, fuel: usize) -> Result<Block<'a>, Error>
+        requires { ExprNests self.now.room (F.pre self.now.expr) (F.post self.now.expr) }
+        ensures { ReadsWhole block_view (rows fuel).block place.old result }
+    {
+        let rules = Exprs {
+            fuel,
+            room: self.room,
+            expr: self.expr,
+        };
+        rules.block(place)
+    }
 
-/// Methods, to the end.
-pub(crate) fn methods<'a>(place: &mut Place<'_, 'a>) -> Result<Seq<Method<'a>>, Error>
-    ensures { ReadsWhole (map method_view) spec.all_methods place.old result }
-{
-    let most = turns(place.cursor());
-    methods_within(most, place)
+    /// The inside of a body, to the end.
+    fn inside<'a>(&self, place: &mut Place<'_, 'a>) -> Result<Block<'a>, Error>
+        requires { ExprNests self.now.room (F.pre self.now.expr) (F.post self.now.expr) }
+        ensures { ReadsWhole block_view (read_inside leaves) place.old result }
+    {
+        match fuel(place.cursor()) {
+            Some(found) => self.block(place, found),
+            None => Err(Error::NoMemory),
+        }
+    }
+
+    /// A body in braces.
+    fn body<'a>(&self, place: &mut Place<'_, 'a>) -> Result<Block<'a>, Error>
+        requires { ExprNests self.now.room (F.pre self.now.expr) (F.post self.now.expr) }
+        ensures { Reads block_view (λ ts. plain.body_after leaves (next ts)) place.old result place.new }
+    {
+        let Some(mut found) = place.group(Delim::Brace) else {
+            return Err(place.refused());
+        };
+        self.inside(&mut found)
+    }
+
+    /// What stands behind `fn`.
+    fn behind_fn<'a>(&self, place: &mut Place<'_, 'a>) -> Result<Behind<'a>, Error>
+        requires { ExprNests self.now.room (F.pre self.now.expr) (F.post self.now.expr) }
+        ensures { Reads behind_view spec.behind_fn place.old result place.new }
+    {
+        let found = named_signature(place)?;
+        joined(found, self.body(place))
+    }
+
+    /// What stands behind the attributes.
+    fn unnamed<'a>(&self, place: &mut Place<'_, 'a>) -> Result<(bool, Behind<'a>), Error>
+        requires { ExprNests self.now.room (F.pre self.now.expr) (F.post self.now.expr) }
+        ensures { Reads unnamed_view spec.unnamed place.old result place.new }
+    {
+        let is_const = const_fn(place)?;
+        joined(is_const, self.behind_fn(place))
+    }
+
+    /// A method.
+    fn method<'a>(&self, place: &mut Place<'_, 'a>) -> Result<Method<'a>, Error>
+        requires { ExprNests self.now.room (F.pre self.now.expr) (F.post self.now.expr) }
+        ensures { Reads method_view (plain.read_method leaves) place.old result place.new }
+    {
+        let found = attrs(place)?;
+        let (found, parts) = joined(found, self.unnamed(place))?;
+        Ok(method_of(found, parts))
+    }
+
+    /// Methods, to the end, in at most so many turns.
+    fn methods_within<'a>(
+        &self,
+        most: usize,
+        place: &mut Place<'_, 'a>,
+    ) -> Result<Seq<Method<'a>>, Error>
+        requires { ExprNests self.now.room (F.pre self.now.expr) (F.post self.now.expr) }
+        ensures { ReadsWhole (map method_view) (plain.read_methods leaves most) place.old result }
+    {
+        let (found, _) = repeated(&MethodRule { bodies: self }, most, place)?;
+        Ok(found)
+    }
+
+    /// Methods, to the end.
+    pub(crate) fn methods<'a>(&self, place: &mut Place<'_, 'a>) -> Result<Seq<Method<'a>>, Error>
+        requires { ExprNests self.now.room (F.pre self.now.expr) (F.post self.now.expr) }
+        ensures { ReadsWhole (map method_view) spec.all_methods place.old result }
+    {
+        let most = turns(place.cursor());
+        self.methods_within(most, place)
+    }
 }

@@ -2,3 +2,4 @@ pub mod BarePaths
 pub mod Bindings
 pub mod Nests
 pub mod TypeReaders
+pub mod WholeReaders

@@ -15,7 +15,7 @@ use crate::grammar::Grammar;
 use crate::kind::Mode;
 use dm_ast::{GenericArgument, Path, PathArguments, PathSegment, Ty, TyNode};
 use dm_input::Input;
-use dm_input::join::{ended, joined};
+use dm_input::join::{beside, boxed, ended, joined};
 use dm_input::list::{Rule, chained};
 use dm_read::list::Link;
 use dm_stream::{Delim, Error, Ident, Punctuated, Seq};
@@ -61,7 +61,7 @@ fn parens_with<'a>(
 ) -> Result<PathArguments<'a>, AllocError>
     ensures { IfOk result (λ r. arguments_view r ≡ parens (types_of (map ty_view inputs.entry.items)) inputs.entry.trailing (some_type (ty_view output.entry))) }
 {
-    let inner = Box::new(alloc, output)?;
+    let (inner, inputs) = beside(boxed(alloc, output), inputs)?;
     Ok(PathArguments::Paren(inputs, Some(inner)))
 }
 

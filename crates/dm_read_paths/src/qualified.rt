@@ -15,7 +15,7 @@ use crate::kind::Mode;
 use crate::path::path_of;
 use dm_ast::{PathSegment, QSelf, Ty, TyNode};
 use dm_input::Input;
-use dm_input::join::joined;
+use dm_input::join::{beside, boxed, joined};
 use dm_stream::{Error, Seq};
 use std::alloc::{AllocError, Global};
 
@@ -34,7 +34,7 @@ fn qualified_node<'a>(
         ty: found,
         position,
     };
-    let inner = Box::new(alloc, qself)?;
+    let (inner, segments) = beside(boxed(alloc, qself), segments)?;
     let path = path_of(leading, segments);
     Ok(TyNode::Path(Some(inner), path))
 }

@@ -1,10 +1,11 @@
 //! Lists, whatever their parts are: one part after another, up to what ends them.
 #![tactic(auto, using(crate::proofs::Repeats::repeat_steps))]
 
-ghost use Rattle.std.specs.Prelude.{◌≡◌, ℕ, map};
+ghost use Rattle.std.specs.Prelude.{◌≡◌, ℕ, Ok, Err, MatchResult, map};
 ghost use Rattle.dm_stream.specs.Trees.{Trees};
 ghost use Rattle.dm_reread.specs.Leaves.{Answer};
 ghost use Rattle.dm_read_patterns.specs.declared.list.Turn.{Turn};
+ghost use Rattle.dm_read_patterns.specs.declared.list.Turn.TheVariants.{One};
 ghost use Rattle.dm_read_patterns.specs.Reads.{Reads};
 ghost use Rattle.dm_read_patterns.specs.Repeating.{turn_view, repeat};
 
@@ -16,6 +17,16 @@ use dm_stream::{Error, Seq};
 pub enum Turn<T, E> {
     One(T),
     End(E),
+}
+
+/// The turn of a part that was read. What it is is open here, so nothing has to be known of how it is dropped.
+pub fn one<T: Drop, E: Drop>(part: Result<T, Error>) -> Result<Turn<T, E>, Error>
+    ensures { MatchResult part (λ t. result ≡ Ok (One t)) (λ e. result ≡ Err e) }
+{
+    match part {
+        Ok(part) => Ok(Turn::One(part)),
+        Err(error) => Err(error),
+    }
 }
 
 /// Reads the parts of a list, and what ends it.

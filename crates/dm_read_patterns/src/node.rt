@@ -16,13 +16,6 @@ pub fn fronted<T: Drop>(alloc: Global, first: T, others: Seq<T>) -> Result<Seq<T
     Ok(all)
 }
 
-/// A part in a box.
-pub fn boxed<T: Drop>(alloc: Global, part: T) -> Result<Box<T>, AllocError>
-    ensures { IfOk result (λ b. b.value ≡ part) }
-{
-    Ok(Box::new(alloc, part)?)
-}
-
 /// Two parts in boxes.
 pub fn two_boxes<T: Drop>(
     alloc: Global,

@@ -1,10 +1,3 @@
-pub mod BracketRules
 pub mod Built
 pub mod FrontKinds
-pub mod FunctionRules
-pub mod ObjectRules
-pub mod PointerNodes
 pub mod Rounds
-pub mod SmallRules
-pub mod TypeTheorem
-pub mod Types

@@ -1,2 +1,1 @@
 pub mod FunctionViews
-pub mod WholeReaders

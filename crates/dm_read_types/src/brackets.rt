@@ -11,7 +11,7 @@ ghost use Rattle.dm_read_paths.specs.Nests.{Nests};
 use crate::rules::Types;
 use dm_ast::{Opaque, Ty, TyNode};
 use dm_input::Input;
-use dm_input::join::{ended, joined};
+use dm_input::join::{beside, boxed, ended, joined};
 use dm_read_paths::kind::Mode;
 use dm_stream::{Delim, Error, Punctuated};
 use std::alloc::{AllocError, Global};
@@ -39,7 +39,7 @@ fn maybe_length<'a>(input: &mut Input<'_, 'a>) -> Result<Option<Opaque<'a>>, Err
 fn slice_node<'a>(alloc: Global, found: Ty<'a>) -> Result<TyNode<'a>, AllocError>
     ensures { IfOk result (λ n. node_view n ≡ slice (ty_view found.entry)) }
 {
-    let inner = Box::new(alloc, found)?;
+    let inner = boxed(alloc, found)?;
     Ok(TyNode::Slice(inner))
 }
 
@@ -52,7 +52,7 @@ fn array_node<'a>(
 ) -> Result<TyNode<'a>, AllocError>
     ensures { IfOk result (λ n. node_view n ≡ array (ty_view found.entry) length.entry) }
 {
-    let inner = Box::new(alloc, found)?;
+    let (inner, length) = beside(boxed(alloc, found), length)?;
     Ok(TyNode::Array(inner, length))
 }
 
@@ -75,7 +75,7 @@ fn square_node<'a>(
 fn paren_node<'a>(alloc: Global, found: Ty<'a>) -> Result<TyNode<'a>, AllocError>
     ensures { IfOk result (λ n. node_view n ≡ paren (ty_view found.entry)) }
 {
-    let inner = Box::new(alloc, found)?;
+    let inner = boxed(alloc, found)?;
     Ok(TyNode::Paren(inner))
 }
 

@@ -7,7 +7,7 @@ ghost use Rattle.dm_input.specs.Inputs.{Reads};
 ghost use Rattle.dm_read.specs.DeclarationReaders as spec;
 ghost use Rattle.dm_read_paths.specs.TypeReaders as types;
 ghost use Rattle.dm_read_paths.specs.TypeReaders.{read_type};
-ghost use Rattle.dm_read_types.specs.WholeReaders.{whole_type, whole_bound};
+ghost use Rattle.dm_read_paths.specs.WholeReaders.{whole_type, whole_bound};
 
 use crate::ty::ty as nested;
 use dm_ast::{Bound, Ty};
@@ -20,7 +20,7 @@ use dm_stream::{Error, Punctuated};
 pub const DEPTH: usize = 129;
 
 /// A type.
-#[tactic(auto, unfolding(crate::specs::WholeReaders::whole_type))]
+#[tactic(auto, unfolding(dm_read_paths::specs::WholeReaders::whole_type))]
 pub fn ty<'a>(input: &mut Input<'_, 'a>) -> Result<Ty<'a>, Error>
     ensures { Reads ty_view whole_type input.old result input.new }
 {
@@ -38,7 +38,7 @@ fn bounds_within<'a>(
 }
 
 /// Bounds with `+` between.
-#[tactic(auto, unfolding(crate::specs::WholeReaders::whole_bound))]
+#[tactic(auto, unfolding(dm_read_paths::specs::WholeReaders::whole_bound))]
 pub fn bounds<'a>(input: &mut Input<'_, 'a>) -> Result<Punctuated<Bound<'a>>, Error>
     ensures { Reads (listed bound_view) (spec.read_bound_list whole_bound) input.old result input.new }
 {

@@ -11,14 +11,14 @@ ghost use Rattle.dm_read_paths.specs.TypeReaders as types;
 ghost use Rattle.dm_read_paths.specs.TypeReaders.{read_type};
 ghost use Rattle.dm_read_paths.specs.Nests.{Nests};
 
-use crate::pointers::keyword;
 use crate::rules::Types;
 use dm_ast::{Attribute, BareFn, FnArg, Ty, TyNode};
 use dm_input::Input;
-use dm_input::join::{ended, joined};
+use dm_input::join::{boxed, ended, joined};
 use dm_input::list::{Rule, listed};
 use dm_read::list::Stop;
 use dm_read_paths::kind::Mode;
+use dm_read_pointers::pointers::keyword;
 use dm_stream::{Delim, Error, Ident, Lifetime, Literal, Punctuated, Seq};
 use std::alloc::{AllocError, Global};
 
@@ -91,7 +91,7 @@ fn function_node<'a>(
         inputs,
         output,
     };
-    let inner = Box::new(alloc, function)?;
+    let inner = boxed(alloc, function)?;
     Ok(TyNode::BareFn(inner))
 }
 

@@ -6,7 +6,6 @@ pub mod brackets;
 pub mod entry;
 pub mod function;
 pub mod node;
-pub mod pointers;
 pub mod rules;
 pub mod small;
 pub mod ty;

@@ -17,6 +17,7 @@ use dm_read::group::delim;
 use dm_read::macro_call::sees_macro;
 use dm_read::token::is_word;
 use dm_read_paths::kind::{Mode, NodeKind};
+use dm_read_pointers::pointers::Pointers;
 use dm_stream::{Cursor, Delim, Error, Ident, Span};
 
 fn punct_kind(ch: char) -> NodeKind
@@ -107,6 +108,28 @@ fn type_of<'a>(node: TyNode<'a>, span: Span) -> Ty<'a>
 }
 
 impl<'a, F: for<'t> Fn(&mut Input<'t, 'a>, usize, Mode) -> Result<Ty<'a>, Error>> Types<F> {
+    /// A reference.
+    fn reference(&self, input: &mut Input<'_, 'a>) -> Result<TyNode<'a>, Error>
+        requires { Nests self.now.grammar.depth (F.pre self.now.grammar.ty) (F.post self.now.grammar.ty) }
+        ensures { Reads node_view (types.read_reference (read_type self.now.grammar.depth)) input.old result input.new }
+    {
+        let rules = Pointers {
+            grammar: &self.grammar,
+        };
+        rules.reference(input)
+    }
+
+    /// A pointer.
+    fn pointer(&self, input: &mut Input<'_, 'a>) -> Result<TyNode<'a>, Error>
+        requires { Nests self.now.grammar.depth (F.pre self.now.grammar.ty) (F.post self.now.grammar.ty) }
+        ensures { Reads node_view (types.read_pointer (read_type self.now.grammar.depth)) input.old result input.new }
+    {
+        let rules = Pointers {
+            grammar: &self.grammar,
+        };
+        rules.pointer(input)
+    }
+
     /// What the type that comes next is.
     fn node(&self, single: bool, input: &mut Input<'_, 'a>) -> Result<TyNode<'a>, Error>
         requires { Nests self.now.grammar.depth (F.pre self.now.grammar.ty) (F.post self.now.grammar.ty) }

@@ -14,7 +14,7 @@ use Rattle.dm_ast.specs.PlainReaders.{punctuated}
 use Rattle.dm_read_paths.specs.TypeReaders as types
 use Rattle.dm_read.specs.DeclarationReaders as decl
 use Rattle.dm_read.specs.DeclarationReaders.{Parts, read_name, to_listed, read_listed, read_bound_list, ends_lifetimes, read_lifetime_bounds, to_params, read_lifetime_param, read_const_param, read_type_param, read_param_behind, read_param, read_lifetime_predicate, read_type_predicate, read_predicate}
-use Rattle.dm_read_types.specs.WholeReaders.{whole_type, whole_bound, parts}
+use Rattle.dm_read_paths.specs.WholeReaders.{whole_type, whole_bound, parts}
 use Rattle.dm_reread.specs.TypeLeaves.{answer_of, read_type}
 use Rattle.dm_reread.specs.HeadLeaves.{read_generics, read_where}
 use Rattle.dm_reread.proofs.FreeSteps.{Free, same_bind, same_gives, same_and, same_next, same_either, free_ident, free_lifetime, free_word, same_perhaps, same_list}

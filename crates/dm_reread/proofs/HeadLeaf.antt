@@ -13,12 +13,12 @@ use Rattle.dm_ast.specs.Readers.{tail}
 use Rattle.dm_ast.specs.Runs.{run, read_run}
 use Rattle.dm_read.specs.DeclarationReaders as decl
 use Rattle.dm_read.proofs.Deciding.{Reader, deep_behind, deep_front}
-use Rattle.dm_read_types.specs.WholeReaders.{whole_type, whole_bound, parts}
-use Rattle.dm_read_types.proofs.TypeTheorem.{type_decided, bound_decided}
-use Rattle.dm_read_decl.proofs.DeclarationParts.{AreDecided}
-use Rattle.dm_read_decl.proofs.DeclarationGenerics.{reads_generics, reads_where}
-use Rattle.dm_read_decl.proofs.DeclarationRules.{parts_decided}
-use Rattle.dm_read_decl.proofs.Runs.{reads_run}
+use Rattle.dm_read_paths.specs.WholeReaders.{whole_type, whole_bound, parts}
+use Rattle.dm_grammar_laws.proofs.TypeTheorem.{type_decided, bound_decided}
+use Rattle.dm_grammar_laws.proofs.DeclarationParts.{AreDecided}
+use Rattle.dm_grammar_laws.proofs.DeclarationGenerics.{reads_generics, reads_where}
+use Rattle.dm_grammar_laws.proofs.DeclarationRules.{parts_decided}
+use Rattle.dm_grammar_laws.proofs.Runs.{reads_run}
 use Rattle.dm_reread.specs.Next.{Next, in_braces, kind, next}
 use Rattle.dm_reread.specs.Leaves.{ends_type}
 use Rattle.dm_reread.specs.Items.{HeadTree, between_trees}

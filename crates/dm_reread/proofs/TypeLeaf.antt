@@ -11,8 +11,8 @@ use Rattle.dm_ast.specs.TypeGrammar.{type_spelled, node, path_spelled, some_boun
 use Rattle.dm_ast.specs.TypeTokens.{type_trees, path_trees}
 use Rattle.dm_ast.specs.Readers.{Outcome}
 use Rattle.dm_read.proofs.Deciding.{IsRefused, Decides, Reader}
-use Rattle.dm_read_types.specs.WholeReaders.{whole_type}
-use Rattle.dm_read_types.proofs.TypeTheorem.{type_decided}
+use Rattle.dm_read_paths.specs.WholeReaders.{whole_type}
+use Rattle.dm_grammar_laws.proofs.TypeTheorem.{type_decided}
 use Rattle.dm_type_eq.specs.Unplaced.{unplaced_type}
 use Rattle.dm_type_eq.specs.Spelled.{IsSpelled}
 use Rattle.dm_type_eq.proofs.Cutting.{cut_end}

@@ -8,7 +8,7 @@ use Rattle.dm_ast.specs.TypeGrammar.{type_spelled, path_spelled}
 use Rattle.dm_ast.specs.DeclarationGrammar.{generics, where_clause}
 use Rattle.dm_ast.specs.Readers.{tail}
 use Rattle.dm_read.specs.DeclarationReaders as decl
-use Rattle.dm_read_types.specs.WholeReaders.{parts}
+use Rattle.dm_read_paths.specs.WholeReaders.{parts}
 use Rattle.dm_reread.specs.Leaves.{Answer}
 use Rattle.dm_reread.specs.Reading as reading
 use Rattle.dm_reread.specs.Items.{HeadTree, between_trees}

@@ -4,7 +4,7 @@ use Rattle.dm_stream.specs.Trees.{Trees}
 use Rattle.dm_ast.specs.Tree.{TypeTree}
 use Rattle.dm_ast.specs.Spelling.{Where}
 use Rattle.dm_ast.specs.Readers.{Outcome}
-use Rattle.dm_read_types.specs.WholeReaders.{whole_type}
+use Rattle.dm_read_paths.specs.WholeReaders.{whole_type}
 use Rattle.dm_type_eq.specs.Unplaced.{unplaced_type}
 use Rattle.dm_type_eq.specs.Spelled.{IsSpelled}
 use Rattle.dm_reread.specs.Leaves.{Answer}

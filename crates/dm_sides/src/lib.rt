@@ -1,5 +1,7 @@
-//! The operands of emitted methods as text, for which their trees aren't made.
+//! What implementations have in common, as text: the operands of their methods, for which no trees are made, and the parts of their heads,
+//! whose trees are made and dropped here alone.
 #![tactic(auto)]
 
+pub mod heads;
 pub mod made;
 pub mod pattern;

@@ -1,4 +1,5 @@
 //! Trees that are made to be printed alone. What they are is open where they are held, so nothing has to be known of how they are dropped.
+//! How each is dropped is proved here, once: who prints hands what it made to one of these calls, and holds no tree.
 #![tactic(auto, using(crate::proofs::Patterns::pattern_steps))]
 
 ghost use Rattle.std.specs.Prelude.{◌≡◌, map, OnOk, IsOkAnd};
@@ -21,7 +22,7 @@ use dm_stream::Seq;
 use std::alloc::{AllocError, Global};
 
 /// What is laid out by its tokens.
-pub trait Prints: Sized + Drop {
+trait Prints: Sized + Drop {
     ghost trees: { Self → Trees };
 
     fn print(&self, alloc: Global, out: &mut Layout) -> Result<(), AllocError>
@@ -29,7 +30,7 @@ pub trait Prints: Sized + Drop {
 }
 
 /// Adds what was made.
-pub fn print<T: Prints>(
+fn print<T: Prints>(
     made: Result<T, AllocError>,
     alloc: Global,
     out: &mut Layout,
@@ -101,4 +102,59 @@ impl<'a> Prints for Seq<Assoc<'a>> {
     fn print(&self, alloc: Global, out: &mut Layout) -> Result<(), AllocError> {
         assocs(self.as_slice(), alloc, out)
     }
+}
+
+/// Adds a type that was made.
+pub fn made_type(
+    made: Result<Ty<'_>, AllocError>,
+    alloc: Global,
+    out: &mut Layout,
+) -> Result<(), AllocError>
+    ensures { OnOk result (IsOkAnd made.entry (λ t. out.new ≡ lay out.old (type_trees (ty_view t)))) }
+{
+    print(made, alloc, out)
+}
+
+/// Adds a path that was made.
+pub fn made_path(
+    made: Result<Path<'_>, AllocError>,
+    alloc: Global,
+    out: &mut Layout,
+) -> Result<(), AllocError>
+    ensures { OnOk result (IsOkAnd made.entry (λ p. out.new ≡ lay out.old (path_trees nowhere (path_view p)))) }
+{
+    print(made, alloc, out)
+}
+
+/// Adds the parameters of an implementation that were made, in `<..>` where there are some.
+pub fn made_params(
+    made: Result<Seq<GenericParam<'_>>, AllocError>,
+    alloc: Global,
+    out: &mut Layout,
+) -> Result<(), AllocError>
+    ensures { OnOk result (IsOkAnd made.entry (λ all. out.new ≡ lay out.old (tokens.params_trees (map param_view all)))) }
+{
+    print(made, alloc, out)
+}
+
+/// Adds the predicates of an implementation that were made, behind `where` where there are some.
+pub fn made_predicates(
+    made: Result<Seq<WherePredicate<'_>>, AllocError>,
+    alloc: Global,
+    out: &mut Layout,
+) -> Result<(), AllocError>
+    ensures { OnOk result (IsOkAnd made.entry (λ all. out.new ≡ lay out.old (tokens.where_trees (map predicate_view all)))) }
+{
+    print(made, alloc, out)
+}
+
+/// Adds the associated types that were made.
+pub fn made_assocs(
+    made: Result<Seq<Assoc<'_>>, AllocError>,
+    alloc: Global,
+    out: &mut Layout,
+) -> Result<(), AllocError>
+    ensures { OnOk result (IsOkAnd made.entry (λ all. out.new ≡ lay out.old (tokens.in_turn (map tokens.assoc_trees (map assoc_view all))))) }
+{
+    print(made, alloc, out)
 }

@@ -16,7 +16,7 @@ use Rattle.dm_ast.specs.Readers.{Outcome}
 use Rattle.dm_read_paths.specs.TypeReaders.{read_type}
 use Rattle.dm_read_paths.specs.declared.kind.Mode.TheVariants.{Whole}
 use Rattle.dm_read.proofs.Deciding.{IsRefused, Decides}
-use Rattle.dm_read_types.proofs.TypeTheorem.{type_decided}
+use Rattle.dm_grammar_laws.proofs.TypeTheorem.{type_decided}
 use Rattle.dm_type_eq.specs.Unplaced.{unplaced_type}
 use Rattle.dm_type_eq.proofs.SameTokens.{type_same}
 use Rattle.dm_type_eq.proofs.UnplacedSame.{same_unplaced, unplaced_tokens}

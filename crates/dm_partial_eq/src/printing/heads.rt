@@ -3,8 +3,6 @@
 
 ghost use Rattle.std.specs.Prelude.{◌≡◌, [], Some, map, OnOk};
 ghost use Rattle.dm_ast.specs.Declarations.{declaration_view};
-ghost use Rattle.dm_ast.specs.Implementors.{params_of, implementor};
-ghost use Rattle.dm_ast.specs.TypeTokens.{type_trees};
 ghost use Rattle.dm_output.specs.Tokens as tokens;
 ghost use Rattle.dm_print_types.specs.Laying.{lay};
 ghost use Rattle.dm_operands.specs.CaseViews.{case_view};
@@ -12,14 +10,12 @@ ghost use Rattle.dm_partial_eq.specs.Heads.{partial_eq_path};
 ghost use Rattle.dm_partial_eq.specs.Emitted as spec;
 ghost use Rattle.dm_partial_eq.specs.Printed as printed;
 
-use crate::predicates::all_predicates;
+use crate::predicates::predicates;
 use dm_ast::DeriveInput;
-use dm_generics::implementor_type;
-use dm_generics::implementors::params;
 use dm_layout::Layout;
 use dm_operands::cases::CaseRef;
 use dm_print_types::token::fixed;
-use dm_sides::made::print;
+use dm_sides::heads::{declared_params, declared_type};
 use std::alloc::{AllocError, Global};
 
 /// Adds the attributes, and the word behind them.
@@ -33,34 +29,11 @@ fn attributes(out: &mut Layout) -> Result<(), AllocError>
     )
 }
 
-fn parameters(alloc: Global, out: &mut Layout, input: &DeriveInput<'_>) -> Result<(), AllocError>
-    ensures { OnOk result (out.new ≡ lay out.old (tokens.params_trees (params_of (declaration_view input.now)))) }
-{
-    print(params(alloc, input), alloc, out)
-}
-
 /// Adds the trait, and the word behind it.
 fn trait_for(out: &mut Layout) -> Result<(), AllocError>
     ensures { OnOk result (out.new ≡ lay out.old (tokens.trait_trees (Some partial_eq_path))) }
 {
     fixed(out, "derive_more :: core :: cmp :: PartialEq for")
-}
-
-fn declared_type(alloc: Global, out: &mut Layout, input: &DeriveInput<'_>) -> Result<(), AllocError>
-    ensures { OnOk result (out.new ≡ lay out.old (type_trees (implementor (declaration_view input.now)))) }
-{
-    print(implementor_type(alloc, input), alloc, out)
-}
-
-fn predicates<'a>(
-    alloc: Global,
-    out: &mut Layout,
-    input: &DeriveInput<'a>,
-    cases: &[CaseRef<'_, 'a>],
-) -> Result<(), AllocError>
-    ensures { OnOk result (out.new ≡ lay out.old (tokens.where_trees (spec.predicates_for (declaration_view input.now) (map case_view cases.now)))) }
-{
-    print(all_predicates(alloc, input, cases), alloc, out)
 }
 
 /// Adds what stands in front of the implementation's methods.
@@ -73,7 +46,7 @@ pub(crate) fn item_head<'a>(
     ensures { OnOk result (out.new ≡ lay out.old (tokens.head_trees (spec.with_methods (declaration_view input.now) (map case_view cases.now) []))) }
 {
     attributes(out)?;
-    parameters(alloc, out, input)?;
+    declared_params(alloc, out, input)?;
     trait_for(out)?;
     declared_type(alloc, out, input)?;
     predicates(alloc, out, input, cases)

@@ -1,4 +1,4 @@
-use Rattle.dm_derive.specs.Answers.{trait_view}
+use Rattle.dm_printed.specs.Answers.{trait_view}
 use Rattle.dm_derive.proofs.Deriving.{derived, answered, not-derived}
 use Rattle.dm_derive.proofs.derive.derive_known.Goals as goal
 

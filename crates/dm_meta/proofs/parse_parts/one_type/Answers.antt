@@ -1,6 +1,6 @@
 -- A refusal of the type.
 use Rattle.dm_ast.specs.Tree.{ty_view}
-use Rattle.dm_read_types.specs.WholeReaders.{whole_type}
+use Rattle.dm_read_paths.specs.WholeReaders.{whole_type}
 use Rattle.dm_input.proofs.Sequels.{passed_on}
 use Rattle.dm_meta.proofs.parse_parts.one_type.Goals as goal
 

@@ -5,7 +5,7 @@ use Rattle.dm_read_paths.specs.TypeReaders.{read_type}
 use Rattle.dm_ast.specs.Readers.{place}
 use Rattle.dm_meta.proofs.BarePaths.{bare_decided}
 use Rattle.dm_meta.proofs.FrontParts.{front_found, front_refused}
-use Rattle.dm_read_decl.proofs.LicensedDeclarations.{refused_there}
+use Rattle.dm_grammar_laws.proofs.LicensedDeclarations.{refused_there}
 use Rattle.dm_meta.proofs.LicensedFronts.{licensed_bare_path}
 use Rattle.dm_meta.proofs.parse_parts.parse_path.Goals as goal
 

@@ -2,15 +2,15 @@
 use Rattle.std.proofs.Common.{ap, ◌∙◌, refl}
 use Rattle.dm_stream.specs.declared.error.Error.TheVariants as error
 use Rattle.dm_stream.specs.Cursors.{left, front_span}
-use Rattle.dm_read_decl.proofs.Licensing.{syntax_by}
+use Rattle.dm_grammar_laws.proofs.Licensing.{syntax_by}
 use Rattle.dm_ast.specs.Declarations as tree
 use Rattle.dm_ast.specs.Spelling.{at_end}
 use Rattle.dm_ast.specs.DeclarationGrammar.{listed, predicate}
 use Rattle.dm_read.specs.DeclarationReaders.{read_listed, read_predicate}
-use Rattle.dm_read_types.specs.WholeReaders.{parts}
+use Rattle.dm_read_paths.specs.WholeReaders.{parts}
 use Rattle.dm_ast.specs.Readers.{place}
 use Rattle.dm_meta.proofs.FrontParts.{end_found, end_refused, end_missed, predicates_decided}
-use Rattle.dm_read_decl.proofs.LicensedDeclarations.{licensed_predicates}
+use Rattle.dm_grammar_laws.proofs.LicensedDeclarations.{licensed_predicates}
 use Rattle.dm_meta.proofs.parse_parts.parse_predicates.Goals as goal
 
 pub returns-in_err-found-clause-refused : goal.returns-in_err-found-clause-refused

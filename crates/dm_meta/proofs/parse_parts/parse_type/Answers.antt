@@ -2,10 +2,10 @@ use Rattle.std.proofs.Common.{false}
 use Rattle.dm_stream.specs.Cursors.{left}
 use Rattle.dm_ast.specs.Tree.{ty_view}
 use Rattle.dm_ast.specs.TypeGrammar.{type_spelled}
-use Rattle.dm_read_types.specs.WholeReaders.{whole_type}
+use Rattle.dm_read_paths.specs.WholeReaders.{whole_type}
 use Rattle.dm_ast.specs.Readers.{place}
 use Rattle.dm_meta.proofs.FrontParts.{front_found, front_refused, whole_type_decided}
-use Rattle.dm_read_decl.proofs.LicensedDeclarations.{type_refused_at}
+use Rattle.dm_grammar_laws.proofs.LicensedDeclarations.{type_refused_at}
 use Rattle.dm_meta.proofs.parse_parts.parse_type.Goals as goal
 
 pub returns-clause-found : goal.returns-clause-found

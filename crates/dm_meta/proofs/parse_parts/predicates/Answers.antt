@@ -2,7 +2,7 @@
 use Rattle.dm_ast.specs.Declarations.{listed, predicate_view}
 use Rattle.dm_ast.specs.Spelling.{at_end}
 use Rattle.dm_read.specs.DeclarationReaders.{read_listed, read_predicate}
-use Rattle.dm_read_types.specs.WholeReaders.{parts}
+use Rattle.dm_read_paths.specs.WholeReaders.{parts}
 use Rattle.dm_input.proofs.Sequels.{passed_on}
 use Rattle.dm_meta.proofs.parse_parts.predicates.Goals as goal
 

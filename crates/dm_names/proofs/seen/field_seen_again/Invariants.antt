@@ -1,7 +1,7 @@
 use Rattle.std.proofs.Common.{◌≡◌, ℕ, List, [], map, take, drop}
 use Rattle.std.specs.List.{list_any}
 use Rattle.dm_ast.specs.Declarations.{field_view}
-use Rattle.dm_names.specs.Repeats.{repeats, field_again, is_field_called}
+use Rattle.dm_repeats.specs.Repeats.{repeats, field_again, is_field_called}
 use Rattle.dm_names.specs.SeenNames.{was_seen}
 use Rattle.dm_names.proofs.seen.field_seen_again.Given as goal
 

@@ -1,7 +1,7 @@
 use Rattle.std.proofs.Common.{map, take, sym, ◌∙◌}
 use Rattle.std.specs.Str.{bytes_eq}
 use Rattle.dm_ast.specs.Declarations.{param_view}
-use Rattle.dm_names.specs.Repeats.{param_again, is_lifetime_called, is_type_called}
+use Rattle.dm_repeats.specs.Repeats.{param_again, is_lifetime_called, is_type_called}
 use Rattle.dm_names.specs.SeenNames.{was_seen}
 use Rattle.dm_names.proofs.SeenSteps.{repeats_pass, seen_more, seen_more_or, param_seen_is}
 use Rattle.dm_names.proofs.seen.param_seen_again.Goals as goal

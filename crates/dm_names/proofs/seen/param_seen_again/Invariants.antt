@@ -2,7 +2,7 @@ use Rattle.std.proofs.Common.{◌≡◌, ◌||◌, ℕ, List, [], map, take, dro
 use Rattle.std.specs.List.{list_any}
 use Rattle.std.specs.Str.{bytes_eq}
 use Rattle.dm_ast.specs.Declarations.{param_view}
-use Rattle.dm_names.specs.Repeats.{repeats, param_again, is_lifetime_called, is_type_called}
+use Rattle.dm_repeats.specs.Repeats.{repeats, param_again, is_lifetime_called, is_type_called}
 use Rattle.dm_names.specs.SeenNames.{was_seen}
 use Rattle.dm_names.proofs.seen.param_seen_again.Given as goal
 

@@ -1,7 +1,7 @@
 use Rattle.std.proofs.Common.{◌≡◌, ℕ, List, [], map, take, drop}
 use Rattle.std.specs.List.{list_any}
 use Rattle.dm_ast.specs.Declarations.{variant_view}
-use Rattle.dm_names.specs.Repeats.{repeats, variant_again, is_variant_called}
+use Rattle.dm_repeats.specs.Repeats.{repeats, variant_again, is_variant_called}
 use Rattle.dm_names.specs.SeenNames.{was_seen}
 use Rattle.dm_names.proofs.seen.variant_seen_again.Given as goal
 

@@ -5,4 +5,4 @@ use Rattle.dm_sides.proofs.MadeLaws.{made-laid}
 use Rattle.dm_operations.proofs.printing.implemented_trait.Goals as goal
 
 pub returns : goal.returns
-returns c = made-laid c.trait_path.result c.print.result path_view (path_trees nowhere) _ _ _ c.trait_path.ensures c.print.ensures
+returns c = made-laid c.trait_path.result c.made_path.result path_view (path_trees nowhere) _ _ _ c.trait_path.ensures c.made_path.ensures

@@ -23,7 +23,7 @@ returns c =
     let parameters = c.in_ok-params.ensures ∙ ap (λ (l : Laid). lay l (params_trees (item_params form o d))) c.in_ok-item_start.ensures in
     let named = c.in_ok-word.ensures ∙ ap (λ (l : Laid). lay l (word (codes "for")))
     (c.in_ok-implemented_trait.ensures ∙ ap (λ (l : Laid). lay l (path_trees nowhere (implemented form o))) parameters) in
-    let typed = c.in_ok-implementing.ensures ∙ ap (λ (l : Laid). lay l (type_trees (implementor d))) named in
+    let typed = c.in_ok-declared_type.ensures ∙ ap (λ (l : Laid). lay l (type_trees (implementor d))) named in
     on-ok c.predicates.result
     (λ e. e ∙ ap (λ (l : Laid). lay l (where_trees (predicates_in form o d cs))) typed ∙
     head-laid c.args.out.now (item_with form o d cs [] []) (implemented form o) refl) c.predicates.ensures

@@ -6,4 +6,4 @@ use Rattle.dm_operations.proofs.printing.output_type.Goals as goal
 
 pub returns : goal.returns
 returns c =
-    made-laid c.assocs.result c.print.result (map assoc_view) (λ all. in_turn (map assoc_trees all)) _ _ _ c.assocs.ensures c.print.ensures
+    made-laid c.assocs.result c.made_assocs.result (map assoc_view) (λ all. in_turn (map assoc_trees all)) _ _ _ c.assocs.ensures c.made_assocs.ensures

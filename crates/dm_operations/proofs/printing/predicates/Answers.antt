@@ -5,4 +5,4 @@ use Rattle.dm_sides.proofs.MadeLaws.{made-laid}
 use Rattle.dm_operations.proofs.printing.predicates.Goals as goal
 
 pub returns : goal.returns
-returns c = made-laid c.all_predicates.result c.print.result (map predicate_view) where_trees _ _ _ c.all_predicates.ensures c.print.ensures
+returns c = made-laid c.all_predicates.result c.made_predicates.result (map predicate_view) where_trees _ _ _ c.all_predicates.ensures c.made_predicates.ensures

@@ -1,7 +1,7 @@
 -- A type and its bounds.
 use Rattle.dm_ast.specs.Tree.{ty_view, bound_view}
 use Rattle.dm_ast.specs.Declarations.{listed}
-use Rattle.dm_read_types.specs.WholeReaders.{whole_type}
+use Rattle.dm_read_paths.specs.WholeReaders.{whole_type}
 use Rattle.dm_read_decl.specs.Rules.{read_some_bounds}
 use Rattle.dm_input.proofs.Sequels.{both_reads}
 use Rattle.dm_read_decl.proofs.generics.bounded.Goals as goal

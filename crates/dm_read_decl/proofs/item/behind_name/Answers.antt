@@ -1,6 +1,6 @@
 -- What follows the generics.
 use Rattle.dm_read.specs.DeclarationReaders.{read_generics}
-use Rattle.dm_read_types.specs.WholeReaders.{parts}
+use Rattle.dm_read_paths.specs.WholeReaders.{parts}
 use Rattle.dm_read_decl.specs.ShapeViews.{angled_view}
 use Rattle.dm_input.proofs.Sequels.{both_reads}
 use Rattle.dm_read_decl.proofs.item.behind_name.Goals as goal

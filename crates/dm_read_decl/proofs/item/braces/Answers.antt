@@ -2,7 +2,7 @@
 use Rattle.dm_stream.specs.declared.tokens.Delim.TheVariants.{Brace}
 use Rattle.dm_ast.specs.Declarations.{listed}
 use Rattle.dm_read.specs.DeclarationReaders.{read_where}
-use Rattle.dm_read_types.specs.WholeReaders.{parts}
+use Rattle.dm_read_paths.specs.WholeReaders.{parts}
 use Rattle.dm_read_decl.specs.Rules.{enclosed}
 use Rattle.dm_read_decl.specs.ShapeViews.{clause_view}
 use Rattle.dm_input.proofs.Sequels.{both_reads}

@@ -1,7 +1,7 @@
 -- What stands behind the `where` clause.
 use Rattle.dm_ast.specs.Declarations.{fields_view}
 use Rattle.dm_read.specs.DeclarationReaders.{read_where, read_named_or_unit}
-use Rattle.dm_read_types.specs.WholeReaders.{parts}
+use Rattle.dm_read_paths.specs.WholeReaders.{parts}
 use Rattle.dm_read_decl.specs.ShapeViews.{clause_view}
 use Rattle.dm_input.proofs.Sequels.{both_reads}
 use Rattle.dm_read_decl.proofs.item.other_body.Goals as goal

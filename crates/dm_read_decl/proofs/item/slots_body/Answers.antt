@@ -1,7 +1,7 @@
 -- What stands behind the parentheses.
 use Rattle.dm_ast.specs.Declarations.{listed, field_view}
 use Rattle.dm_read.specs.DeclarationReaders.{read_slots}
-use Rattle.dm_read_types.specs.WholeReaders.{parts}
+use Rattle.dm_read_paths.specs.WholeReaders.{parts}
 use Rattle.dm_read_decl.specs.Rules.{read_ended_where}
 use Rattle.dm_read_decl.specs.ShapeViews.{clause_view}
 use Rattle.dm_input.proofs.Sequels.{both_reads}

@@ -1,6 +1,6 @@
 -- A type and a value.
 use Rattle.dm_ast.specs.Tree.{ty_view}
-use Rattle.dm_read_types.specs.WholeReaders.{whole_type}
+use Rattle.dm_read_paths.specs.WholeReaders.{whole_type}
 use Rattle.dm_read_decl.specs.Rules.{read_value}
 use Rattle.dm_input.proofs.Sequels.{both_reads}
 use Rattle.dm_read_decl.proofs.param.type_value.Goals as goal

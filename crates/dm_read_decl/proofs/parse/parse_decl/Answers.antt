@@ -1,5 +1,5 @@
 -- What is read is the declaration, and what is refused is none.
-use Rattle.dm_read_decl.proofs.DeclarationTheorem.{decl_found, decl_refused}
+use Rattle.dm_grammar_laws.proofs.DeclarationTheorem.{decl_found, decl_refused}
 use Rattle.dm_read_decl.proofs.parse.parse_decl.Goals as goal
 
 pub returns-clause-found : goal.returns-clause-found

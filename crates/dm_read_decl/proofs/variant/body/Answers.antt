@@ -1,7 +1,7 @@
 -- The fields and the discriminant.
 use Rattle.dm_ast.specs.Declarations.{fields_view}
 use Rattle.dm_read.specs.DeclarationReaders.{read_variant_fields, read_discriminant}
-use Rattle.dm_read_types.specs.WholeReaders.{parts}
+use Rattle.dm_read_paths.specs.WholeReaders.{parts}
 use Rattle.dm_input.proofs.Sequels.{both_reads}
 use Rattle.dm_read_decl.proofs.variant.body.Goals as goal
 

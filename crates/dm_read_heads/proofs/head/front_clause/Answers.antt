@@ -3,7 +3,7 @@ use Rattle.std.proofs.Common.{◌≡◌, Some, Err, sym, ap, ◌∙◌, subst}
 use Rattle.dm_stream.specs.Cursors.{left, end_of}
 use Rattle.dm_stream.specs.Trees.{Trees}
 use Rattle.dm_read.specs.DeclarationReaders as decl
-use Rattle.dm_read_types.specs.WholeReaders.{parts}
+use Rattle.dm_read_paths.specs.WholeReaders.{parts}
 use Rattle.dm_read_decl.specs.ShapeViews.{clause_view}
 use Rattle.dm_reread.specs.HeadLeaves.{read_where}
 use Rattle.dm_reread.proofs.FreeDeclarations.{where_free}

@@ -3,7 +3,7 @@ use Rattle.std.proofs.Common.{◌≡◌, Some, Ok, sym, ap, ◌∙◌, subst}
 use Rattle.dm_stream.specs.Cursors.{left, end_of}
 use Rattle.dm_ast.specs.Tree.{ty_view}
 use Rattle.dm_input.specs.State.{State}
-use Rattle.dm_read_types.specs.WholeReaders.{whole_type}
+use Rattle.dm_read_paths.specs.WholeReaders.{whole_type}
 use Rattle.dm_reread.specs.TypeLeaves.{read_type}
 use Rattle.dm_read_leaves.proofs.TypeSteps.{type_read}
 use Rattle.dm_read_leaves.proofs.ty.front_type.Goals as goal

@@ -16,7 +16,7 @@ pub returns : goal.returns
 returns c =
     let d = declaration_view c.args.input.now in
     let vs = map case_view c.args.cases.now in
-    let named = c.in_ok-parameters.ensures ∙ ap (λ (l : Laid). lay l (params_trees (params_of d))) c.in_ok-attributes.ensures in
+    let named = c.in_ok-declared_params.ensures ∙ ap (λ (l : Laid). lay l (params_trees (params_of d))) c.in_ok-attributes.ensures in
     let before = c.in_ok-trait_for.ensures ∙ ap (λ (l : Laid). lay l (trait_trees (Some partial_eq_path))) named in
     let typed = c.in_ok-declared_type.ensures ∙ ap (λ (l : Laid). lay l (type_trees (implementor d))) before in
     on-ok c.predicates.result (λ e. e ∙ ap (λ (l : Laid). lay l (where_trees (predicates_for d vs))) typed ∙ head-laid c.args.out.now d vs) c.predicates.ensures

@@ -2,7 +2,7 @@
 use Rattle.dm_ast.specs.Declarations.{param_view}
 use Rattle.dm_ast.specs.PlainReaders.{read_attributes}
 use Rattle.dm_read.specs.DeclarationReaders.{read_param_behind}
-use Rattle.dm_read_types.specs.WholeReaders.{parts}
+use Rattle.dm_read_paths.specs.WholeReaders.{parts}
 use Rattle.dm_input.proofs.Sequels.{then_reads}
 use Rattle.dm_read_decl.proofs.param.ParamRuleRule.read.Goals as goal
 

@@ -1,7 +1,0 @@
-use Rattle.dm_ast.specs.Tree.{ty_view}
-use Rattle.dm_ast.specs.TypeTokens.{type_trees}
-use Rattle.dm_sides.proofs.MadeLaws.{made-laid}
-use Rattle.dm_operations.proofs.printing.implementing.Goals as goal
-
-pub returns : goal.returns
-returns c = made-laid c.implementor_type.result c.print.result ty_view type_trees _ _ _ c.implementor_type.ensures c.print.ensures

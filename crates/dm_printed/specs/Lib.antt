@@ -1,0 +1,5 @@
+pub mod Traits
+pub mod Texts
+pub mod Answers
+pub mod Derived
+pub mod Counts

@@ -1,0 +1,110 @@
+//! How many predicates an implementation has.
+#![tactic(auto, using(crate::proofs::Counting::counting_steps))]
+
+ghost use Rattle.std.specs.Prelude.{◌≡◌, Ok, Err, length, map, IfOk, IsOkAnd, MatchResult};
+ghost use Rattle.dm_ast.specs.Declarations.{declaration_view, predicate_view};
+ghost use Rattle.dm_attr.specs.Answers.{IsWalked};
+ghost use Rattle.dm_operands.specs.CaseViews.{case_view};
+ghost use Rattle.dm_operands.specs.Readable.{IsReadable};
+ghost use Rattle.dm_partial_eq.specs.Checks as comparing;
+ghost use Rattle.dm_partial_eq.specs.Emitted as compared;
+ghost use Rattle.dm_operators.specs.Implementations.{item_of};
+ghost use Rattle.dm_operators.specs.Refusals as operating;
+ghost use Rattle.dm_operators.specs.Table.{operator_view};
+ghost use Rattle.dm_printed.specs.Traits as spec;
+ghost use Rattle.dm_printed.specs.Answers.{IsDerived, trait_view};
+ghost use Rattle.dm_printed.specs.Counts.{TraitCounts};
+
+use crate::traits::{Trait, printed};
+use dm_ast::{DeriveInput, WherePredicate};
+use dm_bounds::needed::with_needed;
+use dm_operands::cases::CaseRef;
+use dm_operands::places::cases_of;
+use dm_operators::operator::Operator;
+use dm_operators::places::plan_for;
+use dm_operators::predicates::{Implemented, all_predicates};
+use dm_partial_eq::predicates::Compares;
+use dm_stream::{Error, Seq};
+use std::alloc::{AllocError, Global};
+
+/// The predicates of the implementation of `PartialEq` for these cases.
+fn compared_predicates<'a>(
+    alloc: Global,
+    input: &DeriveInput<'a>,
+    cases: &[CaseRef<'_, 'a>],
+) -> Result<Seq<WherePredicate<'a>>, AllocError>
+    ensures { IfOk result (λ ps. map predicate_view ps ≡ compared.predicates_for (declaration_view input.now) (map case_view cases.now)) }
+{
+    with_needed(cases, input, &Compares, alloc)
+}
+
+/// How many there are of what was made.
+fn number<T: Drop>(made: Result<Seq<T>, AllocError>) -> Result<usize, AllocError>
+    ensures { IfOk result (λ n. IsOkAnd made (λ all. n ≡ length all)) }
+{
+    match made {
+        Ok(all) => Ok(all.len()),
+        Err(error) => Err(error),
+    }
+}
+
+fn compared_count(alloc: Global, input: &DeriveInput<'_>) -> Result<usize, Error>
+    ensures { IsWalked (comparing.refusal (declaration_view input.now)) (λ n. n ≡ length (compared.item (declaration_view input.now)).predicates) result }
+{
+    let cases = cases_of(alloc, input)?;
+    Ok(number(compared_predicates(alloc, input, cases.as_slice()))?)
+}
+
+fn operated_count(
+    alloc: Global,
+    operator: &Operator,
+    input: &DeriveInput<'_>,
+) -> Result<usize, Error>
+    ensures { IsWalked (operating.refusal (operator_view operator.now) (declaration_view input.now))
+        (λ n. n ≡ length (item_of (operator_view operator.now) (declaration_view input.now)).predicates) result }
+{
+    let plan = plan_for(alloc, operator, input)?;
+    let implemented = Implemented {
+        form: plan.form,
+        operator: *operator,
+    };
+    let cases = plan.cases.as_slice();
+    Ok(number(all_predicates(alloc, &implemented, input, cases))?)
+}
+
+/// How many predicates the trait's implementation for a declaration has.
+fn count(alloc: Global, derived: Trait, input: &DeriveInput<'_>) -> Result<usize, Error>
+    ensures { IsWalked (spec.refusal (trait_view derived) (declaration_view input.now))
+        (λ n. n ≡ length (spec.emitted (trait_view derived) (declaration_view input.now)).predicates) result }
+{
+    match derived {
+        Trait::PartialEq => compared_count(alloc, input),
+        Trait::Operator(operator) => operated_count(alloc, &operator, input),
+    }
+}
+
+/// A number, where the text beside it could be made.
+fn beside<T: Drop>(number: usize, text: Result<T, Error>) -> Result<usize, Error>
+    ensures { MatchResult text (λ _. result ≡ Ok number) (λ e. result ≡ Err e) }
+{
+    match text {
+        Ok(_text) => Ok(number),
+        Err(error) => Err(error),
+    }
+}
+
+/// How many predicates the implementation has that the trait prints for a declaration.
+pub(crate) fn counted(
+    alloc: Global,
+    derived: Trait,
+    input: &DeriveInput<'_>,
+) -> Result<usize, Error>
+    requires derived { IsDerived derived }
+    requires readable { IsReadable (declaration_view input.now) }
+    ensures { TraitCounts (trait_view derived) (declaration_view input.now) result }
+{
+    match count(alloc, derived, input) {
+        Ok(predicates) => beside(predicates, printed(alloc, derived, input)),
+        Err(error) => Err(error),
+    }
+}

@@ -1,0 +1,8 @@
+use Rattle.std.proofs.Common.{◌≡◌, map, drop}
+use Rattle.std.specs.List.{list_any}
+use Rattle.dm_ast.specs.Declarations.{param_view}
+use Rattle.dm_repeats.specs.Repeats.{is_type_called}
+use Rattle.dm_repeats.proofs.repeats.has_type.Given as goal
+
+abbrev pub invariant-loop-param : goal.invariant-loop-param
+invariant-loop-param l = list_any (is_type_called l.name) (map param_view l.all) ≡ list_any (is_type_called l.name) (map param_view (drop l.param-index l.all))

@@ -1,0 +1,4 @@
+//! The first name that a declaration declares again.
+#![tactic(auto)]
+
+pub mod repeats;

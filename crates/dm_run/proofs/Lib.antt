@@ -1,0 +1,5 @@
+pub mod Lines
+pub mod RunLemmas
+pub mod Sampling
+pub mod Ending
+pub mod Turning

@@ -1,0 +1,38 @@
+//! What the head of an implementation takes over from a declaration, as text.
+#![tactic(auto, using(crate::proofs::Patterns::pattern_steps))]
+
+ghost use Rattle.std.specs.Prelude.{◌≡◌, OnOk};
+ghost use Rattle.dm_ast.specs.Declarations.{declaration_view};
+ghost use Rattle.dm_ast.specs.Implementors as spec;
+ghost use Rattle.dm_ast.specs.TypeTokens.{type_trees};
+ghost use Rattle.dm_output.specs.Tokens as tokens;
+ghost use Rattle.dm_print_types.specs.Laying.{lay};
+
+use crate::made::{made_params, made_type};
+use dm_ast::DeriveInput;
+use dm_generics::implementor_type;
+use dm_generics::implementors::params;
+use dm_layout::Layout;
+use std::alloc::{AllocError, Global};
+
+/// Adds the declared parameters, lifetimes first, in `<..>` where there are some.
+pub fn declared_params(
+    alloc: Global,
+    out: &mut Layout,
+    input: &DeriveInput<'_>,
+) -> Result<(), AllocError>
+    ensures { OnOk result (out.new ≡ lay out.old (tokens.params_trees (spec.params_of (declaration_view input.now)))) }
+{
+    made_params(params(alloc, input), alloc, out)
+}
+
+/// Adds the declared type with an argument for each of its parameters.
+pub fn declared_type(
+    alloc: Global,
+    out: &mut Layout,
+    input: &DeriveInput<'_>,
+) -> Result<(), AllocError>
+    ensures { OnOk result (out.new ≡ lay out.old (type_trees (spec.implementor (declaration_view input.now)))) }
+{
+    made_type(implementor_type(alloc, input), alloc, out)
+}
