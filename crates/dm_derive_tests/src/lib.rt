@@ -1,13 +1,11 @@
-//! Declarations and their implementations, refusals, and whole runs of the program.
+//! What no table of declarations shows: runs and how they end, samples, many variants, and implementations as trees.
 #![tactic(auto)]
 
 #[cfg(test)]
-mod answers;
+mod copies;
 #[cfg(test)]
-mod heads;
-#[cfg(test)]
-mod implementations;
+mod large;
 #[cfg(test)]
 mod runs;
 #[cfg(test)]
-mod variants;
+mod splits;

@@ -1,7 +1,7 @@
-use crate::answers::referred;
-use dm_derive::{LARGEST_INPUT, MemSink, MemSource, Status, derive_main, split};
+//! Whole runs: what is written, and how they end.
+
+use dm_derive::{LARGEST_INPUT, MemSink, MemSource, Status, derive_main};
 use std::alloc::{AllocError, Global};
-use std::process::Abort;
 
 const INPUT: &[u8] = b"PartialEq\nstruct P(i32);";
 
@@ -9,25 +9,10 @@ const INPUT: &[u8] = b"PartialEq\nstruct P(i32);";
 const ONE_FIELD: &[u8] =
     b"# [allow (private_bounds)] # [automatically_derived] impl derive_more :: core :: cmp :: PartialEq for P { # [inline] fn eq (& self , __other : & Self) -> bool { match (self , __other) { (Self (__self_0 ,) , Self (__other_0 ,)) => { __self_0 == __other_0 } , } } # [inline] fn ne (& self , __other : & Self) -> bool { match (self , __other) { (Self (__self_0 ,) , Self (__other_0 ,)) => { __self_0 != __other_0 } , } } }\n";
 
-/// The implementation for `struct P();`.
-const NO_FIELD: &[u8] =
-    b"# [allow (private_bounds)] # [automatically_derived] impl derive_more :: core :: cmp :: PartialEq for P { # [inline] fn eq (& self , __other : & Self) -> bool { true } }\n";
-
-/// The implementation for `struct P<T>(T);`.
-const GENERIC: &[u8] =
-    b"# [allow (private_bounds)] # [automatically_derived] impl < T > derive_more :: core :: cmp :: PartialEq for P < T > where T : derive_more :: core :: cmp :: PartialEq { # [inline] fn eq (& self , __other : & Self) -> bool { match (self , __other) { (Self (__self_0 ,) , Self (__other_0 ,)) => { __self_0 == __other_0 } , } } # [inline] fn ne (& self , __other : & Self) -> bool { match (self , __other) { (Self (__self_0 ,) , Self (__other_0 ,)) => { __self_0 != __other_0 } , } } }\n";
-
-/// The implementation for `struct r#P(i32);`.
-const RAW_NAME: &[u8] =
-    b"# [allow (private_bounds)] # [automatically_derived] impl derive_more :: core :: cmp :: PartialEq for r#P { # [inline] fn eq (& self , __other : & Self) -> bool { match (self , __other) { (Self (__self_0 ,) , Self (__other_0 ,)) => { __self_0 == __other_0 } , } } # [inline] fn ne (& self , __other : & Self) -> bool { match (self , __other) { (Self (__self_0 ,) , Self (__other_0 ,)) => { __self_0 != __other_0 } , } } }\n";
-
-/// The implementation for `struct P(A, B);`.
-const TWO_FIELDS: &[u8] =
-    b"# [allow (private_bounds)] # [automatically_derived] impl derive_more :: core :: cmp :: PartialEq for P { # [inline] fn eq (& self , __other : & Self) -> bool { match (self , __other) { (Self (__self_0 , __self_1 ,) , Self (__other_0 , __other_1 ,)) => { __self_0 == __other_0 && __self_1 == __other_1 } , } } # [inline] fn ne (& self , __other : & Self) -> bool { match (self , __other) { (Self (__self_0 , __self_1 ,) , Self (__other_0 , __other_1 ,)) => { __self_0 != __other_0 || __self_1 != __other_1 } , } } }\n";
-
-/// A source and a sink, and how they fail.
+/// Words, a source and a sink, and how the latter two fail.
 #[derive(Clone, Copy)]
 struct Outside<'a> {
+    words: &'a [&'a str],
     bytes: &'a [u8],
     failing_reads: &'a [u32],
     failing_writes: &'a [u32],
@@ -36,6 +21,7 @@ struct Outside<'a> {
 
 fn sound(bytes: &[u8]) -> Outside<'_> {
     Outside {
+        words: &[],
         bytes,
         failing_reads: &[],
         failing_writes: &[],
@@ -43,269 +29,215 @@ fn sound(bytes: &[u8]) -> Outside<'_> {
     }
 }
 
-fn run(
-    alloc: Global,
-    words: &[String],
-    outside: Outside<'_>,
-) -> Result<(Status, MemSink), AllocError> {
-    let bytes = Vec::from_slice(alloc, outside.bytes)?;
-    let failing_reads = Vec::from_slice(alloc, outside.failing_reads)?;
-    let failing_writes = Vec::from_slice(alloc, outside.failing_writes)?;
-    let mut source = MemSource::new(bytes, 8, failing_reads);
-    let mut sink = MemSink::new(alloc, outside.room, 10, failing_writes)?;
-    let status = derive_main(alloc, words, &mut source, &mut sink);
-    Ok((status, sink))
-}
-
-/// A run of `PartialEq` on a declaration.
-pub fn derived(alloc: Global, decl: &str) -> Result<(Status, MemSink), AllocError> {
-    let mut input = Vec::from_slice(alloc, b"PartialEq\n")?;
-    input.extend_from_slice(decl.as_bytes())?;
-    run(alloc, &[], sound(input.as_slice()))
-}
-
-#[test]
-fn implementations(rt: HostRuntime) -> Result<(), AllocError> {
-    let alloc = rt.alloc();
-    for (input, text) in [
-        (INPUT, ONE_FIELD),
-        (b"PartialEq\r\nstruct P(i32);".as_slice(), ONE_FIELD),
-        (b"PartialEq\nstruct P(i32,);\n".as_slice(), ONE_FIELD),
-        (b"PartialEq\nstruct P();".as_slice(), NO_FIELD),
-        (b"PartialEq\nstruct P<T>(T);".as_slice(), GENERIC),
-        (b"PartialEq\nstruct P(A, B);".as_slice(), TWO_FIELDS),
-        (
-            b"PartialEq\n\tstruct\r\nP ( A,B , );".as_slice(),
-            TWO_FIELDS,
-        ),
-        (
-            b"PartialEq\n// \"\n/* /**/ */ struct r#P(r#fn); // x".as_slice(),
-            RAW_NAME,
-        ),
-    ] {
-        let (status, sink) = run(alloc, &[], sound(input))?;
-        assert!(rt; status == Status::Done && sink.written() == text);
+fn words_of(alloc: Global, words: &[&str]) -> Result<Vec<String>, AllocError> {
+    let mut all = Vec::new(alloc);
+    for word in words.iter().copied() {
+        let word = String::from_str(alloc, word)?;
+        all.push(word)?;
     }
-    Ok(())
+    Ok(all)
 }
 
-/// Inputs, and the line of the refusal.
-const REFUSALS: &[(&[u8], &[u8])] = &[
+fn source_of(alloc: Global, outside: Outside<'_>) -> Result<MemSource, AllocError> {
+    let bytes = Vec::from_slice(alloc, outside.bytes)?;
+    let failing = Vec::from_slice(alloc, outside.failing_reads)?;
+    Ok(MemSource::new(bytes, 8, failing))
+}
+
+fn sink_of(alloc: Global, outside: Outside<'_>) -> Result<MemSink, AllocError> {
+    let failing = Vec::from_slice(alloc, outside.failing_writes)?;
+    MemSink::new(alloc, outside.room, 10, failing)
+}
+
+/// Whether a run ends so, with this written.
+fn ends(
+    alloc: Global,
+    outside: Outside<'_>,
+    status: Status,
+    written: &[u8],
+) -> Result<bool, AllocError> {
+    let words = words_of(alloc, outside.words)?;
+    let mut source = source_of(alloc, outside)?;
+    let mut sink = sink_of(alloc, outside)?;
+    let ended = derive_main(alloc, words.as_slice(), &mut source, &mut sink);
+    Ok(ended == status && sink.written() == written)
+}
+
+/// An input, how its run ends, and what that writes.
+type Run = (&'static [u8], Status, &'static [u8]);
+
+const RUNS: &[Run] = &[
+    (INPUT, Status::Done, ONE_FIELD),
+    (b"PartialEq\r\nstruct P(i32);", Status::Done, ONE_FIELD),
     (
-        b"PartialEq\n",
-        b"Syntax 0..0: not one struct, enum or union declaration\n",
+        b"Hash\nstruct S;",
+        Status::Refused,
+        b"UnknownTrait 0..0: no derive of this name\n",
     ),
     (
         b"PartialEq\nstruct P(A)",
+        Status::Refused,
         b"Syntax 11..11: not one struct, enum or union declaration\n",
     ),
-    (
-        b"PartialEq\nstruct P(fn);",
-        b"Syntax 11..11: not one struct, enum or union declaration\n",
-    ),
-    (
-        b"PartialEq\nstruct P(m!());",
-        b"Unsupported 9..13: left out of this port\n",
-    ),
-    (
-        b"PartialEq\nstruct P<T, T>(T);",
-        b"DuplicateName 12..13: name is declared twice\n",
-    ),
-    (
-        b"PartialEq\nstruct __P(A);",
-        b"ReservedName 7..10: name is reserved\n",
-    ),
-    (
-        b"PartialEq\nstruct derive_more(A);",
-        b"ReservedName 7..18: name is reserved\n",
-    ),
-    (
-        b"PartialEq\nstruct r#__P(A);",
-        b"ReservedName 7..12: name is reserved\n",
-    ),
-    (
-        b"PartialEq\n#[eq] struct P(A);",
-        b"AttrSyntax 0..5: attribute does not read here\n",
-    ),
-    (
-        b"PartialEq\nstruct S([u8; 1e5]);",
-        b"Lex 14..17: text is not made of tokens\n",
-    ),
-    (
-        b"PartialEq\nstruct S(u8",
-        b"Lex 8..9: text is not made of tokens\n",
-    ),
-    (b"Hash\n\"", b"UnknownTrait 0..0: no derive of this name\n"),
-    (
-        b"Hash\nstruct S;",
-        b"UnknownTrait 0..0: no derive of this name\n",
-    ),
-    (
-        b"partialeq\nstruct P(A);",
-        b"UnknownTrait 0..0: no derive of this name\n",
-    ),
-    (
-        b"PartialEq\nunion U { a: u8 }",
-        b"WrongShape 0..5: trait cannot be derived for this shape\n",
-    ),
-    (
-        b"PartialEq\nstruct S(m!(u8));",
-        b"Unsupported 9..15: left out of this port\n",
-    ),
-    (
-        b"PartialEq\nstruct S { a u8 }",
-        b"Syntax 13..15: not one struct, enum or union declaration\n",
-    ),
-    (
-        b"PartialEq\nenum E { A B }",
-        b"Syntax 11..12: not one struct, enum or union declaration\n",
-    ),
-    (
-        b"PartialEq\nstruct 1;",
-        b"Syntax 7..8: not one struct, enum or union declaration\n",
-    ),
-    (
-        b"PartialEq\nstruct S",
-        b"Syntax 8..8: not one struct, enum or union declaration\n",
-    ),
-    (
-        b"PartialEq\nstruct S { a: u8, r#a: u8 }",
-        b"DuplicateName 18..21: name is declared twice\n",
-    ),
-    (
-        b"PartialEq\nstruct S { __a: u8 }",
-        b"ReservedName 11..14: name is reserved\n",
-    ),
-    (
-        b"PartialEq\nstruct S(#[eq(skip)] #[eq(skip)] u8);",
-        b"AttrRepeated 21..32: attribute may be given once\n",
-    ),
+    (b"PartialEq", Status::BadInput, b""),
+    (b"", Status::BadInput, b""),
+    (b"PartialEq\nstruct P(\xff);", Status::BadInput, b""),
 ];
 
-#[test]
-fn refusals(rt: HostRuntime) -> Result<(), AllocError> {
-    let alloc = rt.alloc();
-    for (input, line) in REFUSALS.iter().copied() {
-        let (status, sink) = run(alloc, &[], sound(input))?;
-        assert!(rt; status == Status::Refused && sink.written() == line);
+/// The first input whose run ends otherwise.
+fn first_other_run(alloc: Global) -> Result<Option<&'static [u8]>, AllocError> {
+    for (input, status, written) in RUNS.iter().copied() {
+        if !ends(alloc, sound(input), status, written)? {
+            return Ok(Some(input));
+        }
     }
-    Ok(())
+    Ok(None)
 }
 
 #[test]
-fn bad_inputs(rt: HostRuntime) -> Result<(), AllocError> {
-    let alloc = rt.alloc();
-    for input in [
-        b"PartialEq".as_slice(),
-        b"".as_slice(),
-        b"PartialEq\nstruct P(\xff);".as_slice(),
-    ] {
-        let (status, sink) = run(alloc, &[], sound(input))?;
-        assert!(rt; status == Status::BadInput && sink.written() == b"".as_slice());
-    }
+fn runs(rt: HostRuntime) -> Result<(), AllocError> {
+    assert_eq!(rt; first_other_run(rt.alloc())?, None);
     Ok(())
+}
+
+/// The reads and the writes that fail, the room of the sink, how the run ends, and what it writes.
+type Failure = (&'static [u32], &'static [u32], usize, Status, &'static [u8]);
+
+const FAILURES: &[Failure] = &[
+    (&[2], &[], 10_000, Status::ReadFault, b""),
+    (&[], &[2], 10_000, Status::WriteFault, b"# [allow ("),
+    (&[], &[], 3, Status::WriteFault, b"# ["),
+];
+
+/// The number of failures that end so, up to the first other.
+fn failures_in_front(alloc: Global) -> Result<usize, AllocError> {
+    let mut count = 0usize;
+    for (failing_reads, failing_writes, room, status, written) in FAILURES.iter().copied() {
+        let outside = Outside {
+            failing_reads,
+            failing_writes,
+            room,
+            ..sound(INPUT)
+        };
+        if !ends(alloc, outside, status, written)? {
+            return Ok(count);
+        }
+        count = count.saturating_add(1);
+    }
+    Ok(count)
 }
 
 #[test]
 fn failures(rt: HostRuntime) -> Result<(), AllocError> {
-    let alloc = rt.alloc();
-    let outside = Outside {
-        failing_reads: &[2],
-        ..sound(INPUT)
-    };
-    let (status, sink) = run(alloc, &[], outside)?;
-    assert!(rt; status == Status::ReadFault && sink.written() == b"".as_slice());
-    let outside = Outside {
-        failing_writes: &[2],
-        ..sound(INPUT)
-    };
-    let (status, sink) = run(alloc, &[], outside)?;
-    assert!(rt; status == Status::WriteFault && sink.written() == b"# [allow (".as_slice());
-    let outside = Outside {
-        room: 3,
-        ..sound(INPUT)
-    };
-    let (status, sink) = run(alloc, &[], outside)?;
-    assert!(rt; status == Status::WriteFault && sink.written() == b"# [".as_slice());
+    assert_eq!(rt; failures_in_front(rt.alloc())?, FAILURES.len());
     Ok(())
+}
+
+/// What the traits answer to two variants. An enum has no assigning operator, and none whose right side is any value.
+const TWO: &[u8] = b"PartialEq done 1 1
+Add done 1 1
+BitAnd done 1 1
+BitOr done 1 1
+BitXor done 1 1
+Sub done 1 1
+AddAssign WrongShape 0..4
+BitAndAssign WrongShape 0..4
+BitOrAssign WrongShape 0..4
+BitXorAssign WrongShape 0..4
+SubAssign WrongShape 0..4
+Div WrongShape 0..4
+Mul WrongShape 0..4
+Rem WrongShape 0..4
+Shl WrongShape 0..4
+Shr WrongShape 0..4
+DivAssign WrongShape 0..4
+MulAssign WrongShape 0..4
+RemAssign WrongShape 0..4
+ShlAssign WrongShape 0..4
+ShrAssign WrongShape 0..4
+Not done 1 0
+Neg done 1 0
+";
+
+/// What they answer to the largest sample, in which 1333 variants have a field of the parameter's type.
+const LARGEST: &[u8] = b"PartialEq done 1 1333
+Add done 1 1333
+BitAnd done 1 1333
+BitOr done 1 1333
+BitXor done 1 1333
+Sub done 1 1333
+AddAssign WrongShape 0..4
+BitAndAssign WrongShape 0..4
+BitOrAssign WrongShape 0..4
+BitXorAssign WrongShape 0..4
+SubAssign WrongShape 0..4
+Div WrongShape 0..4
+Mul WrongShape 0..4
+Rem WrongShape 0..4
+Shl WrongShape 0..4
+Shr WrongShape 0..4
+DivAssign WrongShape 0..4
+MulAssign WrongShape 0..4
+RemAssign WrongShape 0..4
+ShlAssign WrongShape 0..4
+ShrAssign WrongShape 0..4
+Not done 1 0
+Neg done 1 0
+";
+
+/// Words, the room of the sink, how the run ends, and what it writes. Its source fails at once.
+type Asked = (&'static [&'static str], usize, Status, &'static [u8]);
+
+const ASKED: &[Asked] = &[
+    (&["sample", "2"], 1_000, Status::Done, TWO),
+    (&["sample", "2"], 9, Status::WriteFault, b"PartialEq"),
+    (&["sample", "2000"], 2_000, Status::Done, LARGEST),
+    (&["help"], 1_000, Status::Usage, b""),
+    (&["sample"], 1_000, Status::Usage, b""),
+    (&["sample", ""], 1_000, Status::Usage, b""),
+    (&["sample", "0"], 1_000, Status::Usage, b""),
+    (&["sample", "02"], 1_000, Status::Usage, b""),
+    (&["sample", "+2"], 1_000, Status::Usage, b""),
+    (&["sample", "2a"], 1_000, Status::Usage, b""),
+    (&["sample", "2001"], 1_000, Status::Usage, b""),
+    (&["sample", "99999999999"], 1_000, Status::Usage, b""),
+    (&["sample", "2", "2"], 1_000, Status::Usage, b""),
+    (&["samples", "2"], 1_000, Status::Usage, b""),
+    (&["2", "sample"], 1_000, Status::Usage, b""),
+];
+
+/// The number of words that are answered so, up to the first other.
+fn asked_in_front(alloc: Global) -> Result<usize, AllocError> {
+    let mut count = 0usize;
+    for (words, room, status, written) in ASKED.iter().copied() {
+        let outside = Outside {
+            words,
+            failing_reads: &[1],
+            room,
+            ..sound(INPUT)
+        };
+        if !ends(alloc, outside, status, written)? {
+            return Ok(count);
+        }
+        count = count.saturating_add(1);
+    }
+    Ok(count)
 }
 
 #[test]
-fn usage(rt: HostRuntime) -> Result<(), AllocError> {
-    let alloc = rt.alloc();
-    let word = String::from_str(alloc, "sample")?;
-    let (status, sink) = run(alloc, &[word], sound(INPUT))?;
-    assert!(rt; status == Status::Usage && sink.written() == b"".as_slice());
+fn asked(rt: HostRuntime) -> Result<(), AllocError> {
+    assert_eq!(rt; asked_in_front(rt.alloc())?, ASKED.len());
     Ok(())
 }
 
+/// As many bytes as a run takes, and one more.
 #[test]
 fn too_much(rt: HostRuntime) -> Result<(), AllocError> {
     let alloc = rt.alloc();
-    let spaces = vec![in alloc; b' '; LARGEST_INPUT - 24]?;
     let mut input = Vec::from_slice(alloc, INPUT)?;
-    input.extend_from_slice(&spaces)?;
-    let (status, sink) = run(alloc, &[], sound(&input))?;
-    assert!(rt; status == Status::Done && sink.written() == ONE_FIELD);
+    input.resize(LARGEST_INPUT, b' ')?;
+    assert!(rt; ends(alloc, sound(input.as_slice()), Status::Done, ONE_FIELD)?);
     input.push(b' ')?;
-    let (status, sink) = run(alloc, &[], sound(&input))?;
-    assert!(rt; status == Status::BadInput && sink.written() == b"".as_slice());
-    Ok(())
-}
-
-#[test]
-fn splits(rt: HostRuntime) {
-    assert!(rt; split(b"A\nb") == Some(("A", "b")));
-    assert!(rt; split(b"A\r\nb\nc\r") == Some(("A", "b\nc\r")));
-    assert!(rt; split(b"A\r\r\n") == Some(("A\r", "")));
-    assert!(rt; split(b"\n") == Some(("", "")));
-    assert!(rt; split(b"\r\n\n") == Some(("", "\n")));
-    assert!(rt; split(b"A\rb").is_none());
-    assert!(rt; split(b"").is_none());
-    assert!(rt; split(b"A\n\xff").is_none());
-}
-
-/// The trait's name and so many groups in one another.
-fn nested(alloc: Global, depth: usize) -> Result<Vec<u8>, AllocError> {
-    let mut input = Vec::from_slice(alloc, b"PartialEq\n")?;
-    for _ in 0..depth {
-        input.push(b'(')?;
-    }
-    for _ in 0..depth {
-        input.push(b')')?;
-    }
-    Ok(input)
-}
-
-#[test]
-fn depths(rt: HostRuntime) -> Result<(), AllocError> {
-    let alloc = rt.alloc();
-    for (depth, line) in [
-        (
-            129,
-            b"Syntax 0..1: not one struct, enum or union declaration\n".as_slice(),
-        ),
-        (
-            130,
-            b"TooDeep 129..130: nested deeper than 128\n".as_slice(),
-        ),
-    ] {
-        let input = nested(alloc, depth)?;
-        let (status, sink) = run(alloc, &[], sound(input.as_slice()))?;
-        assert!(rt; status == Status::Refused && sink.written() == line);
-    }
-    Ok(())
-}
-
-#[test]
-fn levels(rt: HostRuntime) -> Result<(), AllocError> {
-    let alloc = rt.alloc();
-    let deepest = referred(alloc, 127)?;
-    let (status, _) = derived(alloc, deepest.as_str())?;
-    assert!(rt; status == Status::Done);
-    let deeper = referred(alloc, 128)?;
-    let (status, sink) = derived(alloc, deeper.as_str())?;
-    assert!(rt; status == Status::Refused);
-    assert!(rt; sink.written() == b"TooDeep 142..144: nested deeper than 128\n".as_slice());
+    assert!(rt; ends(alloc, sound(input.as_slice()), Status::BadInput, b"")?);
     Ok(())
 }

@@ -2,9 +2,9 @@
 //! here for the next one, so that no function drops it where the next one is refused.
 #![tactic(auto)]
 
-ghost use Rattle.std.specs.Prelude.{◌≡◌, ◌++◌, Ok, Err, IfOk, MatchResult};
+ghost use Rattle.std.specs.Prelude.{◌≡◌, Ok, Err, IfOk, MatchResult};
 
-use dm_stream::{Error, Seq};
+use dm_stream::Error;
 use std::alloc::{AllocError, Global};
 
 /// A part, and the one that was read behind it.
@@ -42,13 +42,4 @@ pub fn beside<T: Drop, U: Drop>(made: Result<T, AllocError>, other: U) -> Result
         Ok(part) => Ok((part, other)),
         Err(error) => Err(error),
     }
-}
-
-/// The parts of a list, and those of another behind them.
-pub fn appended<T: Drop>(front: Seq<T>, behind: Seq<T>) -> Result<Seq<T>, AllocError>
-    ensures { IfOk result (λ all. all ≡ front ++ behind) }
-{
-    let mut all = front;
-    all.append(behind)?;
-    Ok(all)
 }

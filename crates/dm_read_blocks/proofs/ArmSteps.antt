@@ -7,13 +7,13 @@ use Rattle.dm_ast.specs.Spelling.{at_end}
 use Rattle.dm_output.specs.Output.{no_expr, ArmTree, ArmBodyTree, expr_body, ExprTree}
 use Rattle.dm_reread.specs.Next.{k_if, Next, in_braces, a_word}
 use Rattle.dm_reread.specs.Reading.{then, Readers, read_guard, read_body}
-use Rattle.dm_read_patterns.specs.declared.front.Keyword.TheVariants as keyword
-use Rattle.dm_read_patterns.specs.declared.list.Turn.{Turn}
-use Rattle.dm_read_patterns.specs.declared.list.Turn.TheVariants.{One, End}
-use Rattle.dm_read_patterns.specs.Fronts.{is_keyword, is_group_next}
+use Rattle.dm_read_places.specs.declared.front.Keyword.TheVariants as keyword
+use Rattle.dm_read_places.specs.declared.list.Turn.{Turn}
+use Rattle.dm_read_places.specs.declared.list.Turn.TheVariants.{One, End}
+use Rattle.dm_read_places.specs.Fronts.{is_keyword, is_group_next}
 use Rattle.dm_read_blocks.specs.Turns.{one_arm, arm_turn}
 use Rattle.dm_read_blocks.specs.Rows.{braced_arms}
-use Rattle.dm_read_blocks.proofs.Lists.{arms_are}
+use Rattle.dm_read_blocks.proofs.ArmLists.{arms_are}
 
 pub arms_end : (n : ℕ) (ts : Trees) → at_end ts ≡ true → arm_turn n ts ≡ Some (End tt, ts)
 arms_end n no_trees e = refl

@@ -10,12 +10,12 @@ use Rattle.dm_reread.specs.Next.{k_let, k_use, k_const, k_wild, Next, ended, sem
 use Rattle.dm_reread.specs.Leaves.{Answer}
 use Rattle.dm_reread.specs.Reading.{then, provided, semicolon_after, assigns_after, colon_after, as_after, wild_after, plus_after, int_after, base_from, readers, plain_path, stmt_first, stmt_ended, let_is, check_from, let_from, use_from, const_is, const_from, after_stmt, read_block}
 use Rattle.dm_reread.specs.ReadBack.{leaves}
-use Rattle.dm_read_patterns.specs.declared.list.Turn.{Turn}
-use Rattle.dm_read_patterns.specs.declared.list.Turn.TheVariants.{One}
-use Rattle.dm_read_patterns.specs.Repeating.{before_others, after_turn, repeat}
-use Rattle.dm_read_patterns.specs.Turns.{rows}
+use Rattle.dm_read_places.specs.declared.list.Turn.{Turn}
+use Rattle.dm_read_places.specs.declared.list.Turn.TheVariants.{One}
+use Rattle.dm_read_places.specs.Repeating.{before_others, after_turn, repeat}
+use Rattle.dm_read_places.specs.Turns.{rows}
 use Rattle.dm_read_blocks.specs.Turns.{let_value, let_of, use_of, const_value, const_of, stmt_turn, value_end, block_turn_at, block_turn}
-use Rattle.dm_read_leaves.proofs.FormatLists.{leaves_are}
+use Rattle.dm_read_macros.proofs.FormatLists.{leaves_are}
 
 abbrev Inside : Answer (List StmtTree × MaybeExpr) → Option BlockTree
 Inside o = option_map (λ v. block (stmts_of v.0.0) v.0.1) o

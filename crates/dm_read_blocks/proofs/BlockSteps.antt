@@ -9,11 +9,11 @@ use Rattle.dm_output.specs.Output.{ExprTree, MaybeExpr, no_expr, some_expr, Stmt
 use Rattle.dm_reread.specs.Next.{k_let, k_use, k_const, k_wild, Next, ended, a_name, a_word, next}
 use Rattle.dm_reread.specs.Leaves.{Answer}
 use Rattle.dm_reread.specs.Reading.{then, provided, semicolon_after, assigns_after}
-use Rattle.dm_read_patterns.specs.declared.front.Keyword.TheVariants as keyword
-use Rattle.dm_read_patterns.specs.declared.list.Turn.{Turn}
-use Rattle.dm_read_patterns.specs.declared.list.Turn.TheVariants.{One, End}
-use Rattle.dm_read_patterns.specs.Fronts.{is_keyword}
-use Rattle.dm_read_patterns.specs.Turns.{rows, declared_at}
+use Rattle.dm_read_places.specs.declared.front.Keyword.TheVariants as keyword
+use Rattle.dm_read_places.specs.declared.list.Turn.{Turn}
+use Rattle.dm_read_places.specs.declared.list.Turn.TheVariants.{One, End}
+use Rattle.dm_read_places.specs.Fronts.{is_keyword}
+use Rattle.dm_read_places.specs.Turns.{rows, declared_at}
 use Rattle.dm_read_blocks.specs.Turns.{let_value, let_of, stmt_turn, value_end, value_turn, block_turn_at}
 use Rattle.dm_read_blocks.specs.Rows.{ended_stmt, assigned, named_let}
 use Rattle.dm_read_blocks.proofs.BlockLists.{block_is}

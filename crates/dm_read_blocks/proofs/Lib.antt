@@ -1,9 +1,6 @@
-pub mod Lists
-pub mod BlockLists
-pub mod RuleSteps
 pub mod GroupSteps
-pub mod ArgumentSteps
-pub mod NodeSteps
-pub mod ArmSteps
 pub mod StatementSteps
+pub mod ArmLists
+pub mod ArmSteps
+pub mod BlockLists
 pub mod BlockSteps

@@ -10,8 +10,8 @@ use Rattle.dm_reread.specs.Next.{Next, literal, in_parens, next}
 use Rattle.dm_reread.specs.Leaves.{Answer}
 use Rattle.dm_reread.specs.Reading.{then, colon_after, assigns_after, plus_after, as_after, wild_after, int_after, base_from, plain_path}
 use Rattle.dm_reread.specs.ReadBack.{leaves}
-use Rattle.dm_read_patterns.specs.Fronts.{is_literal_next, is_group_next}
-use Rattle.dm_read_patterns.specs.Turns.{rows, declared_at}
+use Rattle.dm_read_places.specs.Fronts.{is_literal_next, is_group_next}
+use Rattle.dm_read_places.specs.Turns.{rows, declared_at}
 use Rattle.dm_read_blocks.specs.Turns.{use_of, const_value, const_of}
 use Rattle.dm_read_blocks.specs.Rows.{as_wild, added, constant_value, typed_constant}
 use Rattle.dm_read_blocks.proofs.GroupSteps.{group_steps}

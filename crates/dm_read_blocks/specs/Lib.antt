@@ -1,4 +1,2 @@
-pub mod Sorts
-pub mod ExprNests
 pub mod Turns
 pub mod Rows

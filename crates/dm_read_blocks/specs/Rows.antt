@@ -1,27 +1,14 @@
 -- Parts of the plain reader's rows that functions of their own read.
 use Rattle.std.specs.Prelude.{ℕ, true, Option, Some, None}
-use Rattle.std.specs.declared.boxed.Box.{Box}
-use Rattle.std.specs.declared.alloc.Global.{Global}
 use Rattle.dm_stream.specs.declared.tokens.Literal.{Literal}
 use Rattle.dm_stream.specs.Trees.{Trees}
 use Rattle.dm_ast.specs.Tree.{TypeTree}
-use Rattle.dm_output.specs.declared.expr.Expr.{Expr}
-use Rattle.dm_output.specs.Output.{ArmTrees, MaybeExpr, no_expr, some_expr, StmtTree, let_stmt, ExprTree}
-use Rattle.dm_output.specs.Views.{expr_view}
+use Rattle.dm_output.specs.Output.{ArmTrees, StmtTree, let_stmt, ExprTree}
 use Rattle.dm_reread.specs.Next.{Next, in_braces, next}
 use Rattle.dm_reread.specs.Leaves.{Answer}
-use Rattle.dm_reread.specs.Reading.{then, comma_after, colon_after, semicolon_after, assigns_after, plus_after, as_after, wild_after, int_after, base_from}
+use Rattle.dm_reread.specs.Reading.{then, colon_after, semicolon_after, assigns_after, plus_after, as_after, wild_after, int_after, base_from}
 use Rattle.dm_reread.specs.ReadBack.{leaves}
-use Rattle.dm_read_patterns.specs.Turns.{rows, declared_at}
-
--- a last expression in its box
-abbrev pub boxed_view : Option (Box Expr Global) → MaybeExpr
-boxed_view None = no_expr
-boxed_view (Some x) = some_expr (expr_view x.value)
-
--- an expression and a comma
-abbrev pub before_comma : ℕ → Trees → Answer ExprTree
-before_comma n ts = then ((rows n).expr true ts) (λ a. then (comma_after (next a.1)) (λ us. Some (a.0, us)))
+use Rattle.dm_read_places.specs.Turns.{rows, declared_at}
 
 -- arms in braces
 abbrev pub braced_arms : ℕ → Next → Answer ArmTrees

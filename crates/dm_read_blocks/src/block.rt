@@ -4,23 +4,23 @@
 ghost use Rattle.std.specs.Prelude.{map, true};
 ghost use Rattle.dm_output.specs.Views.{expr_view, stmt_view, block_view};
 ghost use Rattle.dm_reread.specs.Next.{next};
-ghost use Rattle.dm_read_patterns.specs.Reads.{Reads, ReadsWhole};
-ghost use Rattle.dm_read_patterns.specs.Repeating.{turn_view};
-ghost use Rattle.dm_read_patterns.specs.Turns.{rows};
-ghost use Rattle.dm_read_blocks.specs.ExprNests.{ExprNests};
+ghost use Rattle.dm_read_places.specs.Reads.{Reads, ReadsWhole};
+ghost use Rattle.dm_read_places.specs.Repeating.{turn_view};
+ghost use Rattle.dm_read_places.specs.Turns.{rows};
+ghost use Rattle.dm_read_arguments.specs.ExprNests.{ExprNests};
 ghost use Rattle.dm_read_blocks.specs.Turns as turns;
 ghost use Rattle.dm_read_blocks.specs.Rows as spec;
-ghost use Rattle.dm_read_blocks.specs.Rows.{boxed_view};
+ghost use Rattle.dm_read_nodes.specs.Boxes.{boxed_view};
 
-use crate::nodes::{block_of, do_of, let_of};
-use crate::rules::Exprs;
-use crate::sort::Wanted;
+use crate::blocks::Blocks;
 use crate::statement::{check, constant, import};
 use dm_input::join::{boxed, ended, joined};
 use dm_output::{Block, Expr, Stmt};
-use dm_read_patterns::front::Keyword;
-use dm_read_patterns::list::{Rule, Turn, repeated};
-use dm_read_patterns::place::Place;
+use dm_read_arguments::sort::Wanted;
+use dm_read_nodes::blocks::{block_of, do_of, let_of};
+use dm_read_places::front::Keyword;
+use dm_read_places::list::{Rule, Turn, repeated};
+use dm_read_places::place::Place;
 use dm_stream::Error;
 
 /// What ends a block: perhaps an expression.
@@ -29,7 +29,7 @@ type Last<'a> = Option<Box<Expr<'a>>>;
 /// Statements, each with a semicolon behind it, and perhaps an expression behind them.
 #[derive(Drop)]
 struct BlockRule<'g, F> {
-    rules: &'g Exprs<F>,
+    rules: &'g Blocks<F>,
 }
 
 impl<'g, 'a, F: Copy + for<'t, 'b> Fn(&mut Place<'t, 'b>, Wanted) -> Result<Expr<'b>, Error>> Rule<
@@ -37,9 +37,9 @@ impl<'g, 'a, F: Copy + for<'t, 'b> Fn(&mut Place<'t, 'b>, Wanted) -> Result<Expr
 > for BlockRule<'g, F> {
     ghost use Rattle.dm_output.specs.Output.{StmtTree, MaybeExpr};
     ghost use Rattle.dm_output.specs.Views.{stmt_view};
-    ghost use Rattle.dm_read_blocks.specs.ExprNests.{ExprNests};
+    ghost use Rattle.dm_read_arguments.specs.ExprNests.{ExprNests};
     ghost use Rattle.dm_read_blocks.specs.Turns.{block_turn};
-    ghost use Rattle.dm_read_blocks.specs.Rows.{boxed_view};
+    ghost use Rattle.dm_read_nodes.specs.Boxes.{boxed_view};
 
     type Part = Stmt<'a>;
 
@@ -53,7 +53,7 @@ impl<'g, 'a, F: Copy + for<'t, 'b> Fn(&mut Place<'t, 'b>, Wanted) -> Result<Expr
 
     ghost last = { boxed_view };
 
-    ghost usable = { λ r. ExprNests r.rules.now.room (F.pre r.rules.now.expr) (F.post r.rules.now.expr) };
+    ghost usable = { λ r. ExprNests r.rules.now.parts.room (F.pre r.rules.now.parts.expr) (F.post r.rules.now.parts.expr) };
 
     ghost reader = { λ r. block_turn };
 
@@ -109,20 +109,20 @@ fn value_end<'a>(
     Ok(Turn::One(do_of(value)))
 }
 
-impl<F: Copy + for<'t, 'b> Fn(&mut Place<'t, 'b>, Wanted) -> Result<Expr<'b>, Error>> Exprs<F> {
+impl<F: Copy + for<'t, 'b> Fn(&mut Place<'t, 'b>, Wanted) -> Result<Expr<'b>, Error>> Blocks<F> {
     /// `=` and an expression.
     fn assigned<'a>(&self, place: &mut Place<'_, 'a>) -> Result<Expr<'a>, Error>
-        requires { ExprNests self.now.room (F.pre self.now.expr) (F.post self.now.expr) }
-        ensures { Reads expr_view (spec.assigned self.now.fuel) place.old result place.new }
+        requires { ExprNests self.now.parts.room (F.pre self.now.parts.expr) (F.post self.now.parts.expr) }
+        ensures { Reads expr_view (spec.assigned self.now.parts.fuel) place.old result place.new }
     {
         place.assigns()?;
-        self.whole(true, place)
+        self.parts.whole(true, place)
     }
 
     /// A name and its value.
     fn named_let<'a>(&self, place: &mut Place<'_, 'a>) -> Result<Stmt<'a>, Error>
-        requires { ExprNests self.now.room (F.pre self.now.expr) (F.post self.now.expr) }
-        ensures { Reads stmt_view (spec.named_let self.now.fuel) place.old result place.new }
+        requires { ExprNests self.now.parts.room (F.pre self.now.parts.expr) (F.post self.now.parts.expr) }
+        ensures { Reads stmt_view (spec.named_let self.now.parts.fuel) place.old result place.new }
     {
         let name = place.declared()?;
         let (name, value) = joined(name, self.assigned(place))?;
@@ -131,8 +131,8 @@ impl<F: Copy + for<'t, 'b> Fn(&mut Place<'t, 'b>, Wanted) -> Result<Expr<'b>, Er
 
     /// A name's value, or a type that is checked, behind `let`.
     fn bound<'a>(&self, place: &mut Place<'_, 'a>) -> Result<Stmt<'a>, Error>
-        requires { ExprNests self.now.room (F.pre self.now.expr) (F.post self.now.expr) }
-        ensures { Reads stmt_view (λ ts. turns.let_of self.now.fuel (next ts)) place.old result place.new }
+        requires { ExprNests self.now.parts.room (F.pre self.now.parts.expr) (F.post self.now.parts.expr) }
+        ensures { Reads stmt_view (λ ts. turns.let_of self.now.parts.fuel (next ts)) place.old result place.new }
     {
         if place.take_keyword(Keyword::Wild) {
             return check(place);
@@ -142,8 +142,8 @@ impl<F: Copy + for<'t, 'b> Fn(&mut Place<'t, 'b>, Wanted) -> Result<Expr<'b>, Er
 
     /// The same, and a semicolon.
     fn let_ended<'a>(&self, place: &mut Place<'_, 'a>) -> Result<Stmt<'a>, Error>
-        requires { ExprNests self.now.room (F.pre self.now.expr) (F.post self.now.expr) }
-        ensures { Reads stmt_view (λ ts. spec.ended_stmt (turns.let_of self.now.fuel (next ts))) place.old result place.new }
+        requires { ExprNests self.now.parts.room (F.pre self.now.parts.expr) (F.post self.now.parts.expr) }
+        ensures { Reads stmt_view (λ ts. spec.ended_stmt (turns.let_of self.now.parts.fuel (next ts))) place.old result place.new }
     {
         let found = self.bound(place)?;
         ended(found, place.semicolon())
@@ -151,19 +151,19 @@ impl<F: Copy + for<'t, 'b> Fn(&mut Place<'t, 'b>, Wanted) -> Result<Expr<'b>, Er
 
     /// A turn that begins with an expression.
     fn value_turn<'a>(&self, place: &mut Place<'_, 'a>) -> Result<Turn<Stmt<'a>, Last<'a>>, Error>
-        requires { ExprNests self.now.room (F.pre self.now.expr) (F.post self.now.expr) }
-        ensures { Reads (turn_view stmt_view boxed_view) (turns.value_turn self.now.fuel) place.old result place.new }
+        requires { ExprNests self.now.parts.room (F.pre self.now.parts.expr) (F.post self.now.parts.expr) }
+        ensures { Reads (turn_view stmt_view boxed_view) (turns.value_turn self.now.parts.fuel) place.old result place.new }
     {
-        let found = self.whole(true, place)?;
+        let found = self.parts.whole(true, place)?;
         value_end(found, place)
     }
 
     /// The inside of a block, to the end.
     pub fn block<'a>(&self, place: &mut Place<'_, 'a>) -> Result<Block<'a>, Error>
-        requires { ExprNests self.now.room (F.pre self.now.expr) (F.post self.now.expr) }
-        ensures { ReadsWhole block_view (rows self.now.fuel).block place.old result }
+        requires { ExprNests self.now.parts.room (F.pre self.now.parts.expr) (F.post self.now.parts.expr) }
+        ensures { ReadsWhole block_view (rows self.now.parts.fuel).block place.old result }
     {
-        let (stmts, last) = repeated(&BlockRule { rules: self }, self.fuel, place)?;
+        let (stmts, last) = repeated(&BlockRule { rules: self }, self.parts.fuel, place)?;
         Ok(block_of(stmts, last))
     }
 }

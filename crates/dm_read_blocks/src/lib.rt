@@ -1,10 +1,7 @@
-//! Reading arguments, fields, arms, statements and blocks of the output language, over a reader of the expressions in them.
+//! Reading the output language: arms, statements and blocks, over a reader of the expressions in them.
 #![tactic(auto)]
 
-mod argument;
 mod arm;
 mod block;
-mod nodes;
-pub mod rules;
-pub mod sort;
+pub mod blocks;
 mod statement;

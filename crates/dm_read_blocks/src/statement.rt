@@ -6,19 +6,19 @@ ghost use Rattle.dm_ast.specs.Tree.{ty_view, path_view};
 ghost use Rattle.dm_output.specs.Views.{stmt_view, opaque_view};
 ghost use Rattle.dm_reread.specs.Next.{next};
 ghost use Rattle.dm_reread.specs.Reading as plain;
-ghost use Rattle.dm_read_patterns.specs.Reads.{Passes, Reads};
+ghost use Rattle.dm_read_places.specs.Reads.{Passes, Reads};
 ghost use Rattle.dm_read_blocks.specs.Turns as turns;
 ghost use Rattle.dm_read_blocks.specs.Rows as spec;
 
-use crate::nodes::{check_of, const_of, import_of};
 use dm_ast::{Opaque, Ty};
 use dm_input::join::{ended, joined};
 use dm_output::Stmt;
-use dm_read_leaves::opaque::kept;
 use dm_read_leaves::ty::ty;
-use dm_read_patterns::expect::is_int;
-use dm_read_patterns::path::path;
-use dm_read_patterns::place::Place;
+use dm_read_macros::opaque::kept;
+use dm_read_nodes::blocks::{check_of, const_of, import_of};
+use dm_read_places::expect::is_int;
+use dm_read_places::path::path;
+use dm_read_places::place::Place;
 use dm_stream::{Delim, Error, Literal};
 
 /// A type that is checked, behind `let _`.

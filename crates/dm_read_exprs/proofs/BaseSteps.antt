@@ -19,12 +19,12 @@ use Rattle.dm_reread.specs.Reading.{then, provided, whole, is_str, is_some_trees
 use Rattle.dm_reread.specs.TypeLeaves.{read_type}
 use Rattle.dm_reread.specs.PathLeaves.{path_at, qualified_in, read_qualified}
 use Rattle.dm_reread.specs.ExactLeaves.{passed, has_entries, exact_qualified}
-use Rattle.dm_read_patterns.specs.declared.front.Sign.TheVariants as sign
-use Rattle.dm_read_patterns.specs.declared.front.Keyword.TheVariants as keyword
-use Rattle.dm_read_patterns.specs.Fronts.{is_sign, is_keyword, is_literal_next, is_group_next}
-use Rattle.dm_read_patterns.specs.Reads.{Reads}
-use Rattle.dm_read_patterns.specs.Turns.{rows}
-use Rattle.dm_read_leaves.proofs.FormatLists.{leaves_are}
+use Rattle.dm_read_places.specs.declared.front.Sign.TheVariants as sign
+use Rattle.dm_read_places.specs.declared.front.Keyword.TheVariants as keyword
+use Rattle.dm_read_places.specs.Fronts.{is_sign, is_keyword, is_literal_next, is_group_next}
+use Rattle.dm_read_places.specs.Reads.{Reads}
+use Rattle.dm_read_places.specs.Turns.{rows}
+use Rattle.dm_read_macros.proofs.FormatLists.{leaves_are}
 use Rattle.dm_read_blocks.specs.Rows.{braced_arms}
 use Rattle.dm_read_exprs.specs.Rows.{text, braced_path, behind_path, tuple_only, parts, opaque_called, match_from, leaf}
 use Rattle.dm_read_blocks.proofs.GroupSteps.{group_steps}

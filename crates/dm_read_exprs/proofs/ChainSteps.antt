@@ -5,11 +5,11 @@ use Rattle.dm_stream.specs.Trees.{Trees}
 use Rattle.dm_output.specs.Output.{ExprTree, and_expr, or_expr, expr_then}
 use Rattle.dm_reread.specs.Next.{k_return, Next, oror, andand, equals, differs, a_word}
 use Rattle.dm_reread.specs.Reading.{then, Readers, after_pre, after_cmp, after_and, or_from}
-use Rattle.dm_read_patterns.specs.declared.front.Sign.TheVariants as sign
-use Rattle.dm_read_patterns.specs.declared.front.Keyword.TheVariants as keyword
-use Rattle.dm_read_patterns.specs.declared.list.Turn.TheVariants.{End}
-use Rattle.dm_read_patterns.specs.Fronts.{is_sign, is_keyword}
-use Rattle.dm_read_patterns.specs.Turns.{rows}
+use Rattle.dm_read_places.specs.declared.front.Sign.TheVariants as sign
+use Rattle.dm_read_places.specs.declared.front.Keyword.TheVariants as keyword
+use Rattle.dm_read_places.specs.declared.list.Turn.TheVariants.{End}
+use Rattle.dm_read_places.specs.Fronts.{is_sign, is_keyword}
+use Rattle.dm_read_places.specs.Turns.{rows}
 use Rattle.dm_read_exprs.specs.Turns.{and_turn_at, or_turn_at}
 use Rattle.dm_read_exprs.specs.Rows.{plain_or}
 use Rattle.dm_read_exprs.proofs.ChainLists.{ands_are, ors_are}

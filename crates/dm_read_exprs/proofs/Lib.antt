@@ -1,9 +1,6 @@
 pub mod ChainLists
-pub mod PostLists
 pub mod ChainSteps
 pub mod PrefixSteps
-pub mod Applying
-pub mod PostSteps
-pub mod BaseSteps
 pub mod TupleSteps
+pub mod BaseSteps
 pub mod NestSteps

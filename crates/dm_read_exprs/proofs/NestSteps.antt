@@ -4,10 +4,10 @@ use Rattle.std.proofs.lemmas.Grind.{common_steps}
 use Rattle.dm_stream.specs.Trees.{Trees}
 use Rattle.dm_reread.specs.Next.{next}
 use Rattle.dm_reread.specs.Reading.{readers, read_or, read_pre}
-use Rattle.dm_read_patterns.specs.Turns.{rows}
-use Rattle.dm_read_blocks.specs.declared.sort.Sort.{Sort}
-use Rattle.dm_read_blocks.specs.declared.sort.Sort.TheVariants as sort
-use Rattle.dm_read_blocks.specs.Sorts.{sorted}
+use Rattle.dm_read_places.specs.Turns.{rows}
+use Rattle.dm_read_arguments.specs.declared.sort.Sort.{Sort}
+use Rattle.dm_read_arguments.specs.declared.sort.Sort.TheVariants as sort
+use Rattle.dm_read_arguments.specs.Sorts.{sorted}
 
 pub whole_row : (n : ℕ) (b : Bool) (ts : Trees) → (rows (suc n)).expr b ts ≡ read_or (rows n) b ts
 unfolding readers

@@ -8,9 +8,9 @@ use Rattle.dm_output.specs.Output.{ExprTree, ref_opaque}
 use Rattle.dm_reread.specs.Next.{k_mut, Next, star, amp, dot, asks, in_parens, a_word, next}
 use Rattle.dm_reread.specs.Leaves.{Answer}
 use Rattle.dm_reread.specs.Reading.{provided, is_some_trees, Readers, goes_on, ref_from_pre, read_mut_ref, read_ref, read_pre, read_post}
-use Rattle.dm_read_patterns.specs.declared.front.Sign.TheVariants as sign
-use Rattle.dm_read_patterns.specs.declared.front.Keyword.TheVariants as keyword
-use Rattle.dm_read_patterns.specs.Fronts.{is_sign, is_keyword, is_group_next}
+use Rattle.dm_read_places.specs.declared.front.Sign.TheVariants as sign
+use Rattle.dm_read_places.specs.declared.front.Keyword.TheVariants as keyword
+use Rattle.dm_read_places.specs.Fronts.{is_sign, is_keyword, is_group_next}
 use Rattle.dm_read_blocks.proofs.GroupSteps.{group_steps}
 use Rattle.dm_read_exprs.specs.Rows.{sees_closed, opaque_group}
 

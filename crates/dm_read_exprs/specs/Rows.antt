@@ -13,9 +13,9 @@ use Rattle.dm_reread.specs.Next.{Next, bangs, less, literal, in_parens, in_brace
 use Rattle.dm_reread.specs.Leaves.{Answer}
 use Rattle.dm_reread.specs.Reading.{then, provided, whole, is_str, is_some_trees, goes_on, comma_after, colon_after, semicolon_after, assigns_after, plus_after, as_after, wild_after, int_after, apply, called, read_args, read_and, after_and, after_path, macro_from, path_base, qualified_base, base_from}
 use Rattle.dm_reread.specs.ReadBack.{leaves}
-use Rattle.dm_read_patterns.specs.Turns.{rows}
+use Rattle.dm_read_places.specs.Turns.{rows}
 use Rattle.dm_read_blocks.specs.Rows.{braced_arms}
-use Rattle.dm_read_exprs.specs.Posts.{PostTree, map_post}
+use Rattle.dm_read_nodes.specs.Posts.{PostTree, map_post}
 
 -- ---- operators
 
@@ -32,19 +32,6 @@ sees_closed _ = false
 abbrev pub opaque_group : Next → Answer ExprTree
 opaque_group (in_parens inside ts) = provided (is_some_trees inside) (Some (ref_opaque inside, ts))
 opaque_group _ = None
-
--- ---- members and methods
-
-abbrev pub map_tree : ExprTree → PostTree
-map_tree e = map_post e
-
--- arguments without a comma behind the last
-abbrev pub plain_args : ℕ → Trees → Option ExprTrees
-plain_args n ts = then (read_args (rows n) false ts) (λ a. provided (not a.1) (Some a.0))
-
--- a receiver with all that stands behind it
-abbrev pub posts_behind : ℕ → ExprTree → Trees → Answer ExprTree
-posts_behind n e ts = then ((rows n).posts ts) (λ s. Some (apply e s.0, s.1))
 
 -- ---- paths, groups and others
 

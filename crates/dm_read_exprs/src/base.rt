@@ -3,31 +3,32 @@
 
 ghost use Rattle.std.specs.Prelude.{map};
 ghost use Rattle.dm_ast.specs.Tree.{path_view, maybe_self_view};
-ghost use Rattle.dm_output.specs.Output.{exprs_of};
-ghost use Rattle.dm_output.specs.Views.{expr_view};
+ghost use Rattle.dm_output.specs.Output.{exprs_of, arms_of};
+ghost use Rattle.dm_output.specs.Views.{expr_view, arm_view};
 ghost use Rattle.dm_reread.specs.Next.{next};
 ghost use Rattle.dm_reread.specs.Reading as plain;
-ghost use Rattle.dm_read_patterns.specs.Reads.{Reads, ReadsWhole};
-ghost use Rattle.dm_read_patterns.specs.Turns.{rows};
-ghost use Rattle.dm_read_blocks.specs.ExprNests.{ExprNests};
+ghost use Rattle.dm_read_places.specs.Reads.{Reads, ReadsWhole};
+ghost use Rattle.dm_read_places.specs.Turns.{rows};
+ghost use Rattle.dm_read_arguments.specs.ExprNests.{ExprNests};
+ghost use Rattle.dm_read_blocks.specs.Rows.{braced_arms};
 ghost use Rattle.dm_read_exprs.specs.Rows as spec;
 
-use crate::nodes::{
-    bool_of, built, called, match_of, opaque_call, paren_of, path_expr, plain_path, str_of,
-    tuple_of, unsafe_of,
-};
 use crate::operators::Operators;
 use dm_ast::Path;
 use dm_input::join::joined;
-use dm_output::{Expr, PathExpr};
-use dm_read_blocks::sort::Wanted;
-use dm_read_leaves::macros::macro_call;
-use dm_read_leaves::opaque::kept;
-use dm_read_leaves::qualified::qualified;
-use dm_read_patterns::expect::is_str;
-use dm_read_patterns::front::{Keyword, Sign};
-use dm_read_patterns::path::path;
-use dm_read_patterns::place::Place;
+use dm_output::{Arm, Expr, PathExpr};
+use dm_read_arguments::sort::Wanted;
+use dm_read_blocks::blocks::Blocks;
+use dm_read_leaves::qualified::{plain_path, qualified};
+use dm_read_macros::macros::macro_call;
+use dm_read_macros::opaque::kept;
+use dm_read_nodes::exprs::{
+    bool_of, built, called, match_of, opaque_call, paren_of, path_expr, str_of, tuple_of, unsafe_of,
+};
+use dm_read_places::expect::is_str;
+use dm_read_places::front::{Keyword, Sign};
+use dm_read_places::path::path;
+use dm_read_places::place::Place;
 use dm_stream::{Delim, Error, Literal, Seq};
 
 /// A string.
@@ -200,13 +201,22 @@ impl<F: Copy + for<'t, 'b> Fn(&mut Place<'t, 'b>, Wanted) -> Result<Expr<'b>, Er
         Ok(unsafe_of(place.alloc(), value)?)
     }
 
+    /// Arms in braces.
+    fn braced_arms<'a>(&self, place: &mut Place<'_, 'a>) -> Result<Seq<Arm<'a>>, Error>
+        requires { ExprNests self.now.parts.room (F.pre self.now.parts.expr) (F.post self.now.parts.expr) }
+        ensures { Reads (λ v. arms_of (map arm_view v)) (λ ts. braced_arms self.now.parts.fuel (next ts)) place.old result place.new }
+    {
+        let blocks = Blocks { parts: self.parts };
+        blocks.braced_arms(place)
+    }
+
     /// What stands behind `match`.
     fn matched<'a>(&self, place: &mut Place<'_, 'a>) -> Result<Expr<'a>, Error>
         requires { ExprNests self.now.parts.room (F.pre self.now.parts.expr) (F.post self.now.parts.expr) }
         ensures { Reads expr_view (spec.match_from self.now.parts.fuel) place.old result place.new }
     {
         let value = self.parts.whole(false, place)?;
-        let (value, arms) = joined(value, self.parts.braced_arms(place))?;
+        let (value, arms) = joined(value, self.braced_arms(place))?;
         Ok(match_of(place.alloc(), value, arms)?)
     }
 

@@ -6,20 +6,20 @@ ghost use Rattle.dm_output.specs.Output.{exprs_of};
 ghost use Rattle.dm_output.specs.Views.{expr_view};
 ghost use Rattle.dm_reread.specs.Next.{next};
 ghost use Rattle.dm_reread.specs.Reading as plain;
-ghost use Rattle.dm_read_patterns.specs.Reads.{Reads};
-ghost use Rattle.dm_read_patterns.specs.Turns.{rows};
-ghost use Rattle.dm_read_blocks.specs.ExprNests.{ExprNests};
+ghost use Rattle.dm_read_places.specs.Reads.{Reads};
+ghost use Rattle.dm_read_places.specs.Turns.{rows};
+ghost use Rattle.dm_read_arguments.specs.ExprNests.{ExprNests};
 ghost use Rattle.dm_read_exprs.specs.Rows.{plain_or};
 
-use crate::nodes::{and_of, equal_of, or_of, return_of, unequal_of};
 use crate::operators::Operators;
 use dm_input::join::joined;
 use dm_output::Expr;
-use dm_read_blocks::sort::Wanted;
-use dm_read_patterns::front::{Keyword, Sign};
-use dm_read_patterns::list::{Rule, Turn, repeated};
-use dm_read_patterns::node::{fronted, two_boxes};
-use dm_read_patterns::place::Place;
+use dm_read_arguments::sort::Wanted;
+use dm_read_nodes::exprs::{and_of, equal_of, or_of, return_of, unequal_of};
+use dm_read_places::front::{Keyword, Sign};
+use dm_read_places::list::{Rule, Turn, repeated};
+use dm_read_places::node::{fronted, two_boxes};
+use dm_read_places::place::Place;
 use dm_stream::{Error, Seq};
 
 /// `&&` and what stands behind it. The truth value says whether a brace continues a path.
@@ -34,7 +34,7 @@ impl<'g, 'a, F: Copy + for<'t, 'b> Fn(&mut Place<'t, 'b>, Wanted) -> Result<Expr
 > for AndRule<'g, F> {
     ghost use Rattle.dm_output.specs.Output.{ExprTree};
     ghost use Rattle.dm_output.specs.Views.{expr_view};
-    ghost use Rattle.dm_read_blocks.specs.ExprNests.{ExprNests};
+    ghost use Rattle.dm_read_arguments.specs.ExprNests.{ExprNests};
     ghost use Rattle.dm_read_exprs.specs.Turns.{and_turn};
 
     type Part = Expr<'a>;
@@ -73,7 +73,7 @@ impl<'g, 'a, F: Copy + for<'t, 'b> Fn(&mut Place<'t, 'b>, Wanted) -> Result<Expr
 > for OrRule<'g, F> {
     ghost use Rattle.dm_output.specs.Output.{ExprTree};
     ghost use Rattle.dm_output.specs.Views.{expr_view};
-    ghost use Rattle.dm_read_blocks.specs.ExprNests.{ExprNests};
+    ghost use Rattle.dm_read_arguments.specs.ExprNests.{ExprNests};
     ghost use Rattle.dm_read_exprs.specs.Turns.{or_turn};
 
     type Part = Expr<'a>;

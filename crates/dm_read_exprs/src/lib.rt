@@ -4,8 +4,5 @@
 mod base;
 mod chain;
 pub mod nested;
-mod nodes;
 mod operators;
-mod post;
-mod posts;
 mod prefix;

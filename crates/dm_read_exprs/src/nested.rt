@@ -2,15 +2,16 @@
 #![tactic(auto, using(crate::proofs::NestSteps::nest_steps))]
 
 ghost use Rattle.dm_output.specs.Views.{expr_view, block_view};
-ghost use Rattle.dm_read_patterns.specs.Reads.{Reads, ReadsWhole};
-ghost use Rattle.dm_read_patterns.specs.Turns.{rows};
-ghost use Rattle.dm_read_blocks.specs.Sorts.{sorted};
+ghost use Rattle.dm_read_places.specs.Reads.{Reads, ReadsWhole};
+ghost use Rattle.dm_read_places.specs.Turns.{rows};
+ghost use Rattle.dm_read_arguments.specs.Sorts.{sorted};
 
 use crate::operators::Operators;
 use dm_output::{Block, Expr};
-use dm_read_blocks::rules::Exprs;
-use dm_read_blocks::sort::{Sort, Wanted};
-use dm_read_patterns::place::Place;
+use dm_read_arguments::rules::Exprs;
+use dm_read_arguments::sort::{Sort, Wanted};
+use dm_read_blocks::blocks::Blocks;
+use dm_read_places::place::Place;
 use dm_stream::Error;
 
 /// The expression that is wanted. Where more than `room` expressions stand in one another it wants memory: that of the stack. With less
@@ -42,6 +43,8 @@ pub fn expr<'a>(place: &mut Place<'_, 'a>, wanted: Wanted) -> Result<Expr<'a>, E
 pub fn block<'a>(place: &mut Place<'_, 'a>, fuel: usize, room: usize) -> Result<Block<'a>, Error>
     ensures { ReadsWhole block_view (rows fuel).block place.old result }
 {
-    let rules = Exprs { fuel, room, expr };
+    let rules = Blocks {
+        parts: Exprs { fuel, room, expr },
+    };
     rules.block(place)
 }

@@ -3,7 +3,7 @@
 
 ghost use Rattle.std.specs.Prelude.{◌≡◌};
 
-use dm_read_blocks::rules::Exprs;
+use dm_read_arguments::rules::Exprs;
 
 /// The rules of expressions, over those of what stands in them.
 #[derive(Clone, Copy)]

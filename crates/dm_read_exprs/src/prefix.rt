@@ -5,18 +5,19 @@ ghost use Rattle.std.specs.Prelude.{◌≡◌, None, Some, MatchOption};
 ghost use Rattle.dm_output.specs.Views.{expr_view};
 ghost use Rattle.dm_reread.specs.Next.{next};
 ghost use Rattle.dm_reread.specs.Reading as plain;
-ghost use Rattle.dm_read_patterns.specs.Reads.{Reads};
-ghost use Rattle.dm_read_patterns.specs.Turns.{rows};
-ghost use Rattle.dm_read_blocks.specs.ExprNests.{ExprNests};
+ghost use Rattle.dm_read_places.specs.Reads.{Reads};
+ghost use Rattle.dm_read_places.specs.Turns.{rows};
+ghost use Rattle.dm_read_arguments.specs.ExprNests.{ExprNests};
 ghost use Rattle.dm_read_exprs.specs.Rows as spec;
 
-use crate::nodes::{deref_of, ref_of, ref_opaque};
 use crate::operators::Operators;
 use dm_output::Expr;
-use dm_read_blocks::sort::Wanted;
-use dm_read_leaves::opaque::kept;
-use dm_read_patterns::front::{Keyword, Sign};
-use dm_read_patterns::place::Place;
+use dm_read_arguments::sort::Wanted;
+use dm_read_macros::opaque::kept;
+use dm_read_nodes::exprs::{deref_of, ref_of, ref_opaque};
+use dm_read_places::front::{Keyword, Sign};
+use dm_read_places::place::Place;
+use dm_read_posts::posts::Posts;
 use dm_stream::{Delim, Error};
 
 /// Whether what comes next goes on with a group in front of it: arguments, `.` or `?`.
@@ -92,6 +93,16 @@ impl<F: Copy + for<'t, 'b> Fn(&mut Place<'t, 'b>, Wanted) -> Result<Expr<'b>, Er
             return opaque_ref(place);
         }
         self.referred(braces, false, place)
+    }
+
+    /// An expression of the rows from members on.
+    fn received<'a>(&self, braces: bool, place: &mut Place<'_, 'a>) -> Result<Expr<'a>, Error>
+        requires { ExprNests self.now.parts.room (F.pre self.now.parts.expr) (F.post self.now.parts.expr) }
+        ensures { Reads expr_view (λ ts. plain.read_post (rows self.now.parts.fuel) braces ts (next ts)) place.old result place.new }
+    {
+        let found = self.base(braces, place)?;
+        let posts = Posts { parts: self.parts };
+        posts.with_posts(found, place)
     }
 
     /// An operand with what stands in front of it.

@@ -11,8 +11,8 @@ use Rattle.dm_reread.specs.Leaves.{Answer}
 use Rattle.dm_reread.specs.Reading.{then}
 use Rattle.dm_reread.specs.Items.{all_attrs, attr_among, attr_bracket, attrs_from, read_attrs}
 use Rattle.dm_reread.specs.Whole.{size}
-use Rattle.dm_read_patterns.specs.Reads.{Reads}
-use Rattle.dm_read_patterns.specs.Repeating.{after_turn, repeat}
+use Rattle.dm_read_places.specs.Reads.{Reads}
+use Rattle.dm_read_places.specs.Repeating.{after_turn, repeat}
 use Rattle.dm_read_heads.specs.Attrs.{attr_at, attr_turn_at, attr_turn}
 use Rattle.dm_read_heads.proofs.Fronts.{hash_less, brackets_less}
 use Rattle.dm_read_heads.proofs.Turned.{Parts, PartTurn, one_part, part_on}

@@ -17,9 +17,9 @@ use Rattle.dm_output.specs.declared.item.ItemAttr.TheVariants as attr
 use Rattle.dm_reread.specs.Next.{Next, hash, in_brackets, next}
 use Rattle.dm_reread.specs.Reading.{then, provided, is_alone}
 use Rattle.dm_reread.specs.Items.{same_words}
-use Rattle.dm_read_patterns.specs.declared.front.Sign.TheVariants as sign
-use Rattle.dm_read_patterns.specs.declared.list.Turn.TheVariants.{End}
-use Rattle.dm_read_patterns.specs.Fronts.{is_sign, is_group_next}
+use Rattle.dm_read_places.specs.declared.front.Sign.TheVariants as sign
+use Rattle.dm_read_places.specs.declared.list.Turn.TheVariants.{End}
+use Rattle.dm_read_places.specs.Fronts.{is_sign, is_group_next}
 use Rattle.dm_read_heads.proofs.AttrLists.{attrs_are}
 use Rattle.dm_read_heads.specs.Attrs.{behind_word, behind_lone, behind_joint, in_last_parens, inside_of, behind_dead_code, behind_clippy, holds, attr_at, attr_turn_at}
 

@@ -16,7 +16,7 @@ use Rattle.dm_reread.specs.TypeLeaves.{answer_of}
 use Rattle.dm_reread.specs.Items.{HeadTree, between_trees}
 use Rattle.dm_reread.specs.HeadLeaves.{read_generics, read_where, read_named, predicates_in, head_in, read_head, plain_head}
 use Rattle.dm_reread.specs.ExactLeaves.{exactly}
-use Rattle.dm_read_patterns.specs.Reads.{Reads}
+use Rattle.dm_read_places.specs.Reads.{Reads}
 use Rattle.dm_read_heads.specs.Heads.{NamedTree, params_at, predicates_at, behind_params, made_head}
 
 -- ---- parameters and predicates, wherever the list ends

@@ -10,8 +10,8 @@ use Rattle.dm_reread.specs.Leaves.{Answer}
 use Rattle.dm_reread.specs.Reading.{then, provided, assigns_after, semicolon_after}
 use Rattle.dm_reread.specs.ReadBack.{leaves}
 use Rattle.dm_reread.specs.Items.{assoc_from, assocs_from, read_assocs}
-use Rattle.dm_read_patterns.specs.Repeating.{after_turn, repeat}
-use Rattle.dm_read_patterns.specs.Turns.{declared_at}
+use Rattle.dm_read_places.specs.Repeating.{after_turn, repeat}
+use Rattle.dm_read_places.specs.Turns.{declared_at}
 use Rattle.dm_read_heads.specs.Members.{type_ended, type_assigned, assoc_at, assoc_turn_at, assoc_turn}
 use Rattle.dm_read_heads.proofs.Turned.{Parts, PartTurn, part_on}
 

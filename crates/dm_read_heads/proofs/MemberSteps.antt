@@ -15,11 +15,11 @@ use Rattle.dm_reread.specs.Leaves.{Answer}
 use Rattle.dm_reread.specs.Reading.{then, provided, whole, assigns_after, semicolon_after, colon_after, comma_after}
 use Rattle.dm_reread.specs.ReadBack.{leaves}
 use Rattle.dm_reread.specs.Items.{Inputs, assoc_from, param_from, behind_receiver, self_from, ref_input, read_inputs, inputs_after, output_after}
-use Rattle.dm_read_patterns.specs.declared.front.Keyword.TheVariants as keyword
-use Rattle.dm_read_patterns.specs.declared.front.Sign.TheVariants as sign
-use Rattle.dm_read_patterns.specs.declared.list.Turn.TheVariants.{End}
-use Rattle.dm_read_patterns.specs.Fronts.{is_sign, is_keyword, is_name_next, is_group_next}
-use Rattle.dm_read_patterns.specs.Turns.{declared_at}
+use Rattle.dm_read_places.specs.declared.front.Keyword.TheVariants as keyword
+use Rattle.dm_read_places.specs.declared.front.Sign.TheVariants as sign
+use Rattle.dm_read_places.specs.declared.list.Turn.TheVariants.{End}
+use Rattle.dm_read_places.specs.Fronts.{is_sign, is_keyword, is_name_next, is_group_next}
+use Rattle.dm_read_places.specs.Turns.{declared_at}
 use Rattle.dm_read_heads.proofs.Fronts.{begun}
 use Rattle.dm_read_heads.proofs.MemberLists.{assocs_are}
 use Rattle.dm_read_heads.specs.Members.{type_ended, type_assigned, assoc_at, assoc_turn_at, last_type, typed, param_at, with_param, behind_comma, only_param, is_declared, signature_at}

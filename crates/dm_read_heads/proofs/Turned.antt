@@ -3,10 +3,10 @@ use Rattle.std.proofs.Common.{◌≡◌, ℕ, List, ◌∷◌, Option, Some, Non
 use Rattle.dm_stream.specs.Trees.{Trees}
 use Rattle.dm_reread.specs.Leaves.{Answer}
 use Rattle.dm_reread.specs.Reading.{then}
-use Rattle.dm_read_patterns.specs.declared.list.Turn.{Turn}
-use Rattle.dm_read_patterns.specs.declared.list.Turn.TheVariants.{One}
-use Rattle.dm_read_patterns.specs.Repeating.{after_turn, repeat}
-use Rattle.dm_read_patterns.proofs.Lists.{Listed, in_front, Whole, whole_in_front}
+use Rattle.dm_read_places.specs.declared.list.Turn.{Turn}
+use Rattle.dm_read_places.specs.declared.list.Turn.TheVariants.{One}
+use Rattle.dm_read_places.specs.Repeating.{after_turn, repeat}
+use Rattle.dm_read_places.proofs.Lists.{Listed, in_front, Whole, whole_in_front}
 
 pub same_list : {A : Type 0} (x : A) (xs : List A) → x ∷ xs ≡ x ∷ xs
 same_list x xs = refl

@@ -9,8 +9,8 @@ use Rattle.dm_reread.specs.Next.{Next, hash, in_brackets, next}
 use Rattle.dm_reread.specs.Leaves.{Answer}
 use Rattle.dm_reread.specs.Reading.{then, provided, is_alone}
 use Rattle.dm_reread.specs.Items.{all_attrs, attr_among}
-use Rattle.dm_read_patterns.specs.declared.list.Turn.{Turn}
-use Rattle.dm_read_patterns.specs.declared.list.Turn.TheVariants.{One, End}
+use Rattle.dm_read_places.specs.declared.list.Turn.{Turn}
+use Rattle.dm_read_places.specs.declared.list.Turn.TheVariants.{One, End}
 
 -- what stands behind a word
 abbrev pub behind_word : List ℕ → Trees → Option Trees

@@ -11,9 +11,9 @@ use Rattle.dm_reread.specs.Leaves.{Answer}
 use Rattle.dm_reread.specs.Reading.{then, whole, assigns_after, semicolon_after, colon_after, comma_after}
 use Rattle.dm_reread.specs.Items.{Inputs, inputs_after, output_after}
 use Rattle.dm_reread.specs.ReadBack.{leaves}
-use Rattle.dm_read_patterns.specs.declared.list.Turn.{Turn}
-use Rattle.dm_read_patterns.specs.declared.list.Turn.TheVariants.{One, End}
-use Rattle.dm_read_patterns.specs.Turns.{declared_at}
+use Rattle.dm_read_places.specs.declared.list.Turn.{Turn}
+use Rattle.dm_read_places.specs.declared.list.Turn.TheVariants.{One, End}
+use Rattle.dm_read_places.specs.Turns.{declared_at}
 
 -- ---- associated types
 

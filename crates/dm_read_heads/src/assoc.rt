@@ -7,16 +7,16 @@ ghost use Rattle.dm_output.specs.Views.{assoc_view};
 ghost use Rattle.dm_reread.specs.Next.{next};
 ghost use Rattle.dm_reread.specs.Items as plain;
 ghost use Rattle.dm_reread.specs.ReadBack.{leaves};
-ghost use Rattle.dm_read_patterns.specs.Reads.{Reads};
+ghost use Rattle.dm_read_places.specs.Reads.{Reads};
 ghost use Rattle.dm_read_heads.specs.Members as spec;
 
 use dm_ast::Ty;
 use dm_input::join::{ended, joined};
 use dm_output::Assoc;
 use dm_read_leaves::ty::ty;
-use dm_read_patterns::front::Keyword;
-use dm_read_patterns::list::{Rule, Turn, repeated};
-use dm_read_patterns::place::Place;
+use dm_read_places::front::Keyword;
+use dm_read_places::list::{Rule, Turn, repeated};
+use dm_read_places::place::Place;
 use dm_stream::{Error, Seq};
 
 /// A type and a semicolon.

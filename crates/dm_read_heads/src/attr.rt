@@ -12,14 +12,14 @@ ghost use Rattle.dm_reread.specs.Reading as reading;
 ghost use Rattle.dm_reread.specs.Items as plain;
 ghost use Rattle.dm_reread.specs.Items.{same_words};
 ghost use Rattle.dm_reread.specs.Whole.{size};
-ghost use Rattle.dm_read_patterns.specs.Reads.{Reads};
+ghost use Rattle.dm_read_places.specs.Reads.{Reads};
 ghost use Rattle.dm_read_heads.specs.Attrs as spec;
 
 use dm_output::ItemAttr;
 use dm_read::token::at_end;
-use dm_read_patterns::front::Sign;
-use dm_read_patterns::list::{Rule, Turn, repeated};
-use dm_read_patterns::place::Place;
+use dm_read_places::front::Sign;
+use dm_read_places::list::{Rule, Turn, repeated};
+use dm_read_places::place::Place;
 use dm_stream::{Cursor, Delim, Error, Seq, Spacing};
 
 // ---- words and puncts

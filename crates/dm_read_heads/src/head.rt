@@ -7,7 +7,7 @@ ghost use Rattle.dm_ast.specs.Declarations.{param_view, predicate_view};
 ghost use Rattle.dm_read_decl.specs.ShapeViews.{angled_view, clause_view};
 ghost use Rattle.dm_reread.specs.HeadLeaves as plain;
 ghost use Rattle.dm_reread.specs.ExactLeaves.{exact_head};
-ghost use Rattle.dm_read_patterns.specs.Reads.{Reads};
+ghost use Rattle.dm_read_places.specs.Reads.{Reads};
 ghost use Rattle.dm_read_heads.specs.Heads as spec;
 ghost use Rattle.dm_read_heads.specs.Heads.{head_view};
 ghost use Rattle.dm_read_heads.specs.Named.{named_view, behind_view};
@@ -19,7 +19,7 @@ use dm_read::token::{behind, sees_word};
 use dm_read_decl::generics::{generics, where_clause};
 use dm_read_leaves::exact::exact;
 use dm_read_leaves::ty::front_type;
-use dm_read_patterns::place::Place;
+use dm_read_places::place::Place;
 use dm_stream::{Error, Punctuated, Seq};
 
 /// What stands between `impl` and the brace: parameters, perhaps a trait, the type, and predicates.

@@ -7,7 +7,7 @@ ghost use Rattle.dm_output.specs.Views.{method_param_view};
 ghost use Rattle.dm_reread.specs.Next.{next};
 ghost use Rattle.dm_reread.specs.Items as plain;
 ghost use Rattle.dm_reread.specs.ReadBack.{leaves};
-ghost use Rattle.dm_read_patterns.specs.Reads.{Reads, ReadsWhole};
+ghost use Rattle.dm_read_places.specs.Reads.{Reads, ReadsWhole};
 ghost use Rattle.dm_read_heads.specs.Members as spec;
 ghost use Rattle.dm_read_heads.specs.Signatures.{inputs_view, signature_view, named_view};
 
@@ -17,8 +17,8 @@ use dm_output::{MethodParam, Receiver};
 use dm_read::token::is_word;
 use dm_read::words::is_name;
 use dm_read_leaves::ty::ty;
-use dm_read_patterns::front::{Keyword, Sign};
-use dm_read_patterns::place::Place;
+use dm_read_places::front::{Keyword, Sign};
+use dm_read_places::place::Place;
 use dm_stream::{Delim, Error, Ident};
 
 /// What stands in a method's parentheses: its receiver, its parameter, both or none.

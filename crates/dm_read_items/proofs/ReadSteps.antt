@@ -15,7 +15,7 @@ use Rattle.dm_levels.specs.Levels.{items_levels, deep_in}
 use Rattle.dm_reread.specs.Unplaced.{IsAnswer}
 use Rattle.dm_reread.specs.ReadBack.{item_grammar, read_output}
 use Rattle.dm_read_laws.proofs.ReadingAnswers.{answers}
-use Rattle.dm_read_patterns.specs.Reads.{ReadsWhole}
+use Rattle.dm_read_places.specs.Reads.{ReadsWhole}
 use Rattle.dm_read_items.specs.Reading.{IsAnswerTo, IsFollowed, Becomes, IsWithin, IsUnread, no_memory, lexed, unlike, too_deep}
 
 pub answered : (text : List ℕ) (ts : Trees) (o : Option (List ItemTree)) → IsTreesOf text ts → read_output ts ≡ o → IsAnswerTo text o

@@ -3,12 +3,12 @@
 ghost use Rattle.std.specs.Prelude.{map};
 ghost use Rattle.dm_output.specs.Views.{item_view};
 ghost use Rattle.dm_reread.specs.ReadBack.{read_output};
-ghost use Rattle.dm_read_patterns.specs.Reads.{ReadsWhole};
+ghost use Rattle.dm_read_places.specs.Reads.{ReadsWhole};
 
 use dm_output::Item;
 use dm_read_exprs::nested::expr;
 use dm_read_members::Bodies;
-use dm_read_patterns::place::Place;
+use dm_read_places::place::Place;
 use dm_stream::{Error, Seq};
 
 /// How many expressions may stand in one another. Deeper ones want memory: that of the stack.

@@ -11,7 +11,7 @@ use crate::items::items;
 use dm_levels::first_deep;
 use dm_lexer::lex;
 use dm_output::Item;
-use dm_read_patterns::place::Place;
+use dm_read_places::place::Place;
 use dm_stream::{Error, Kind, Refusal, Seq, Span, TokenStream};
 use std::alloc::Global;
 

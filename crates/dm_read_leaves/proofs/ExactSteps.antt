@@ -7,7 +7,7 @@ use Rattle.dm_stream.specs.Trees.{Trees}
 use Rattle.dm_reread.specs.Leaves.{Answer}
 use Rattle.dm_reread.specs.Reading.{then, provided}
 use Rattle.dm_reread.specs.ExactLeaves.{passed, has_entries, exactly}
-use Rattle.dm_read_patterns.specs.Reads.{Reads, ReadsWhole}
+use Rattle.dm_read_places.specs.Reads.{Reads, ReadsWhole}
 use Rattle.dm_read_leaves.specs.Leaves.{only}
 
 module _ {A X : Type 0} (view : X → A) where

@@ -4,11 +4,11 @@
 ghost use Rattle.std.specs.Prelude.{◌≡◌, IfOk};
 ghost use Rattle.dm_stream.specs.Cursors.{left, sound};
 ghost use Rattle.dm_reread.specs.ExactLeaves.{passed, has_entries};
-ghost use Rattle.dm_read_patterns.specs.Reads.{ReadsWhole};
+ghost use Rattle.dm_read_places.specs.Reads.{ReadsWhole};
 ghost use Rattle.dm_read_leaves.specs.Leaves.{only};
 
 use dm_quote::ToTokens;
-use dm_read_patterns::place::Place;
+use dm_read_places::place::Place;
 use dm_same::all_alike;
 use dm_stream::{Cursor, Entry, Error, TokenStream};
 use std::alloc::{AllocError, Global};

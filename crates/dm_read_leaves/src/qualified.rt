@@ -7,21 +7,21 @@ ghost use Rattle.dm_stream.specs.Cursors.{left, sound, trees_in, sound_piece, Sh
 ghost use Rattle.dm_stream.specs.Sizes.{size};
 ghost use Rattle.dm_expr.specs.Cuts.{after, split_at};
 ghost use Rattle.dm_ast.specs.Spelling as spelling;
-ghost use Rattle.dm_ast.specs.Tree.{ty_view};
+ghost use Rattle.dm_ast.specs.Tree.{ty_view, path_view, no_self};
 ghost use Rattle.dm_reread.specs.Reading.{whole};
 ghost use Rattle.dm_reread.specs.TypeLeaves.{read_type};
 ghost use Rattle.dm_reread.specs.PathLeaves.{names_at, path_at, qualified_in};
 ghost use Rattle.dm_reread.specs.ExactLeaves.{exact_qualified};
-ghost use Rattle.dm_read_patterns.specs.Reads.{Reads, ReadsWhole};
+ghost use Rattle.dm_read_places.specs.Reads.{Reads, ReadsWhole};
 ghost use Rattle.dm_read_leaves.specs.Leaves.{is_separated, path_expr_view, unranged_type, cut_type, exact_cut};
 
 use crate::exact::exact;
 use crate::ty::front_type;
-use dm_ast::{Ty, TyNode};
+use dm_ast::{Path, Ty, TyNode};
 use dm_expr::pair_size;
 use dm_input::join::ended;
 use dm_output::PathExpr;
-use dm_read_patterns::place::Place;
+use dm_read_places::place::Place;
 use dm_stream::{Cursor, Error, Piece, Punct, Spacing, Span};
 use std::alloc::Global;
 
@@ -164,4 +164,12 @@ pub fn qualified<'a>(place: &mut Place<'_, 'a>) -> Result<PathExpr<'a>, Error>
         Some(path) => Ok(path),
         None => Err(place.refused()),
     }
+}
+
+/// A path without a self type.
+#[tactic(auto, using(dm_ast::proofs::View::view_steps))]
+pub fn plain_path<'a>(path: Path<'a>) -> PathExpr<'a>
+    ensures { path_expr_view result ≡ (no_self, path_view path.entry) }
+{
+    PathExpr { qself: None, path }
 }

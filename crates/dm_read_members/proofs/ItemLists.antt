@@ -9,7 +9,7 @@ use Rattle.dm_reread.specs.Reading.{then}
 use Rattle.dm_reread.specs.Items.{HeadTree, braces_of_item, impl_after, read_attrs, read_item, items_from, items_with}
 use Rattle.dm_reread.specs.ReadBack.{item_leaves}
 use Rattle.dm_reread.specs.Whole.{size}
-use Rattle.dm_read_patterns.specs.Repeating.{after_turn, repeat}
+use Rattle.dm_read_places.specs.Repeating.{after_turn, repeat}
 use Rattle.dm_read_heads.proofs.Turned.{AllParts, PartTurn, whole_part_on}
 use Rattle.dm_read_members.specs.Rows.{Members, all_assocs, all_methods, all_members, braced, behind_impl, unmarked, made_item, item_turn}
 

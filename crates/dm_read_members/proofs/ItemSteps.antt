@@ -9,10 +9,10 @@ use Rattle.dm_reread.specs.Next.{k_impl, Next, in_braces, a_word}
 use Rattle.dm_reread.specs.Reading.{then}
 use Rattle.dm_reread.specs.Items.{impl_after, read_item}
 use Rattle.dm_reread.specs.ReadBack.{item_leaves}
-use Rattle.dm_read_patterns.specs.declared.front.Keyword.TheVariants as keyword
-use Rattle.dm_read_patterns.specs.declared.list.Turn.{Turn}
-use Rattle.dm_read_patterns.specs.declared.list.Turn.TheVariants.{One, End}
-use Rattle.dm_read_patterns.specs.Fronts.{is_keyword, is_group_next}
+use Rattle.dm_read_places.specs.declared.front.Keyword.TheVariants as keyword
+use Rattle.dm_read_places.specs.declared.list.Turn.{Turn}
+use Rattle.dm_read_places.specs.declared.list.Turn.TheVariants.{One, End}
+use Rattle.dm_read_places.specs.Fronts.{is_keyword, is_group_next}
 use Rattle.dm_read_members.specs.Rows.{braced, item_turn}
 use Rattle.dm_read_members.proofs.ItemLists.{item_is, items_are}
 

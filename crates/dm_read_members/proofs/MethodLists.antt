@@ -12,8 +12,8 @@ use Rattle.dm_reread.specs.Reading.{then, provided}
 use Rattle.dm_reread.specs.Items.{Inputs, inputs_after, output_after, body_after, name_of_method, fn_from, const_or_fn, read_attrs, read_method, methods_from, read_methods}
 use Rattle.dm_reread.specs.ReadBack.{leaves}
 use Rattle.dm_reread.specs.Whole.{size}
-use Rattle.dm_read_patterns.specs.Repeating.{after_turn, repeat}
-use Rattle.dm_read_patterns.specs.Turns.{declared_at}
+use Rattle.dm_read_places.specs.Repeating.{after_turn, repeat}
+use Rattle.dm_read_places.specs.Turns.{declared_at}
 use Rattle.dm_read_heads.proofs.Turned.{AllParts, PartTurn, whole_part_on}
 use Rattle.dm_read_heads.specs.Members.{Signature, signature_at}
 use Rattle.dm_read_members.specs.Rows.{fn_at, const_fn, Behind, behind_fn, unnamed, made_method, method_turn}

@@ -9,10 +9,10 @@ use Rattle.dm_reread.specs.Next.{k_const, k_fn, Next, in_braces, a_word}
 use Rattle.dm_reread.specs.Reading.{then}
 use Rattle.dm_reread.specs.Items.{body_after, read_method}
 use Rattle.dm_reread.specs.ReadBack.{leaves}
-use Rattle.dm_read_patterns.specs.declared.front.Keyword.TheVariants as keyword
-use Rattle.dm_read_patterns.specs.declared.list.Turn.{Turn}
-use Rattle.dm_read_patterns.specs.declared.list.Turn.TheVariants.{One, End}
-use Rattle.dm_read_patterns.specs.Fronts.{is_keyword, is_group_next}
+use Rattle.dm_read_places.specs.declared.front.Keyword.TheVariants as keyword
+use Rattle.dm_read_places.specs.declared.list.Turn.{Turn}
+use Rattle.dm_read_places.specs.declared.list.Turn.TheVariants.{One, End}
+use Rattle.dm_read_places.specs.Fronts.{is_keyword, is_group_next}
 use Rattle.dm_read_members.specs.Rows.{fn_at, const_fn, method_turn}
 use Rattle.dm_read_members.proofs.MethodLists.{method_is, methods_are}
 

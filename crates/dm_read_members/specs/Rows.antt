@@ -12,8 +12,8 @@ use Rattle.dm_reread.specs.Reading.{then}
 use Rattle.dm_reread.specs.Items.{HeadTree, body_after, impl_after, read_method, read_item, read_assocs, read_methods}
 use Rattle.dm_reread.specs.ReadBack.{leaves, item_leaves}
 use Rattle.dm_reread.specs.Whole.{size}
-use Rattle.dm_read_patterns.specs.declared.list.Turn.{Turn}
-use Rattle.dm_read_patterns.specs.declared.list.Turn.TheVariants.{One, End}
+use Rattle.dm_read_places.specs.declared.list.Turn.{Turn}
+use Rattle.dm_read_places.specs.declared.list.Turn.TheVariants.{One, End}
 use Rattle.dm_read_heads.specs.Members.{Signature, named_signature}
 
 -- ---- how many trees there are

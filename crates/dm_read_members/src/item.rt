@@ -6,8 +6,8 @@ ghost use Rattle.dm_output.specs.Views.{assoc_view, item_view};
 ghost use Rattle.dm_reread.specs.Next.{next};
 ghost use Rattle.dm_reread.specs.Items as plain;
 ghost use Rattle.dm_reread.specs.ReadBack.{item_leaves, read_output};
-ghost use Rattle.dm_read_patterns.specs.Reads.{Reads, ReadsWhole};
-ghost use Rattle.dm_read_blocks.specs.ExprNests.{ExprNests};
+ghost use Rattle.dm_read_places.specs.Reads.{Reads, ReadsWhole};
+ghost use Rattle.dm_read_arguments.specs.ExprNests.{ExprNests};
 ghost use Rattle.dm_read_members.specs.Rows as spec;
 ghost use Rattle.dm_read_members.specs.Views.{members_view, unmarked_view};
 
@@ -15,13 +15,13 @@ use crate::count::turns;
 use crate::method::Bodies;
 use dm_input::join::joined;
 use dm_output::{Assoc, Expr, Item, ItemAttr, Method};
-use dm_read_blocks::sort::Wanted;
+use dm_read_arguments::sort::Wanted;
 use dm_read_heads::assoc::assocs;
 use dm_read_heads::attr::attrs;
 use dm_read_heads::head::{Head, printed_head};
-use dm_read_patterns::front::Keyword;
-use dm_read_patterns::list::{Rule, Turn, repeated};
-use dm_read_patterns::place::Place;
+use dm_read_places::front::Keyword;
+use dm_read_places::list::{Rule, Turn, repeated};
+use dm_read_places::place::Place;
 use dm_stream::{Delim, Error, Seq};
 
 type Members<'a> = (Seq<Assoc<'a>>, Seq<Method<'a>>);
@@ -67,7 +67,7 @@ impl<'g, 'a, F: Copy + for<'t, 'b> Fn(&mut Place<'t, 'b>, Wanted) -> Result<Expr
 > for ItemRule<'g, F> {
     ghost use Rattle.dm_output.specs.Output.{ItemTree};
     ghost use Rattle.dm_output.specs.Views.{item_view};
-    ghost use Rattle.dm_read_blocks.specs.ExprNests.{ExprNests};
+    ghost use Rattle.dm_read_arguments.specs.ExprNests.{ExprNests};
     ghost use Rattle.dm_read_members.specs.Rows.{item_turn};
 
     type Part = Item<'a>;

@@ -7,22 +7,23 @@ ghost use Rattle.dm_reread.specs.Next.{next};
 ghost use Rattle.dm_reread.specs.Items as plain;
 ghost use Rattle.dm_reread.specs.ReadBack.{leaves};
 ghost use Rattle.dm_reread.specs.Whole.{read_inside};
-ghost use Rattle.dm_read_patterns.specs.Reads.{Reads, ReadsWhole};
-ghost use Rattle.dm_read_patterns.specs.Turns.{rows};
-ghost use Rattle.dm_read_blocks.specs.ExprNests.{ExprNests};
+ghost use Rattle.dm_read_places.specs.Reads.{Reads, ReadsWhole};
+ghost use Rattle.dm_read_places.specs.Turns.{rows};
+ghost use Rattle.dm_read_arguments.specs.ExprNests.{ExprNests};
 ghost use Rattle.dm_read_members.specs.Rows as spec;
 ghost use Rattle.dm_read_members.specs.Views.{behind_view, unnamed_view};
 
 use crate::count::{fuel, turns};
 use dm_input::join::joined;
 use dm_output::{Block, Expr, ItemAttr, Method};
-use dm_read_blocks::rules::Exprs;
-use dm_read_blocks::sort::Wanted;
+use dm_read_arguments::rules::Exprs;
+use dm_read_arguments::sort::Wanted;
+use dm_read_blocks::blocks::Blocks;
 use dm_read_heads::attr::attrs;
 use dm_read_heads::signature::{Inputs, Signature, named_signature};
-use dm_read_patterns::front::Keyword;
-use dm_read_patterns::list::{Rule, Turn, repeated};
-use dm_read_patterns::place::Place;
+use dm_read_places::front::Keyword;
+use dm_read_places::list::{Rule, Turn, repeated};
+use dm_read_places::place::Place;
 use dm_stream::{Delim, Error, Ident, Seq};
 
 /// What methods and implementations are read by.
@@ -75,7 +76,7 @@ impl<'g, 'a, F: Copy + for<'t, 'b> Fn(&mut Place<'t, 'b>, Wanted) -> Result<Expr
 > for MethodRule<'g, F> {
     ghost use Rattle.dm_output.specs.Output.{MethodTree};
     ghost use Rattle.dm_output.specs.Views.{method_view};
-    ghost use Rattle.dm_read_blocks.specs.ExprNests.{ExprNests};
+    ghost use Rattle.dm_read_arguments.specs.ExprNests.{ExprNests};
     ghost use Rattle.dm_read_members.specs.Rows.{method_turn};
 
     type Part = Method<'a>;
@@ -108,10 +109,12 @@ impl<F: Copy + for<'t, 'b> Fn(&mut Place<'t, 'b>, Wanted) -> Result<Expr<'b>, Er
         requires { ExprNests self.now.room (F.pre self.now.expr) (F.post self.now.expr) }
         ensures { ReadsWhole block_view (rows fuel).block place.old result }
     {
-        let rules = Exprs {
-            fuel,
-            room: self.room,
-            expr: self.expr,
+        let rules = Blocks {
+            parts: Exprs {
+                fuel,
+                room: self.room,
+                expr: self.expr,
+            },
         };
         rules.block(place)
     }

@@ -1,8 +1,3 @@
-pub mod Numbers
-pub mod Seeing
-pub mod Repeats
-pub mod Lists
-pub mod Expecting
-pub mod PathSteps
+pub mod PatternLists
 pub mod PatternSteps
 pub mod Nesting

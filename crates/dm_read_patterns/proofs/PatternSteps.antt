@@ -14,17 +14,19 @@ use Rattle.dm_output.specs.declared.pattern.Binding.{Binding}
 use Rattle.dm_output.specs.declared.pattern.Binding.TheVariants as binding
 use Rattle.dm_output.specs.Output.{PatternTree, bind, path_pattern, str_pattern, pair_pattern}
 use Rattle.dm_output.proofs.View.{view_steps}
-use Rattle.dm_read_patterns.specs.declared.front.Sign.TheVariants as sign
-use Rattle.dm_read_patterns.specs.declared.front.Keyword.TheVariants as keyword
-use Rattle.dm_read_patterns.specs.declared.list.Turn.{Turn}
-use Rattle.dm_read_patterns.specs.declared.list.Turn.TheVariants.{One, End}
+use Rattle.dm_read_places.specs.declared.front.Sign.TheVariants as sign
+use Rattle.dm_read_places.specs.declared.front.Keyword.TheVariants as keyword
+use Rattle.dm_read_places.specs.declared.list.Turn.{Turn}
+use Rattle.dm_read_places.specs.declared.list.Turn.TheVariants.{One, End}
 use Rattle.dm_reread.specs.Next.{k_mut, k_wild, k_ref, Next, ended, bar, dots, in_parens, in_braces, literal, a_name, a_word, next}
 use Rattle.dm_reread.specs.Leaves.{Answer}
 use Rattle.dm_reread.specs.Reading.{then, provided, whole, Readers, comma_after, colon_after, is_str, bind_name, ref_from, pattern_of_path, after_pattern_path, pattern_path, pair_from, read_pattern}
-use Rattle.dm_read_patterns.specs.Fronts.{is_sign, is_keyword, is_literal_next, is_group_next}
-use Rattle.dm_read_patterns.specs.Turns.{rows, declared_at, bar_turn_at, pattern_turn, named_pattern_part, dots_turn, one_named_pattern, named_pattern_turn_at}
-use Rattle.dm_read_patterns.specs.PatternRows.{before_comma, behind_colon, field, last, pair, text, segment_name, segments_name, declared_name, name_or_path}
-use Rattle.dm_read_patterns.proofs.Lists.{bars_are, patterns_are, named_patterns_are}
+use Rattle.dm_read_places.specs.Fronts.{is_sign, is_keyword, is_literal_next, is_group_next}
+use Rattle.dm_read_places.specs.Turns.{rows, declared_at, segment_name}
+use Rattle.dm_read_places.proofs.Expecting.{whole_open}
+use Rattle.dm_read_patterns.specs.PatternTurns.{bar_turn_at, pattern_turn, named_pattern_part, dots_turn, one_named_pattern, named_pattern_turn_at}
+use Rattle.dm_read_patterns.specs.PatternRows.{before_comma, behind_colon, field, last, pair, text, segments_name, declared_name, name_or_path}
+use Rattle.dm_read_patterns.proofs.PatternLists.{bars_are, patterns_are, named_patterns_are}
 
 -- ---- turns
 
@@ -142,11 +144,6 @@ pub no_group_behind : (r : Readers) (p : PathTree) (ts : Trees) (n : Next) → i
 no_group_behind r p ts (in_parens inside us) e f = absurd (cc)
 no_group_behind r p ts (in_braces inside us) e f = absurd (cc)
 no_group_behind r p ts _ e f = refl
-
-pub whole_open : {A : Type 0} (x : A) (ts : Trees) → at_end ts ≡ false → whole (Some (x, ts)) ≡ None
-whole_open x no_trees e = absurd (cc)
-whole_open x (token k ts) e = refl
-whole_open x (group d from inside upto ts) e = refl
 
 pair_last : (a : PatternTree) (ts : Trees) (o : Option Trees) (f : Trees → Option PatternTree) →
     then o (λ us. then (f us) (λ c. Some (pair_pattern a c, ts))) ≡

@@ -1,7 +1,3 @@
-pub mod Fronts
-pub mod Reads
-pub mod Repeating
-pub mod Places
-pub mod Turns
+pub mod PatternTurns
 pub mod PatternNests
 pub mod PatternRows

@@ -3,14 +3,14 @@ use Rattle.std.specs.Prelude.{ℕ, true, false, Option, Some, None}
 use Rattle.dm_stream.specs.declared.tokens.Ident.{Ident}
 use Rattle.dm_stream.specs.declared.tokens.Literal.{Literal}
 use Rattle.dm_stream.specs.Trees.{Trees}
-use Rattle.dm_ast.specs.Tree.{PathTree, path_tree, SegmentTree, segment, SegmentTrees, no_segments, segment_then, absent}
+use Rattle.dm_ast.specs.Tree.{PathTree, path_tree, SegmentTrees, no_segments, segment_then}
 use Rattle.dm_ast.specs.Keywords.{is_name}
 use Rattle.dm_output.specs.declared.pattern.Binding.TheVariants as binding
 use Rattle.dm_output.specs.Output.{PatternTree, bind, path_pattern, str_pattern, pair_pattern}
 use Rattle.dm_reread.specs.Next.{next}
 use Rattle.dm_reread.specs.Leaves.{Answer}
 use Rattle.dm_reread.specs.Reading.{then, provided, whole, is_str, comma_after, colon_after}
-use Rattle.dm_read_patterns.specs.Turns.{rows, declared_at}
+use Rattle.dm_read_places.specs.Turns.{rows, declared_at, segment_name}
 
 -- a pattern and a comma
 abbrev pub before_comma : ℕ → Trees → Answer PatternTree
@@ -37,10 +37,6 @@ abbrev pub text : Literal → Option PatternTree
 text l = provided (is_str l.kind) (Some (str_pattern l))
 
 -- the only segment of a path, without `::` in front and without arguments
-abbrev pub segment_name : SegmentTree → Option Ident
-segment_name (segment i absent) = Some i
-segment_name (segment i _) = None
-
 abbrev pub segments_name : SegmentTrees → Option Ident
 segments_name no_segments = None
 segments_name (segment_then s no_segments) = segment_name s

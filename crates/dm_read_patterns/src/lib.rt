@@ -1,12 +1,6 @@
-//! Reading the output language: places in its trees, lists, paths and patterns, each as the plain reader reads it.
+//! Reading the output language: patterns, as the plain reader reads them.
 #![tactic(auto)]
 
-pub mod expect;
-pub mod front;
-pub mod list;
 pub mod nested;
-pub mod node;
-pub mod path;
 pub mod pattern;
-pub mod pattern_nodes;
-pub mod place;
+mod pattern_nodes;

@@ -4,12 +4,12 @@
 ghost use Rattle.std.specs.Prelude.{map};
 ghost use Rattle.dm_output.specs.Output.{patterns_of};
 ghost use Rattle.dm_output.specs.Views.{pattern_view};
-ghost use Rattle.dm_read_patterns.specs.Reads.{Reads};
-ghost use Rattle.dm_read_patterns.specs.Turns.{rows};
+ghost use Rattle.dm_read_places.specs.Reads.{Reads};
+ghost use Rattle.dm_read_places.specs.Turns.{rows};
 
 use crate::pattern::Patterns;
-use crate::place::Place;
 use dm_output::Pattern;
+use dm_read_places::place::Place;
 use dm_stream::{Error, Seq};
 
 /// A pattern, with at most `room` patterns in one another. Deeper ones want memory: that of the stack. `fuel` is a number that no list in it

@@ -7,23 +7,23 @@ ghost use Rattle.dm_output.specs.Output.{patterns_of, named_of};
 ghost use Rattle.dm_output.specs.Views.{pattern_view, named_view};
 ghost use Rattle.dm_reread.specs.Next.{next};
 ghost use Rattle.dm_reread.specs.Reading as plain;
-ghost use Rattle.dm_read_patterns.specs.Reads.{Reads, ReadsWhole};
+ghost use Rattle.dm_read_places.specs.Reads.{Reads, ReadsWhole};
 ghost use Rattle.dm_read_patterns.specs.PatternNests.{PatternNests};
 ghost use Rattle.dm_read_patterns.specs.PatternRows as spec;
-ghost use Rattle.dm_read_patterns.specs.Turns.{rows};
+ghost use Rattle.dm_read_places.specs.Turns.{rows};
 
-use crate::expect::is_str;
-use crate::front::{Keyword, Sign};
-use crate::list::{Rule, Turn, repeated};
-use crate::node::two_boxes;
-use crate::path::path;
 use crate::pattern_nodes::{
     bind, named_part, named_pattern, pair_of, path_pattern, str_pattern, tuple_pattern, wild,
 };
-use crate::place::Place;
 use dm_ast::Path;
 use dm_input::join::{ended, joined};
 use dm_output::{Binding, NamedPattern, Pattern};
+use dm_read_places::expect::is_str;
+use dm_read_places::front::{Keyword, Sign};
+use dm_read_places::list::{Rule, Turn, repeated};
+use dm_read_places::node::two_boxes;
+use dm_read_places::path::path;
+use dm_read_places::place::Place;
 use dm_stream::{Delim, Error, Literal, Seq};
 
 /// The rules of patterns.
@@ -195,7 +195,7 @@ impl<
     ghost use Rattle.dm_output.specs.Output.{PatternTree};
     ghost use Rattle.dm_output.specs.Views.{pattern_view};
     ghost use Rattle.dm_read_patterns.specs.PatternNests.{PatternNests};
-    ghost use Rattle.dm_read_patterns.specs.Turns.{pattern_turn};
+    ghost use Rattle.dm_read_patterns.specs.PatternTurns.{pattern_turn};
 
     type Part = Pattern<'a>;
 
@@ -237,7 +237,7 @@ impl<
     ghost use Rattle.dm_output.specs.Output.{PatternTree};
     ghost use Rattle.dm_output.specs.Views.{named_view};
     ghost use Rattle.dm_read_patterns.specs.PatternNests.{PatternNests};
-    ghost use Rattle.dm_read_patterns.specs.Turns.{named_pattern_turn};
+    ghost use Rattle.dm_read_patterns.specs.PatternTurns.{named_pattern_turn};
 
     type Part = NamedPattern<'a>;
 
@@ -285,7 +285,7 @@ impl<
     ghost use Rattle.dm_output.specs.Output.{PatternTree};
     ghost use Rattle.dm_output.specs.Views.{pattern_view};
     ghost use Rattle.dm_read_patterns.specs.PatternNests.{PatternNests};
-    ghost use Rattle.dm_read_patterns.specs.Turns.{bar_turn};
+    ghost use Rattle.dm_read_patterns.specs.PatternTurns.{bar_turn};
 
     type Part = Pattern<'a>;
 

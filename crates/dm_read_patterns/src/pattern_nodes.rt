@@ -6,11 +6,12 @@ ghost use Rattle.dm_ast.specs.Tree.{path_view, segment_view, segments_of};
 ghost use Rattle.dm_output.specs.Output as tree;
 ghost use Rattle.dm_output.specs.Views.{pattern_view, named_view};
 ghost use Rattle.dm_reread.specs.Reading as plain;
-ghost use Rattle.dm_read_patterns.specs.PatternRows.{segment_name, segments_name, path_name, declared_name};
+ghost use Rattle.dm_read_patterns.specs.PatternRows.{segments_name, path_name, declared_name};
 
-use dm_ast::{Path, PathArguments, PathSegment};
+use dm_ast::{Path, PathSegment};
 use dm_output::{Binding, NamedPattern, Pattern};
 use dm_read::words::is_name;
+use dm_read_places::path::segment_alone;
 use dm_stream::{Ident, Literal, Seq};
 use std::alloc::{AllocError, Global};
 
@@ -65,18 +66,6 @@ pub(crate) fn pair_of<'a>(first: Box<Pattern<'a>>, second: Box<Pattern<'a>>) -> 
     ensures { pattern_view result ≡ tree.pair_pattern (pattern_view first.entry.value) (pattern_view second.entry.value) }
 {
     Pattern::Pair(first, second)
-}
-
-/// The name of a segment without arguments.
-#[tactic(auto, using(dm_ast::proofs::View::view_steps))]
-pub fn segment_alone<'p, 'a>(segment: &'p PathSegment<'a>) -> Option<&'p Ident<'a>>
-    ensures { option_copied result ≡ segment_name (segment_view segment.now) }
-{
-    match &segment.arguments {
-        PathArguments::Absent => Some(&segment.ident),
-        PathArguments::Angle(_, _) => None,
-        PathArguments::Paren(_, _) => None,
-    }
 }
 
 /// The name of one segment alone.

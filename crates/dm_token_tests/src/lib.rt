@@ -1,15 +1,5 @@
-//! Texts and the tokens they are read as, the values of literals, the layouts of trees, and the units of runs.
+//! Trees that are made by hand: their layouts, the runs that are taken of them, and the lists and texts that they are made of.
 #![tactic(auto)]
 
 #[cfg(test)]
 mod layouts;
-#[cfg(test)]
-mod lexing;
-#[cfg(test)]
-mod rows;
-#[cfg(test)]
-mod units;
-#[cfg(test)]
-mod values;
-#[cfg(test)]
-mod words;

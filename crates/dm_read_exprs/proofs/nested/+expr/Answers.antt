@@ -3,10 +3,10 @@ use Rattle.std.proofs.Common.{◌≡◌, suc, ◌-◌, sym, subst, arith}
 use Rattle.dm_output.specs.Views.{expr_view}
 use Rattle.dm_reread.specs.Next.{next}
 use Rattle.dm_reread.specs.Reading.{read_or, read_pre}
-use Rattle.dm_read_patterns.specs.Reads.{Reads}
-use Rattle.dm_read_patterns.specs.Turns.{rows}
-use Rattle.dm_read_patterns.proofs.Nesting.{reads_as}
-use Rattle.dm_read_blocks.specs.Sorts.{sorted}
+use Rattle.dm_read_places.specs.Reads.{Reads}
+use Rattle.dm_read_places.specs.Turns.{rows}
+use Rattle.dm_read_places.proofs.Same.{reads_as}
+use Rattle.dm_read_arguments.specs.Sorts.{sorted}
 use Rattle.dm_read_exprs.proofs.NestSteps.{whole_row, operand_row}
 use Rattle.dm_read_exprs.proofs.nested.+expr.Goals as goal
 

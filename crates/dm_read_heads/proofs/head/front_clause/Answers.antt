@@ -7,7 +7,7 @@ use Rattle.dm_read_paths.specs.WholeReaders.{parts}
 use Rattle.dm_read_decl.specs.ShapeViews.{clause_view}
 use Rattle.dm_reread.specs.HeadLeaves.{read_where}
 use Rattle.dm_reread.proofs.FreeDeclarations.{where_free}
-use Rattle.dm_read_patterns.specs.Reads.{Reads}
+use Rattle.dm_read_places.specs.Reads.{Reads}
 use Rattle.dm_read_heads.proofs.HeadSteps.{found_free, failed_free}
 use Rattle.dm_read_heads.proofs.head.front_clause.Goals as goal
 

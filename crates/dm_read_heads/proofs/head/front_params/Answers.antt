@@ -7,7 +7,7 @@ use Rattle.dm_read_paths.specs.WholeReaders.{parts}
 use Rattle.dm_read_decl.specs.ShapeViews.{angled_view}
 use Rattle.dm_reread.specs.HeadLeaves.{read_generics}
 use Rattle.dm_reread.proofs.FreeDeclarations.{generics_free}
-use Rattle.dm_read_patterns.specs.Reads.{Reads}
+use Rattle.dm_read_places.specs.Reads.{Reads}
 use Rattle.dm_read_heads.proofs.HeadSteps.{found_free, failed_free}
 use Rattle.dm_read_heads.proofs.head.front_params.Goals as goal
 

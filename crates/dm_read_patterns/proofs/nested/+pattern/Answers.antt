@@ -3,9 +3,10 @@ use Rattle.std.proofs.Common.{◌≡◌, suc, ◌-◌, sym, subst, arith}
 use Rattle.dm_output.specs.Views.{pattern_view}
 use Rattle.dm_reread.specs.Next.{next}
 use Rattle.dm_reread.specs.Reading.{read_pattern}
-use Rattle.dm_read_patterns.specs.Reads.{Reads}
-use Rattle.dm_read_patterns.specs.Turns.{rows}
-use Rattle.dm_read_patterns.proofs.Nesting.{pattern_row, reads_as}
+use Rattle.dm_read_places.specs.Reads.{Reads}
+use Rattle.dm_read_places.specs.Turns.{rows}
+use Rattle.dm_read_places.proofs.Same.{reads_as}
+use Rattle.dm_read_patterns.proofs.Nesting.{pattern_row}
 use Rattle.dm_read_patterns.proofs.nested.+pattern.Goals as goal
 
 pub returns : goal.returns

@@ -1,0 +1,4 @@
+pub mod RunSteps
+pub mod FormatLists
+pub mod FormatSteps
+pub mod MacroSteps

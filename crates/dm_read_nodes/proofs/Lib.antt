@@ -1,0 +1,2 @@
+pub mod BoxSteps
+pub mod Applying

@@ -1,0 +1,7 @@
+pub mod Numbers
+pub mod Seeing
+pub mod Repeats
+pub mod Lists
+pub mod Expecting
+pub mod PathSteps
+pub mod Same

@@ -1,0 +1,84 @@
+//! Lists, whatever their parts are: one part after another, up to what ends them.
+#![tactic(auto, using(crate::proofs::Repeats::repeat_steps))]
+
+ghost use Rattle.std.specs.Prelude.{◌≡◌, ℕ, Ok, Err, MatchResult, map};
+ghost use Rattle.dm_stream.specs.Trees.{Trees};
+ghost use Rattle.dm_reread.specs.Leaves.{Answer};
+ghost use Rattle.dm_read_places.specs.declared.list.Turn.{Turn};
+ghost use Rattle.dm_read_places.specs.declared.list.Turn.TheVariants.{One};
+ghost use Rattle.dm_read_places.specs.Reads.{Reads};
+ghost use Rattle.dm_read_places.specs.Repeating.{turn_view, repeat};
+
+use crate::place::Place;
+use dm_stream::{Error, Seq};
+
+/// One turn of a list: a part, or what ends the list.
+#[derive(Drop)]
+pub enum Turn<T, E> {
+    One(T),
+    End(E),
+}
+
+/// The turn of a part that was read. What it is is open here, so nothing has to be known of how it is dropped.
+pub fn one<T: Drop, E: Drop>(part: Result<T, Error>) -> Result<Turn<T, E>, Error>
+    ensures { MatchResult part (λ t. result ≡ Ok (One t)) (λ e. result ≡ Err e) }
+{
+    match part {
+        Ok(part) => Ok(Turn::One(part)),
+        Err(error) => Err(error),
+    }
+}
+
+/// Reads the parts of a list, and what ends it.
+pub trait Rule<'a> {
+    /// What the program holds of a part.
+    type Part: Drop;
+
+    /// What it holds of the end.
+    type Last: Drop;
+
+    /// What a part, and the end, are as plain data.
+    ghost Tree: { Type 0 };
+
+    ghost Tail: { Type 0 };
+
+    ghost view: { Self.Part → Tree };
+
+    ghost last: { Self.Last → Tail };
+
+    /// What the rule itself has to meet.
+    ghost usable: { Self → Type 0 };
+
+    ghost reader: { Self → ℕ → Trees → Answer (Turn Tree Tail) };
+
+    /// One turn, with fuel for what is in it.
+    fn turn(
+        &self,
+        fuel: usize,
+        place: &mut Place<'_, 'a>,
+    ) -> Result<Turn<Self::Part, Self::Last>, Error>
+        requires { usable self.now }
+        ensures { Reads (turn_view view last) (reader self.now fuel) place.old result place.new };
+}
+
+/// Parts up to the end, in at most so many turns.
+pub fn repeated<'a, R: Rule<'a>>(
+    rule: &R,
+    fuel: usize,
+    place: &mut Place<'_, 'a>,
+) -> Result<(Seq<R::Part>, R::Last), Error>
+    requires { R.usable rule.now }
+    ensures { Reads (λ v. (map R.view v.0, R.last v.1)) (repeat (R.reader rule.now) fuel) place.old result place.new }
+{
+    let mut items = Seq::new(place.alloc());
+    let mut left = fuel;
+    while left > 0 {
+        left -= 1;
+        match rule.turn(left, place) {
+            Ok(Turn::One(item)) => items.add(item)?,
+            Ok(Turn::End(end)) => return Ok((items, end)),
+            Err(error) => return Err(error),
+        }
+    }
+    Err(place.refused())
+}

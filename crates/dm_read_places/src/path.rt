@@ -1,0 +1,106 @@
+//! Paths without arguments.
+#![tactic(auto, using(crate::proofs::PathSteps::path_steps))]
+
+ghost use Rattle.std.specs.Prelude.{◌≡◌, map, option_copied};
+ghost use Rattle.dm_ast.specs.Tree.{path_view, segment_view, segments_of};
+ghost use Rattle.dm_reread.specs.Next.{next};
+ghost use Rattle.dm_reread.specs.Reading as plain;
+ghost use Rattle.dm_read_places.specs.Reads.{Reads};
+ghost use Rattle.dm_read_places.specs.Turns.{rows, segment_at, segment_name};
+
+use crate::front::Sign;
+use crate::list::{Rule, Turn, repeated};
+use crate::node::fronted;
+use crate::place::Place;
+use dm_ast::{Path, PathArguments, PathSegment};
+use dm_input::join::joined;
+use dm_read_paths::path::{no_arguments, path_of, segment_of};
+use dm_stream::{Error, Ident, Seq};
+
+/// A segment.
+fn segment<'a>(place: &mut Place<'_, 'a>) -> Result<PathSegment<'a>, Error>
+    ensures { Reads segment_view (λ ts. segment_at (next ts)) place.old result place.new }
+{
+    let Some(ident) = place.name() else {
+        return Err(place.refused());
+    };
+    let own = ident.clone_in(place.alloc())?;
+    Ok(segment_of(own, no_arguments()))
+}
+
+/// `::` and a segment, as often as they come.
+#[derive(Drop)]
+struct SegmentRule {}
+
+impl<'a> Rule<'a> for SegmentRule {
+    ghost use Rattle.dm_ast.specs.Tree.{SegmentTree, segment_view};
+    ghost use Rattle.dm_read_places.specs.Turns.{segment_turn};
+
+    type Part = PathSegment<'a>;
+
+    type Last = ();
+
+    ghost Tree = { SegmentTree };
+
+    ghost Tail = { Unit {0} };
+
+    ghost view = { segment_view };
+
+    ghost last = { λ u. u };
+
+    ghost usable = { λ r. Unit {0} };
+
+    ghost reader = { λ r. segment_turn };
+
+    fn turn(
+        &self,
+        _fuel: usize,
+        place: &mut Place<'_, 'a>,
+    ) -> Result<Turn<PathSegment<'a>, ()>, Error> {
+        if !place.take(Sign::Colons) {
+            return Ok(Turn::End(()));
+        }
+        Ok(Turn::One(segment(place)?))
+    }
+}
+
+/// The segments behind the first.
+fn segments<'a>(fuel: usize, place: &mut Place<'_, 'a>) -> Result<Seq<PathSegment<'a>>, Error>
+    ensures { Reads (λ v. segments_of (map segment_view v)) (rows fuel).segments place.old result place.new }
+{
+    let (found, _) = repeated(&SegmentRule {}, fuel, place)?;
+    Ok(found)
+}
+
+/// A path from its first segment on.
+fn path_behind<'a>(
+    leading_colon: bool,
+    fuel: usize,
+    place: &mut Place<'_, 'a>,
+) -> Result<Path<'a>, Error>
+    ensures { Reads path_view (λ ts. plain.path_from (rows fuel) leading_colon (next ts)) place.old result place.new }
+{
+    let first = segment(place)?;
+    let (first, others) = joined(first, segments(fuel, place))?;
+    Ok(path_of(leading_colon, fronted(place.alloc(), first, others)?))
+}
+
+/// A path without arguments, as `::a::b`. `fuel` is more than the number of its segments.
+pub fn path<'a>(fuel: usize, place: &mut Place<'_, 'a>) -> Result<Path<'a>, Error>
+    ensures { Reads path_view (λ ts. plain.plain_path (rows fuel) (next ts)) place.old result place.new }
+{
+    let leading_colon = place.take(Sign::Colons);
+    path_behind(leading_colon, fuel, place)
+}
+
+/// The name of a segment without arguments.
+#[tactic(auto, using(dm_ast::proofs::View::view_steps))]
+pub fn segment_alone<'p, 'a>(segment: &'p PathSegment<'a>) -> Option<&'p Ident<'a>>
+    ensures { option_copied result ≡ segment_name (segment_view segment.now) }
+{
+    match &segment.arguments {
+        PathArguments::Absent => Some(&segment.ident),
+        PathArguments::Angle(_, _) => None,
+        PathArguments::Paren(_, _) => None,
+    }
+}

@@ -1,0 +1,4 @@
+//! Reading the output language: members, methods and `?` behind a receiver, over a reader of the expressions in them.
+#![tactic(auto)]
+
+pub mod posts;
