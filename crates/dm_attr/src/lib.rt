@@ -13,8 +13,6 @@ mod parser;
 mod skip;
 pub mod skips;
 mod spanning;
-#[cfg(test)]
-mod tests;
 mod words;
 
 pub use contents::{parse_contents, refuse_second};

@@ -2,11 +2,13 @@ pub mod Answers
 pub mod Derived
 pub use Rattle.dm_printed.specs.Traits
 pub use Rattle.dm_printed.specs.Texts
-pub use Rattle.dm_run.specs.Causes
+pub use Rattle.dm_outside.specs.Causes
+pub use Rattle.dm_outside.specs.Exits
+pub use Rattle.dm_outside.specs.Offers
+pub use Rattle.dm_outside.specs.States
+pub use Rattle.dm_outside.specs.Transfers
 pub use Rattle.dm_run.specs.Ended
-pub use Rattle.dm_run.specs.Offers
 pub use Rattle.dm_run.specs.Runs
 pub use Rattle.dm_run.specs.Sampled
 pub use Rattle.dm_run.specs.Split
-pub use Rattle.dm_run.specs.States
 pub use Rattle.dm_run.specs.Turns

@@ -4,18 +4,46 @@ use dm_derive::{derive_printed, sample_text};
 use dm_stream::Error;
 use std::alloc::{AllocError, Global};
 
+/// Sizes of samples, and their texts.
+const TEXTS: &[(u32, &str)] = &[
+    (2, "enum Sample<T> { V0, V1(T, u8), }"),
+    (
+        4,
+        "enum Sample<T> { V0, V1(T, u8), V2 { a: T, b: u8 }, V3, }",
+    ),
+];
+
+/// Whether the sample of this size has this text.
+fn has_text(alloc: Global, size: u32, text: &str) -> Result<bool, AllocError> {
+    let sample = sample_text(alloc, size)?;
+    Ok(sample.as_str() == text)
+}
+
+/// The first size whose sample has another text.
+fn first_other(alloc: Global) -> Result<Option<u32>, AllocError> {
+    for (size, text) in TEXTS.iter().copied() {
+        if !has_text(alloc, size, text)? {
+            return Ok(Some(size));
+        }
+    }
+    Ok(None)
+}
+
 #[test]
 fn texts(rt: HostRuntime) -> Result<(), AllocError> {
-    for (size, text) in [
-        (2, "enum Sample<T> { V0, V1(T, u8), }"),
-        (
-            4,
-            "enum Sample<T> { V0, V1(T, u8), V2 { a: T, b: u8 }, V3, }",
-        ),
-    ] {
-        assert!(rt; sample_text(rt.alloc(), size)?.as_str() == text);
-    }
-    assert!(rt; sample_text(rt.alloc(), 2_000)?.len() < 60_000);
+    assert_eq!(rt; first_other(rt.alloc())?, None);
+    Ok(())
+}
+
+/// How many bytes the text of the largest sample has.
+fn largest_length(alloc: Global) -> Result<usize, AllocError> {
+    let sample = sample_text(alloc, 2_000)?;
+    Ok(sample.len())
+}
+
+#[test]
+fn largest(rt: HostRuntime) -> Result<(), AllocError> {
+    assert!(rt; largest_length(rt.alloc())? < 60_000);
     Ok(())
 }
 
@@ -44,10 +72,15 @@ fn is_whole(text: &str) -> bool {
         && text.matches("=> {").count() == 4_000
 }
 
+/// Whether the implementation for so many variants is whole.
+fn prints_whole(alloc: Global, count: u32) -> Result<bool, Error> {
+    let text = enumeration(alloc, count)?;
+    let written = derive_printed(alloc, "PartialEq", text.as_str())?;
+    Ok(is_whole(written.as_str()))
+}
+
 #[test]
 fn two_thousand(rt: HostRuntime) -> Result<(), Error> {
-    let text = enumeration(rt.alloc(), 2_000)?;
-    let written = derive_printed(rt.alloc(), "PartialEq", text.as_str())?;
-    assert!(rt; is_whole(written.as_str()));
+    assert!(rt; prints_whole(rt.alloc(), 2_000)?);
     Ok(())
 }

@@ -230,14 +230,39 @@ fn asked(rt: HostRuntime) -> Result<(), AllocError> {
     Ok(())
 }
 
+/// The size of an input, how its run ends, and what that writes.
+type Filled = (usize, Status, &'static [u8]);
+
 /// As many bytes as a run takes, and one more.
+const FILLED: &[Filled] = &[
+    (LARGEST_INPUT, Status::Done, ONE_FIELD),
+    (LARGEST_INPUT + 1, Status::BadInput, b""),
+];
+
+/// Whether a run ends so, with this written, for an input that blanks fill up to a size.
+fn filled_ends(
+    alloc: Global,
+    size: usize,
+    status: Status,
+    written: &[u8],
+) -> Result<bool, AllocError> {
+    let mut input = Vec::from_slice(alloc, INPUT)?;
+    input.resize(size, b' ')?;
+    ends(alloc, sound(input.as_slice()), status, written)
+}
+
+/// The first size whose run ends otherwise.
+fn first_other_size(alloc: Global) -> Result<Option<usize>, AllocError> {
+    for (size, status, written) in FILLED.iter().copied() {
+        if !filled_ends(alloc, size, status, written)? {
+            return Ok(Some(size));
+        }
+    }
+    Ok(None)
+}
+
 #[test]
 fn too_much(rt: HostRuntime) -> Result<(), AllocError> {
-    let alloc = rt.alloc();
-    let mut input = Vec::from_slice(alloc, INPUT)?;
-    input.resize(LARGEST_INPUT, b' ')?;
-    assert!(rt; ends(alloc, sound(input.as_slice()), Status::Done, ONE_FIELD)?);
-    input.push(b' ')?;
-    assert!(rt; ends(alloc, sound(input.as_slice()), Status::BadInput, b"")?);
+    assert_eq!(rt; first_other_size(rt.alloc())?, None);
     Ok(())
 }

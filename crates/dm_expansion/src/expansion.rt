@@ -6,8 +6,8 @@ ghost use Rattle.dm_stream.specs.Layout.{layout};
 ghost use Rattle.dm_output.specs.Tokens.{printed, item_trees};
 ghost use Rattle.dm_output.specs.Views.{item_view};
 
-use dm_copy::both;
 use dm_layout::Layout;
+use dm_nodes::item::ItemNodes;
 use dm_output::Item;
 use dm_print::item::item;
 use dm_stream::{Seq, Text};
@@ -46,12 +46,15 @@ pub fn with_text<'a>(alloc: Global, items: Seq<Item<'a>>) -> Result<Expansion<'a
     ensures items { IfOk result (λ x. x.items ≡ items.entry) }
     ensures text { IfOk result (λ x. x.text ≡ printed (map item_view items.entry)) }
 {
-    let text = text_of(alloc, &items);
-    let (items, text) = both(Ok(items), text)?;
-    Ok(Expansion { items, text })
+    let items = ItemNodes::new(items);
+    let text = text_of(&items, alloc)?;
+    Ok(Expansion {
+        items: items.into_trees(),
+        text,
+    })
 }
 
-fn text_of<'a>(alloc: Global, items: &Seq<Item<'_>>) -> Result<Text<'a>, AllocError>
+fn text_of<'a>(items: &ItemNodes<'_>, alloc: Global) -> Result<Text<'a>, AllocError>
     ensures { IfOk result (λ t. t ≡ printed (map item_view items.now)) }
 {
     Ok(Text::owned(print_items(alloc, items.as_slice())?))

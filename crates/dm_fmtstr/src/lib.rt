@@ -11,8 +11,6 @@ mod kind;
 mod laws;
 mod placeholder;
 mod spec;
-#[cfg(test)]
-mod tests;
 
 pub use argument::{Argument, Count, Precision};
 pub use format::{Format, FormatString, format_string, read_format};

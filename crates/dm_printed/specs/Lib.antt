@@ -3,3 +3,4 @@ pub mod Texts
 pub mod Answers
 pub mod Derived
 pub mod Counts
+pub mod Codes

@@ -2,16 +2,10 @@
 //! its implementations as the answer.
 #![tactic(auto)]
 
-mod standard;
-#[cfg(test)]
-mod tests;
-mod words;
-
 use dm_run::ended_run;
-use standard::{StdSink, StdSource};
+use dm_standard::{StdSink, StdSource, all_words};
 use std::io;
 use std::process::ExitCode;
-use words::all_words;
 
 fn main(rt: HostRuntime) -> ExitCode {
     let mut source = StdSource::new(rt.reader());

@@ -13,13 +13,13 @@ ghost use Rattle.dm_read_arguments.specs.Turns.{value_behind, field_value};
 
 use crate::rules::Exprs;
 use crate::sort::Wanted;
+use dm_gather::Gathers;
 use dm_input::join::joined;
-use dm_output::{Expr, NamedExpr};
-use dm_read_nodes::blocks::named_expr;
-use dm_read_places::list::{Rule, Turn, repeated};
-use dm_read_places::node::fronted;
+use dm_nodes::expr::{ExprNode, ExprNodes, FieldNode, FieldNodes};
+use dm_nodes::make_block::named_expr;
+use dm_read_places::list::{Rule, Turn, gathered};
 use dm_read_places::place::Place;
-use dm_stream::{Error, Seq};
+use dm_stream::Error;
 
 /// Arguments behind the first, each with a comma in front.
 #[derive(Drop)]
@@ -27,16 +27,18 @@ struct ArgRule<'g, F> {
     rules: &'g Exprs<F>,
 }
 
-impl<'g, 'a, F: Copy + for<'t, 'b> Fn(&mut Place<'t, 'b>, Wanted) -> Result<Expr<'b>, Error>> Rule<
+impl<
+    'g,
     'a,
-> for ArgRule<'g, F> {
+    F: Copy + for<'t, 'b> Fn(&mut Place<'t, 'b>, Wanted) -> Result<ExprNode<'b>, Error>,
+> Rule<'a> for ArgRule<'g, F> {
     ghost use Rattle.std.specs.Prelude.{Bool};
     ghost use Rattle.dm_output.specs.Output.{ExprTree};
     ghost use Rattle.dm_output.specs.Views.{expr_view};
     ghost use Rattle.dm_read_arguments.specs.ExprNests.{ExprNests};
     ghost use Rattle.dm_read_arguments.specs.Turns.{arg_turn};
 
-    type Part = Expr<'a>;
+    type Part = ExprNode<'a>;
 
     type Last = bool;
 
@@ -52,7 +54,11 @@ impl<'g, 'a, F: Copy + for<'t, 'b> Fn(&mut Place<'t, 'b>, Wanted) -> Result<Expr
 
     ghost reader = { λ r. arg_turn };
 
-    fn turn(&self, fuel: usize, place: &mut Place<'_, 'a>) -> Result<Turn<Expr<'a>, bool>, Error> {
+    fn turn(
+        &self,
+        fuel: usize,
+        place: &mut Place<'_, 'a>,
+    ) -> Result<Turn<ExprNode<'a>, bool>, Error> {
         if place.at_end() {
             return Ok(Turn::End(false));
         }
@@ -70,16 +76,18 @@ struct FieldRule<'g, F> {
     rules: &'g Exprs<F>,
 }
 
-impl<'g, 'a, F: Copy + for<'t, 'b> Fn(&mut Place<'t, 'b>, Wanted) -> Result<Expr<'b>, Error>> Rule<
+impl<
+    'g,
     'a,
-> for FieldRule<'g, F> {
+    F: Copy + for<'t, 'b> Fn(&mut Place<'t, 'b>, Wanted) -> Result<ExprNode<'b>, Error>,
+> Rule<'a> for FieldRule<'g, F> {
     ghost use Rattle.dm_stream.specs.declared.tokens.Ident.{Ident};
     ghost use Rattle.dm_output.specs.Output.{ExprTree};
     ghost use Rattle.dm_output.specs.Views.{named_expr_view};
     ghost use Rattle.dm_read_arguments.specs.ExprNests.{ExprNests};
     ghost use Rattle.dm_read_arguments.specs.Turns.{field_turn};
 
-    type Part = NamedExpr<'a>;
+    type Part = FieldNode<'a>;
 
     type Last = ();
 
@@ -99,7 +107,7 @@ impl<'g, 'a, F: Copy + for<'t, 'b> Fn(&mut Place<'t, 'b>, Wanted) -> Result<Expr
         &self,
         fuel: usize,
         place: &mut Place<'_, 'a>,
-    ) -> Result<Turn<NamedExpr<'a>, ()>, Error> {
+    ) -> Result<Turn<FieldNode<'a>, ()>, Error> {
         if place.at_end() {
             return Ok(Turn::End(()));
         }
@@ -107,39 +115,39 @@ impl<'g, 'a, F: Copy + for<'t, 'b> Fn(&mut Place<'t, 'b>, Wanted) -> Result<Expr
     }
 }
 
-impl<F: Copy + for<'t, 'b> Fn(&mut Place<'t, 'b>, Wanted) -> Result<Expr<'b>, Error>> Exprs<F> {
+impl<F: Copy + for<'t, 'b> Fn(&mut Place<'t, 'b>, Wanted) -> Result<ExprNode<'b>, Error>> Exprs<F> {
     /// Arguments behind the first, and whether a comma stands behind the last.
-    fn others<'a>(&self, place: &mut Place<'_, 'a>) -> Result<(Seq<Expr<'a>>, bool), Error>
+    fn others<'a>(&self, place: &mut Place<'_, 'a>) -> Result<(ExprNodes<'a>, bool), Error>
         requires { ExprNests self.now.room (F.pre self.now.expr) (F.post self.now.expr) }
         ensures { ReadsWhole (λ v. (exprs_of (map expr_view v.0), v.1)) (rows self.now.fuel).args place.old result }
     {
-        let (found, last) = repeated(&ArgRule { rules: self }, self.fuel, place)?;
+        let (found, last) = gathered(&ArgRule { rules: self }, self.fuel, place)?;
         Ok((found, last))
     }
 
     /// Some arguments to the end, and whether a comma stands behind the last.
-    fn some<'a>(&self, place: &mut Place<'_, 'a>) -> Result<(Seq<Expr<'a>>, bool), Error>
+    fn some<'a>(&self, place: &mut Place<'_, 'a>) -> Result<(ExprNodes<'a>, bool), Error>
         requires { ExprNests self.now.room (F.pre self.now.expr) (F.post self.now.expr) }
         ensures { ReadsWhole (λ v. (exprs_of (map expr_view v.0), v.1)) (first_arg (rows self.now.fuel)) place.old result }
     {
         let first = self.whole(true, place)?;
         let (first, (others, last)) = joined(first, self.others(place))?;
-        Ok((fronted(place.alloc(), first, others)?, last))
+        Ok((ExprNodes::fronted(place.alloc(), first, others)?, last))
     }
 
     /// Arguments to the end, and whether a comma stands behind the last.
-    pub fn arguments<'a>(&self, place: &mut Place<'_, 'a>) -> Result<(Seq<Expr<'a>>, bool), Error>
+    pub fn arguments<'a>(&self, place: &mut Place<'_, 'a>) -> Result<(ExprNodes<'a>, bool), Error>
         requires { ExprNests self.now.room (F.pre self.now.expr) (F.post self.now.expr) }
         ensures { ReadsWhole (λ v. (exprs_of (map expr_view v.0), v.1)) (read_args (rows self.now.fuel) false) place.old result }
     {
         if place.at_end() {
-            return Ok((Seq::new(place.alloc()), false));
+            return Ok((ExprNodes::none(place.alloc()), false));
         }
         self.some(place)
     }
 
     /// `:`, a value and a comma.
-    fn value<'a>(&self, place: &mut Place<'_, 'a>) -> Result<Expr<'a>, Error>
+    fn value<'a>(&self, place: &mut Place<'_, 'a>) -> Result<ExprNode<'a>, Error>
         requires { ExprNests self.now.room (F.pre self.now.expr) (F.post self.now.expr) }
         ensures { Reads expr_view (value_behind self.now.fuel) place.old result place.new }
     {
@@ -148,7 +156,7 @@ impl<F: Copy + for<'t, 'b> Fn(&mut Place<'t, 'b>, Wanted) -> Result<Expr<'b>, Er
     }
 
     /// A field with its value and a comma.
-    fn field<'a>(&self, place: &mut Place<'_, 'a>) -> Result<NamedExpr<'a>, Error>
+    fn field<'a>(&self, place: &mut Place<'_, 'a>) -> Result<FieldNode<'a>, Error>
         requires { ExprNests self.now.room (F.pre self.now.expr) (F.post self.now.expr) }
         ensures { Reads named_expr_view (λ ts. field_value self.now.fuel (next ts)) place.old result place.new }
     {
@@ -158,11 +166,11 @@ impl<F: Copy + for<'t, 'b> Fn(&mut Place<'t, 'b>, Wanted) -> Result<Expr<'b>, Er
     }
 
     /// Fields with values, to the end.
-    pub fn fields<'a>(&self, place: &mut Place<'_, 'a>) -> Result<Seq<NamedExpr<'a>>, Error>
+    pub fn fields<'a>(&self, place: &mut Place<'_, 'a>) -> Result<FieldNodes<'a>, Error>
         requires { ExprNests self.now.room (F.pre self.now.expr) (F.post self.now.expr) }
         ensures { ReadsWhole (λ v. named_exprs_of (map named_expr_view v)) (rows self.now.fuel).named_exprs place.old result }
     {
-        let (found, _) = repeated(&FieldRule { rules: self }, self.fuel, place)?;
+        let (found, _) = gathered(&FieldRule { rules: self }, self.fuel, place)?;
         Ok(found)
     }
 }

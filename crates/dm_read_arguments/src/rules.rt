@@ -11,7 +11,7 @@ ghost use Rattle.dm_read_arguments.specs.Turns as spec;
 
 use crate::sort::{Sort, Wanted};
 use dm_input::join::ended;
-use dm_output::Expr;
+use dm_nodes::expr::ExprNode;
 use dm_read_places::place::Place;
 use dm_stream::Error;
 
@@ -26,7 +26,7 @@ pub struct Exprs<F> {
     pub expr: F,
 }
 
-impl<F: Copy + for<'t, 'b> Fn(&mut Place<'t, 'b>, Wanted) -> Result<Expr<'b>, Error>> Exprs<F> {
+impl<F: Copy + for<'t, 'b> Fn(&mut Place<'t, 'b>, Wanted) -> Result<ExprNode<'b>, Error>> Exprs<F> {
     /// The rules with other fuel.
     pub fn with(&self, fuel: usize) -> Exprs<F>
         ensures { result ≡ record { fuel = fuel; room = self.now.room; expr = self.now.expr } }
@@ -50,7 +50,7 @@ impl<F: Copy + for<'t, 'b> Fn(&mut Place<'t, 'b>, Wanted) -> Result<Expr<'b>, Er
     }
 
     /// An expression.
-    pub fn whole<'a>(&self, braces: bool, place: &mut Place<'_, 'a>) -> Result<Expr<'a>, Error>
+    pub fn whole<'a>(&self, braces: bool, place: &mut Place<'_, 'a>) -> Result<ExprNode<'a>, Error>
         requires { ExprNests self.now.room (F.pre self.now.expr) (F.post self.now.expr) }
         ensures { Reads expr_view ((rows self.now.fuel).expr braces) place.old result place.new }
     {
@@ -58,7 +58,11 @@ impl<F: Copy + for<'t, 'b> Fn(&mut Place<'t, 'b>, Wanted) -> Result<Expr<'b>, Er
     }
 
     /// An operand.
-    pub fn operand<'a>(&self, braces: bool, place: &mut Place<'_, 'a>) -> Result<Expr<'a>, Error>
+    pub fn operand<'a>(
+        &self,
+        braces: bool,
+        place: &mut Place<'_, 'a>,
+    ) -> Result<ExprNode<'a>, Error>
         requires { ExprNests self.now.room (F.pre self.now.expr) (F.post self.now.expr) }
         ensures { Reads expr_view ((rows self.now.fuel).pre braces) place.old result place.new }
     {
@@ -66,7 +70,7 @@ impl<F: Copy + for<'t, 'b> Fn(&mut Place<'t, 'b>, Wanted) -> Result<Expr<'b>, Er
     }
 
     /// An expression, and nothing behind it.
-    pub fn alone<'a>(&self, place: &mut Place<'_, 'a>) -> Result<Expr<'a>, Error>
+    pub fn alone<'a>(&self, place: &mut Place<'_, 'a>) -> Result<ExprNode<'a>, Error>
         requires { ExprNests self.now.room (F.pre self.now.expr) (F.post self.now.expr) }
         ensures { ReadsWhole expr_view (λ ts. whole ((rows self.now.fuel).expr true ts)) place.old result }
     {
@@ -75,7 +79,7 @@ impl<F: Copy + for<'t, 'b> Fn(&mut Place<'t, 'b>, Wanted) -> Result<Expr<'b>, Er
     }
 
     /// An expression, and a comma behind it.
-    pub fn before_comma<'a>(&self, place: &mut Place<'_, 'a>) -> Result<Expr<'a>, Error>
+    pub fn before_comma<'a>(&self, place: &mut Place<'_, 'a>) -> Result<ExprNode<'a>, Error>
         requires { ExprNests self.now.room (F.pre self.now.expr) (F.post self.now.expr) }
         ensures { Reads expr_view (spec.before_comma self.now.fuel) place.old result place.new }
     {

@@ -14,8 +14,9 @@ use Rattle.dm_read_places.specs.declared.list.Turn.{Turn}
 use Rattle.dm_read_places.specs.declared.list.Turn.TheVariants.{One}
 use Rattle.dm_read_places.specs.Repeating.{before_others, after_turn, repeat}
 use Rattle.dm_read_places.specs.Turns.{rows}
-use Rattle.dm_read_blocks.specs.Turns.{let_value, let_of, use_of, const_value, const_of, stmt_turn, value_end, block_turn_at, block_turn}
-use Rattle.dm_read_macros.proofs.FormatLists.{leaves_are}
+use Rattle.dm_read_statements.specs.Statements.{use_of, const_value, const_of}
+use Rattle.dm_read_blocks.specs.Turns.{let_value, let_of, stmt_turn, value_end, block_turn_at, block_turn}
+use Rattle.dm_read_formats.proofs.FormatLists.{leaves_are}
 
 abbrev Inside : Answer (List StmtTree × MaybeExpr) → Option BlockTree
 Inside o = option_map (λ v. block (stmts_of v.0.0) v.0.1) o

@@ -15,7 +15,8 @@ use Rattle.dm_read_places.specs.declared.list.Turn.TheVariants.{One, End}
 use Rattle.dm_read_places.specs.Fronts.{is_keyword}
 use Rattle.dm_read_places.specs.Turns.{rows, declared_at}
 use Rattle.dm_read_blocks.specs.Turns.{let_value, let_of, stmt_turn, value_end, value_turn, block_turn_at}
-use Rattle.dm_read_blocks.specs.Rows.{ended_stmt, assigned, named_let}
+use Rattle.dm_read_statements.specs.Statements.{ended_stmt}
+use Rattle.dm_read_blocks.specs.Rows.{assigned, named_let}
 use Rattle.dm_read_blocks.proofs.BlockLists.{block_is}
 
 abbrev StmtTurn : Type 0

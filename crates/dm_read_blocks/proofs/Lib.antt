@@ -1,5 +1,3 @@
-pub mod GroupSteps
-pub mod StatementSteps
 pub mod ArmLists
 pub mod ArmSteps
 pub mod BlockLists

@@ -3,20 +3,17 @@ use Rattle.std.specs.Prelude.{ℕ, true, Some, None}
 use Rattle.dm_stream.specs.declared.tokens.Ident.{Ident}
 use Rattle.dm_stream.specs.Trees.{Trees, no_trees}
 use Rattle.dm_ast.specs.Keywords.{is_name}
-use Rattle.dm_output.specs.Output.{ExprTree, PatternTrees, pattern_then, MaybeExpr, no_expr, some_expr, ArmTree, ArmBodyTree, StmtTree, let_stmt, check_stmt, import_stmt, do_stmt, const_stmt}
+use Rattle.dm_output.specs.Output.{ExprTree, MaybeExpr, no_expr, some_expr, ArmTree, ArmBodyTree, StmtTree, let_stmt, do_stmt}
 use Rattle.dm_reread.specs.Next.{k_let, k_use, k_const, k_wild, Next, ended, a_name, a_word, next}
 use Rattle.dm_reread.specs.Leaves.{Answer}
-use Rattle.dm_reread.specs.Reading.{then, provided, comma_after, colon_after, semicolon_after, assigns_after, leads_after, plus_after, as_after, wild_after, int_after, plain_path, read_guard, read_body, base_from}
-use Rattle.dm_reread.specs.ReadBack.{leaves}
+use Rattle.dm_reread.specs.Reading.{then, provided, comma_after, semicolon_after, assigns_after, leads_after, read_guard, read_body}
 use Rattle.dm_read_places.specs.declared.list.Turn.{Turn}
 use Rattle.dm_read_places.specs.declared.list.Turn.TheVariants.{One, End}
-use Rattle.dm_read_places.specs.Turns.{rows, declared_at}
+use Rattle.dm_read_places.specs.Turns.{rows}
+use Rattle.dm_read_patterns.specs.ArmPatterns.{arm_patterns}
+use Rattle.dm_read_statements.specs.Statements.{check_of, use_of, const_of}
 
 -- ---- arms
-
--- patterns with `|` between
-abbrev pub arm_patterns : ℕ → Trees → Answer PatternTrees
-arm_patterns n ts = then ((rows n).pattern ts) (λ a. then ((rows n).bars a.1) (λ s. Some (pattern_then a.0 s.0, s.1)))
 
 -- `=>`, a body and a comma
 abbrev pub arm_body : ℕ → Trees → Answer ArmBodyTree
@@ -41,30 +38,11 @@ arm_turn n ts = then (one_arm n ts) (λ a. Some (One a.0, a.1))
 abbrev pub let_value : ℕ → Ident → Trees → Answer StmtTree
 let_value n i ts = then (assigns_after (next ts)) (λ us. then ((rows n).expr true us) (λ a. Some (let_stmt i a.0, a.1)))
 
--- a type that is checked
-abbrev pub check_of : Trees → Answer StmtTree
-check_of ts = then (colon_after (next ts)) (λ us. then (leaves.type us) (λ a. Some (check_stmt a.0, a.1)))
-
 -- what stands behind `let`
 abbrev pub let_of : ℕ → Next → Answer StmtTree
 let_of n (a_name i ts) = provided (is_name i) (let_value n i ts)
 let_of n (a_word k_wild ts) = check_of ts
 let_of n _ = None
-
--- what stands behind `use`
-abbrev pub use_of : ℕ → Next → Answer StmtTree
-use_of n m =
-    then (plain_path (rows n) m) (λ p. then (as_after (next p.1)) (λ us. then (wild_after (next us)) (λ vs. Some (import_stmt p.0, vs))))
-
--- the value of a constant, behind its type
-abbrev pub const_value : Ident → Trees → Answer StmtTree
-const_value i ts =
-    then (leaves.type ts) (λ a. then (assigns_after (next a.1)) (λ us. then (base_from (next us)) (λ o.
-    then (plus_after (next o.1)) (λ vs. then (int_after (next vs)) (λ l. Some (const_stmt i a.0 o.0 l.0, l.1))))))
-
--- what stands behind `const`
-abbrev pub const_of : Next → Answer StmtTree
-const_of m = then (declared_at m) (λ s. then (colon_after (next s.1)) (λ us. const_value s.0 us))
 
 -- a statement where a semicolon ends it
 abbrev pub stmt_turn : Answer StmtTree → Answer (Turn StmtTree MaybeExpr)

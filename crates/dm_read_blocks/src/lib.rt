@@ -4,4 +4,3 @@
 mod arm;
 mod block;
 pub mod blocks;
-mod statement;

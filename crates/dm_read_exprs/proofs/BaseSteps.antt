@@ -24,10 +24,10 @@ use Rattle.dm_read_places.specs.declared.front.Keyword.TheVariants as keyword
 use Rattle.dm_read_places.specs.Fronts.{is_sign, is_keyword, is_literal_next, is_group_next}
 use Rattle.dm_read_places.specs.Reads.{Reads}
 use Rattle.dm_read_places.specs.Turns.{rows}
-use Rattle.dm_read_macros.proofs.FormatLists.{leaves_are}
+use Rattle.dm_read_formats.proofs.FormatLists.{leaves_are}
 use Rattle.dm_read_blocks.specs.Rows.{braced_arms}
-use Rattle.dm_read_exprs.specs.Rows.{text, braced_path, behind_path, tuple_only, parts, opaque_called, match_from, leaf}
-use Rattle.dm_read_blocks.proofs.GroupSteps.{group_steps}
+use Rattle.dm_read_exprs.specs.Rows.{text, braced_path, behind_path, tuple_only, parts, opaque_called, match_from, leaf, with_path}
+use Rattle.dm_read_statements.proofs.GroupSteps.{group_steps}
 
 -- ---- behind a path
 
@@ -151,6 +151,20 @@ qualified_reads n b old mid new q (Ok x) e h =
 qualified_reads n b old mid new q (Err (error.Refused r)) e h =
     qualified_base_is n b old ∙ ap (λ o. then o (λ p. behind_path n b p.0.0 p.0.1 p.1 (next p.1))) e ∙ h
 qualified_reads n b old mid new q (Err error.NoMemory) e h = tt
+
+path_here : (n : ℕ) (b : Bool) (p : PathTree) (old new : Trees) (r : Result Expr Error) → is_sign sign.Bangs (next old) ≡ false →
+    Reads expr_view (λ ts. behind_path n b no_self p ts (next ts)) old r new → Reads expr_view (with_path n b p) old r new
+path_here n b p old new (Ok x) e h = no_macro n b p old (next old) e ∙ h
+path_here n b p old new (Err (error.Refused r)) e h = no_macro n b p old (next old) e ∙ h
+path_here n b p old new (Err error.NoMemory) e h = tt
+
+-- what begins with a path that no `!` stands behind
+pub path_reads : (n : ℕ) (b : Bool) (p : PathTree) (old mid new : Trees) (q : MaybeSelf × PathTree) (r : Result Expr Error) →
+    is_sign sign.Bangs (next old) ≡ false → mid ≡ old → q ≡ (no_self, p) →
+    Reads expr_view (λ ts. behind_path n b q.0 q.1 ts (next ts)) mid r new → Reads expr_view (with_path n b p) old r new
+path_reads n b p old mid new q r e m f h =
+    let named = subst (λ z. Reads expr_view (λ ts. behind_path n b z.0 z.1 ts (next ts)) mid r new) f h in
+    path_here n b p old new r e (subst (λ z. Reads expr_view (λ ts. behind_path n b no_self p ts (next ts)) z r new) m named)
 
 -- ---- groups
 

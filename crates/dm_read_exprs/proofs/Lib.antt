@@ -4,3 +4,4 @@ pub mod PrefixSteps
 pub mod TupleSteps
 pub mod BaseSteps
 pub mod NestSteps
+pub mod MacroSteps

@@ -11,7 +11,7 @@ use Rattle.dm_reread.specs.Reading.{provided, is_some_trees, Readers, goes_on, r
 use Rattle.dm_read_places.specs.declared.front.Sign.TheVariants as sign
 use Rattle.dm_read_places.specs.declared.front.Keyword.TheVariants as keyword
 use Rattle.dm_read_places.specs.Fronts.{is_sign, is_keyword, is_group_next}
-use Rattle.dm_read_blocks.proofs.GroupSteps.{group_steps}
+use Rattle.dm_read_statements.proofs.GroupSteps.{group_steps}
 use Rattle.dm_read_exprs.specs.Rows.{sees_closed, opaque_group}
 
 -- ---- groups

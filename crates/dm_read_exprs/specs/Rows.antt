@@ -15,7 +15,7 @@ use Rattle.dm_reread.specs.Reading.{then, provided, whole, is_str, is_some_trees
 use Rattle.dm_reread.specs.ReadBack.{leaves}
 use Rattle.dm_read_places.specs.Turns.{rows}
 use Rattle.dm_read_blocks.specs.Rows.{braced_arms}
-use Rattle.dm_read_nodes.specs.Posts.{PostTree, map_post}
+use Rattle.dm_read_posts.specs.Posts.{PostTree, map_post}
 
 -- ---- operators
 

@@ -1,7 +1,7 @@
 //! Expressions that no operator stands in or behind: paths, calls, groups, `match` and others.
 #![tactic(auto, using(crate::proofs::BaseSteps::base_steps))]
 
-ghost use Rattle.std.specs.Prelude.{map};
+ghost use Rattle.std.specs.Prelude.{◌≡◌, map};
 ghost use Rattle.dm_ast.specs.Tree.{path_view, maybe_self_view};
 ghost use Rattle.dm_output.specs.Output.{exprs_of, arms_of};
 ghost use Rattle.dm_output.specs.Views.{expr_view, arm_view};
@@ -13,26 +13,29 @@ ghost use Rattle.dm_read_arguments.specs.ExprNests.{ExprNests};
 ghost use Rattle.dm_read_blocks.specs.Rows.{braced_arms};
 ghost use Rattle.dm_read_exprs.specs.Rows as spec;
 
+use crate::macros::macro_call;
 use crate::operators::Operators;
 use dm_ast::Path;
 use dm_input::join::joined;
-use dm_output::{Arm, Expr, PathExpr};
+use dm_nodes::block::ArmNodes;
+use dm_nodes::expr::{ExprNode, ExprNodes};
+use dm_nodes::make_expr::{
+    bool_of, build_of, built, call_of, match_of, opaque_call, paren_of, path_expr, str_of,
+    tuple_of, unsafe_of,
+};
+use dm_output::PathExpr;
 use dm_read_arguments::sort::Wanted;
 use dm_read_blocks::blocks::Blocks;
+use dm_read_formats::opaque::kept;
 use dm_read_leaves::qualified::{plain_path, qualified};
-use dm_read_macros::macros::macro_call;
-use dm_read_macros::opaque::kept;
-use dm_read_nodes::exprs::{
-    bool_of, built, called, match_of, opaque_call, paren_of, path_expr, str_of, tuple_of, unsafe_of,
-};
 use dm_read_places::expect::is_str;
 use dm_read_places::front::{Keyword, Sign};
 use dm_read_places::path::path;
 use dm_read_places::place::Place;
-use dm_stream::{Delim, Error, Literal, Seq};
+use dm_stream::{Delim, Error, Literal};
 
 /// A string.
-fn text<'a>(found: &Literal<'a>, place: &Place<'_, 'a>) -> Result<Expr<'a>, Error>
+fn text<'a>(found: &Literal<'a>, place: &Place<'_, 'a>) -> Result<ExprNode<'a>, Error>
     ensures { ReadsWhole expr_view spec.text found.now result }
 {
     if !is_str(found.kind) {
@@ -44,10 +47,10 @@ fn text<'a>(found: &Literal<'a>, place: &Place<'_, 'a>) -> Result<Expr<'a>, Erro
 /// One part without a comma is in parentheses, others are a tuple. A comma behind the last of some is refused.
 #[tactic(auto, using(crate::proofs::TupleSteps::tuple_steps))]
 fn tuple_or_paren<'a>(
-    parts: Seq<Expr<'a>>,
+    parts: ExprNodes<'a>,
     last: bool,
     place: &Place<'_, 'a>,
-) -> Result<Expr<'a>, Error>
+) -> Result<ExprNode<'a>, Error>
     ensures { ReadsWhole expr_view (spec.tuple_only last) (exprs_of (map expr_view parts.entry)) result }
 {
     if parts.is_empty() {
@@ -66,9 +69,27 @@ fn tuple_or_paren<'a>(
     }
 }
 
-impl<F: Copy + for<'t, 'b> Fn(&mut Place<'t, 'b>, Wanted) -> Result<Expr<'b>, Error>> Operators<F> {
+/// A path with arguments behind it. A comma behind the last of them says that it is built, and not called.
+fn called<'a>(path: PathExpr<'a>, args: (ExprNodes<'a>, bool)) -> ExprNode<'a>
+    ensures { expr_view result ≡ plain.called (maybe_self_view path.entry.qself) (path_view path.entry.path) (exprs_of (map expr_view args.entry.0)) args.entry.1 }
+{
+    let (parts, is_built) = args;
+    if is_built {
+        build_of(path, parts)
+    } else {
+        call_of(path, parts)
+    }
+}
+
+impl<F: Copy + for<'t, 'b> Fn(&mut Place<'t, 'b>, Wanted) -> Result<ExprNode<'b>, Error>> Operators<
+    F,
+> {
     /// A path, or braces with fields behind it.
-    fn braced<'a>(&self, path: PathExpr<'a>, place: &mut Place<'_, 'a>) -> Result<Expr<'a>, Error>
+    fn braced<'a>(
+        &self,
+        path: PathExpr<'a>,
+        place: &mut Place<'_, 'a>,
+    ) -> Result<ExprNode<'a>, Error>
         requires { ExprNests self.now.parts.room (F.pre self.now.parts.expr) (F.post self.now.parts.expr) }
         ensures { Reads expr_view (λ ts. spec.braced_path self.now.parts.fuel (maybe_self_view path.entry.qself) (path_view path.entry.path) ts (next ts)) place.old result place.new }
     {
@@ -85,7 +106,7 @@ impl<F: Copy + for<'t, 'b> Fn(&mut Place<'t, 'b>, Wanted) -> Result<Expr<'b>, Er
         braces: bool,
         path: PathExpr<'a>,
         place: &mut Place<'_, 'a>,
-    ) -> Result<Expr<'a>, Error>
+    ) -> Result<ExprNode<'a>, Error>
         requires { ExprNests self.now.parts.room (F.pre self.now.parts.expr) (F.post self.now.parts.expr) }
         ensures { Reads expr_view (λ ts. spec.behind_path self.now.parts.fuel braces (maybe_self_view path.entry.qself) (path_view path.entry.path) ts (next ts)) place.old result place.new }
     {
@@ -104,7 +125,7 @@ impl<F: Copy + for<'t, 'b> Fn(&mut Place<'t, 'b>, Wanted) -> Result<Expr<'b>, Er
         &self,
         path: &Path<'a>,
         place: &mut Place<'_, 'a>,
-    ) -> Result<Expr<'a>, Error>
+    ) -> Result<ExprNode<'a>, Error>
         requires { ExprNests self.now.parts.room (F.pre self.now.parts.expr) (F.post self.now.parts.expr) }
         ensures { Reads expr_view (λ ts. plain.macro_from (rows self.now.parts.fuel) (path_view path.now) (next ts)) place.old result place.new }
     {
@@ -120,7 +141,7 @@ impl<F: Copy + for<'t, 'b> Fn(&mut Place<'t, 'b>, Wanted) -> Result<Expr<'b>, Er
         braces: bool,
         path: Path<'a>,
         place: &mut Place<'_, 'a>,
-    ) -> Result<Expr<'a>, Error>
+    ) -> Result<ExprNode<'a>, Error>
         requires { ExprNests self.now.parts.room (F.pre self.now.parts.expr) (F.post self.now.parts.expr) }
         ensures { Reads expr_view (spec.with_path self.now.parts.fuel braces (path_view path.entry)) place.old result place.new }
     {
@@ -131,7 +152,7 @@ impl<F: Copy + for<'t, 'b> Fn(&mut Place<'t, 'b>, Wanted) -> Result<Expr<'b>, Er
     }
 
     /// What begins with a path.
-    fn path_base<'a>(&self, braces: bool, place: &mut Place<'_, 'a>) -> Result<Expr<'a>, Error>
+    fn path_base<'a>(&self, braces: bool, place: &mut Place<'_, 'a>) -> Result<ExprNode<'a>, Error>
         requires { ExprNests self.now.parts.room (F.pre self.now.parts.expr) (F.post self.now.parts.expr) }
         ensures { Reads expr_view (λ ts. plain.path_base (rows self.now.parts.fuel) braces (next ts)) place.old result place.new }
     {
@@ -140,7 +161,11 @@ impl<F: Copy + for<'t, 'b> Fn(&mut Place<'t, 'b>, Wanted) -> Result<Expr<'b>, Er
     }
 
     /// What begins with a qualified path.
-    fn qualified_base<'a>(&self, braces: bool, place: &mut Place<'_, 'a>) -> Result<Expr<'a>, Error>
+    fn qualified_base<'a>(
+        &self,
+        braces: bool,
+        place: &mut Place<'_, 'a>,
+    ) -> Result<ExprNode<'a>, Error>
         requires { ExprNests self.now.parts.room (F.pre self.now.parts.expr) (F.post self.now.parts.expr) }
         ensures { Reads expr_view (plain.qualified_base (rows self.now.parts.fuel) braces) place.old result place.new }
     {
@@ -153,7 +178,7 @@ impl<F: Copy + for<'t, 'b> Fn(&mut Place<'t, 'b>, Wanted) -> Result<Expr<'b>, Er
         &self,
         inside: &Place<'_, 'a>,
         second: &mut Place<'_, 'a>,
-    ) -> Result<Expr<'a>, Error>
+    ) -> Result<ExprNode<'a>, Error>
         requires { ExprNests self.now.parts.room (F.pre self.now.parts.expr) (F.post self.now.parts.expr) }
         ensures { ReadsWhole expr_view (spec.opaque_called self.now.parts.fuel inside.now) second.old result }
     {
@@ -166,7 +191,7 @@ impl<F: Copy + for<'t, 'b> Fn(&mut Place<'t, 'b>, Wanted) -> Result<Expr<'b>, Er
     }
 
     /// The inside of a group: an expression in parentheses, or a tuple.
-    fn parts<'a>(&self, inside: &mut Place<'_, 'a>) -> Result<Expr<'a>, Error>
+    fn parts<'a>(&self, inside: &mut Place<'_, 'a>) -> Result<ExprNode<'a>, Error>
         requires { ExprNests self.now.parts.room (F.pre self.now.parts.expr) (F.post self.now.parts.expr) }
         ensures { ReadsWhole expr_view (spec.parts self.now.parts.fuel) inside.old result }
     {
@@ -179,7 +204,7 @@ impl<F: Copy + for<'t, 'b> Fn(&mut Place<'t, 'b>, Wanted) -> Result<Expr<'b>, Er
         &self,
         inside: &mut Place<'_, 'a>,
         place: &mut Place<'_, 'a>,
-    ) -> Result<Expr<'a>, Error>
+    ) -> Result<ExprNode<'a>, Error>
         requires { ExprNests self.now.parts.room (F.pre self.now.parts.expr) (F.post self.now.parts.expr) }
         ensures { Reads expr_view (λ ts. plain.group_from (rows self.now.parts.fuel) inside.old ts (next ts)) place.old result place.new }
     {
@@ -190,7 +215,7 @@ impl<F: Copy + for<'t, 'b> Fn(&mut Place<'t, 'b>, Wanted) -> Result<Expr<'b>, Er
     }
 
     /// What stands behind `unsafe`.
-    fn unsafe_block<'a>(&self, place: &mut Place<'_, 'a>) -> Result<Expr<'a>, Error>
+    fn unsafe_block<'a>(&self, place: &mut Place<'_, 'a>) -> Result<ExprNode<'a>, Error>
         requires { ExprNests self.now.parts.room (F.pre self.now.parts.expr) (F.post self.now.parts.expr) }
         ensures { Reads expr_view (λ ts. plain.unsafe_of (rows self.now.parts.fuel) (next ts)) place.old result place.new }
     {
@@ -202,7 +227,7 @@ impl<F: Copy + for<'t, 'b> Fn(&mut Place<'t, 'b>, Wanted) -> Result<Expr<'b>, Er
     }
 
     /// Arms in braces.
-    fn braced_arms<'a>(&self, place: &mut Place<'_, 'a>) -> Result<Seq<Arm<'a>>, Error>
+    fn braced_arms<'a>(&self, place: &mut Place<'_, 'a>) -> Result<ArmNodes<'a>, Error>
         requires { ExprNests self.now.parts.room (F.pre self.now.parts.expr) (F.post self.now.parts.expr) }
         ensures { Reads (λ v. arms_of (map arm_view v)) (λ ts. braced_arms self.now.parts.fuel (next ts)) place.old result place.new }
     {
@@ -211,7 +236,7 @@ impl<F: Copy + for<'t, 'b> Fn(&mut Place<'t, 'b>, Wanted) -> Result<Expr<'b>, Er
     }
 
     /// What stands behind `match`.
-    fn matched<'a>(&self, place: &mut Place<'_, 'a>) -> Result<Expr<'a>, Error>
+    fn matched<'a>(&self, place: &mut Place<'_, 'a>) -> Result<ExprNode<'a>, Error>
         requires { ExprNests self.now.parts.room (F.pre self.now.parts.expr) (F.post self.now.parts.expr) }
         ensures { Reads expr_view (spec.match_from self.now.parts.fuel) place.old result place.new }
     {
@@ -221,7 +246,7 @@ impl<F: Copy + for<'t, 'b> Fn(&mut Place<'t, 'b>, Wanted) -> Result<Expr<'b>, Er
     }
 
     /// A string, or what begins with a path.
-    fn leaf<'a>(&self, braces: bool, place: &mut Place<'_, 'a>) -> Result<Expr<'a>, Error>
+    fn leaf<'a>(&self, braces: bool, place: &mut Place<'_, 'a>) -> Result<ExprNode<'a>, Error>
         requires { ExprNests self.now.parts.room (F.pre self.now.parts.expr) (F.post self.now.parts.expr) }
         ensures { Reads expr_view (λ ts. spec.leaf self.now.parts.fuel braces ts (next ts)) place.old result place.new }
     {
@@ -239,7 +264,7 @@ impl<F: Copy + for<'t, 'b> Fn(&mut Place<'t, 'b>, Wanted) -> Result<Expr<'b>, Er
         &self,
         braces: bool,
         place: &mut Place<'_, 'a>,
-    ) -> Result<Expr<'a>, Error>
+    ) -> Result<ExprNode<'a>, Error>
         requires { ExprNests self.now.parts.room (F.pre self.now.parts.expr) (F.post self.now.parts.expr) }
         ensures { Reads expr_view (λ ts. plain.read_base (rows self.now.parts.fuel) braces ts (next ts)) place.old result place.new }
     {

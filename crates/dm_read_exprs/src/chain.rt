@@ -13,14 +13,13 @@ ghost use Rattle.dm_read_exprs.specs.Rows.{plain_or};
 
 use crate::operators::Operators;
 use dm_input::join::joined;
-use dm_output::Expr;
+use dm_nodes::expr::{ExprNode, ExprNodes};
+use dm_nodes::make_expr::{and_of, equal_of, or_of, return_of, unequal_of};
 use dm_read_arguments::sort::Wanted;
-use dm_read_nodes::exprs::{and_of, equal_of, or_of, return_of, unequal_of};
 use dm_read_places::front::{Keyword, Sign};
-use dm_read_places::list::{Rule, Turn, repeated};
-use dm_read_places::node::{fronted, two_boxes};
+use dm_read_places::list::{Rule, Turn, gathered};
 use dm_read_places::place::Place;
-use dm_stream::{Error, Seq};
+use dm_stream::Error;
 
 /// `&&` and what stands behind it. The truth value says whether a brace continues a path.
 #[derive(Drop)]
@@ -29,15 +28,17 @@ struct AndRule<'g, F> {
     braces: bool,
 }
 
-impl<'g, 'a, F: Copy + for<'t, 'b> Fn(&mut Place<'t, 'b>, Wanted) -> Result<Expr<'b>, Error>> Rule<
+impl<
+    'g,
     'a,
-> for AndRule<'g, F> {
+    F: Copy + for<'t, 'b> Fn(&mut Place<'t, 'b>, Wanted) -> Result<ExprNode<'b>, Error>,
+> Rule<'a> for AndRule<'g, F> {
     ghost use Rattle.dm_output.specs.Output.{ExprTree};
     ghost use Rattle.dm_output.specs.Views.{expr_view};
     ghost use Rattle.dm_read_arguments.specs.ExprNests.{ExprNests};
     ghost use Rattle.dm_read_exprs.specs.Turns.{and_turn};
 
-    type Part = Expr<'a>;
+    type Part = ExprNode<'a>;
 
     type Last = ();
 
@@ -53,7 +54,11 @@ impl<'g, 'a, F: Copy + for<'t, 'b> Fn(&mut Place<'t, 'b>, Wanted) -> Result<Expr
 
     ghost reader = { λ r. and_turn r.braces };
 
-    fn turn(&self, fuel: usize, place: &mut Place<'_, 'a>) -> Result<Turn<Expr<'a>, ()>, Error> {
+    fn turn(
+        &self,
+        fuel: usize,
+        place: &mut Place<'_, 'a>,
+    ) -> Result<Turn<ExprNode<'a>, ()>, Error> {
         if !place.take(Sign::AndAnd) {
             return Ok(Turn::End(()));
         }
@@ -68,15 +73,17 @@ struct OrRule<'g, F> {
     braces: bool,
 }
 
-impl<'g, 'a, F: Copy + for<'t, 'b> Fn(&mut Place<'t, 'b>, Wanted) -> Result<Expr<'b>, Error>> Rule<
+impl<
+    'g,
     'a,
-> for OrRule<'g, F> {
+    F: Copy + for<'t, 'b> Fn(&mut Place<'t, 'b>, Wanted) -> Result<ExprNode<'b>, Error>,
+> Rule<'a> for OrRule<'g, F> {
     ghost use Rattle.dm_output.specs.Output.{ExprTree};
     ghost use Rattle.dm_output.specs.Views.{expr_view};
     ghost use Rattle.dm_read_arguments.specs.ExprNests.{ExprNests};
     ghost use Rattle.dm_read_exprs.specs.Turns.{or_turn};
 
-    type Part = Expr<'a>;
+    type Part = ExprNode<'a>;
 
     type Last = ();
 
@@ -92,7 +99,11 @@ impl<'g, 'a, F: Copy + for<'t, 'b> Fn(&mut Place<'t, 'b>, Wanted) -> Result<Expr
 
     ghost reader = { λ r. or_turn r.braces };
 
-    fn turn(&self, fuel: usize, place: &mut Place<'_, 'a>) -> Result<Turn<Expr<'a>, ()>, Error> {
+    fn turn(
+        &self,
+        fuel: usize,
+        place: &mut Place<'_, 'a>,
+    ) -> Result<Turn<ExprNode<'a>, ()>, Error> {
         if !place.take(Sign::OrOr) {
             return Ok(Turn::End(()));
         }
@@ -100,32 +111,32 @@ impl<'g, 'a, F: Copy + for<'t, 'b> Fn(&mut Place<'t, 'b>, Wanted) -> Result<Expr
     }
 }
 
-impl<F: Copy + for<'t, 'b> Fn(&mut Place<'t, 'b>, Wanted) -> Result<Expr<'b>, Error>> Operators<F> {
+impl<F: Copy + for<'t, 'b> Fn(&mut Place<'t, 'b>, Wanted) -> Result<ExprNode<'b>, Error>> Operators<
+    F,
+> {
     /// What stands behind an operand: `==` or `!=` and another, or neither.
     fn behind_operand<'a>(
         &self,
         braces: bool,
-        first: Expr<'a>,
+        first: ExprNode<'a>,
         place: &mut Place<'_, 'a>,
-    ) -> Result<Expr<'a>, Error>
+    ) -> Result<ExprNode<'a>, Error>
         requires { ExprNests self.now.parts.room (F.pre self.now.parts.expr) (F.post self.now.parts.expr) }
         ensures { Reads expr_view (λ ts. plain.after_pre (rows self.now.parts.fuel) braces (expr_view first.entry) ts (next ts)) place.old result place.new }
     {
         if place.take(Sign::Equals) {
             let (first, second) = joined(first, self.parts.operand(braces, place))?;
-            let (first, second) = two_boxes(place.alloc(), first, second)?;
-            return Ok(equal_of(first, second));
+            return Ok(equal_of(place.alloc(), first, second)?);
         }
         if place.take(Sign::Differs) {
             let (first, second) = joined(first, self.parts.operand(braces, place))?;
-            let (first, second) = two_boxes(place.alloc(), first, second)?;
-            return Ok(unequal_of(first, second));
+            return Ok(unequal_of(place.alloc(), first, second)?);
         }
         Ok(first)
     }
 
     /// An operand, or two with `==` or `!=` between.
-    fn comparison<'a>(&self, braces: bool, place: &mut Place<'_, 'a>) -> Result<Expr<'a>, Error>
+    fn comparison<'a>(&self, braces: bool, place: &mut Place<'_, 'a>) -> Result<ExprNode<'a>, Error>
         requires { ExprNests self.now.parts.room (F.pre self.now.parts.expr) (F.post self.now.parts.expr) }
         ensures { Reads expr_view (plain.read_cmp (rows self.now.parts.fuel) braces) place.old result place.new }
     {
@@ -134,7 +145,7 @@ impl<F: Copy + for<'t, 'b> Fn(&mut Place<'t, 'b>, Wanted) -> Result<Expr<'b>, Er
     }
 
     /// Comparisons with `&&` before each.
-    fn ands<'a>(&self, braces: bool, place: &mut Place<'_, 'a>) -> Result<Seq<Expr<'a>>, Error>
+    fn ands<'a>(&self, braces: bool, place: &mut Place<'_, 'a>) -> Result<ExprNodes<'a>, Error>
         requires { ExprNests self.now.parts.room (F.pre self.now.parts.expr) (F.post self.now.parts.expr) }
         ensures { Reads (λ v. exprs_of (map expr_view v)) ((rows self.now.parts.fuel).ands braces) place.old result place.new }
     {
@@ -142,7 +153,7 @@ impl<F: Copy + for<'t, 'b> Fn(&mut Place<'t, 'b>, Wanted) -> Result<Expr<'b>, Er
             rules: self,
             braces,
         };
-        let (found, _) = repeated(&rule, self.parts.fuel, place)?;
+        let (found, _) = gathered(&rule, self.parts.fuel, place)?;
         Ok(found)
     }
 
@@ -150,9 +161,9 @@ impl<F: Copy + for<'t, 'b> Fn(&mut Place<'t, 'b>, Wanted) -> Result<Expr<'b>, Er
     fn behind_comparison<'a>(
         &self,
         braces: bool,
-        first: Expr<'a>,
+        first: ExprNode<'a>,
         place: &mut Place<'_, 'a>,
-    ) -> Result<Expr<'a>, Error>
+    ) -> Result<ExprNode<'a>, Error>
         requires { ExprNests self.now.parts.room (F.pre self.now.parts.expr) (F.post self.now.parts.expr) }
         ensures { Reads expr_view (λ ts. plain.after_cmp (rows self.now.parts.fuel) braces (expr_view first.entry) ts (next ts)) place.old result place.new }
     {
@@ -160,11 +171,15 @@ impl<F: Copy + for<'t, 'b> Fn(&mut Place<'t, 'b>, Wanted) -> Result<Expr<'b>, Er
             return Ok(first);
         }
         let (first, others) = joined(first, self.ands(braces, place))?;
-        Ok(and_of(fronted(place.alloc(), first, others)?))
+        Ok(and_of(ExprNodes::fronted(place.alloc(), first, others)?))
     }
 
     /// Comparisons with `&&` between.
-    fn conjunction<'a>(&self, braces: bool, place: &mut Place<'_, 'a>) -> Result<Expr<'a>, Error>
+    fn conjunction<'a>(
+        &self,
+        braces: bool,
+        place: &mut Place<'_, 'a>,
+    ) -> Result<ExprNode<'a>, Error>
         requires { ExprNests self.now.parts.room (F.pre self.now.parts.expr) (F.post self.now.parts.expr) }
         ensures { Reads expr_view (plain.read_and (rows self.now.parts.fuel) braces) place.old result place.new }
     {
@@ -173,7 +188,7 @@ impl<F: Copy + for<'t, 'b> Fn(&mut Place<'t, 'b>, Wanted) -> Result<Expr<'b>, Er
     }
 
     /// Conjunctions with `||` before each.
-    fn ors<'a>(&self, braces: bool, place: &mut Place<'_, 'a>) -> Result<Seq<Expr<'a>>, Error>
+    fn ors<'a>(&self, braces: bool, place: &mut Place<'_, 'a>) -> Result<ExprNodes<'a>, Error>
         requires { ExprNests self.now.parts.room (F.pre self.now.parts.expr) (F.post self.now.parts.expr) }
         ensures { Reads (λ v. exprs_of (map expr_view v)) ((rows self.now.parts.fuel).ors braces) place.old result place.new }
     {
@@ -181,7 +196,7 @@ impl<F: Copy + for<'t, 'b> Fn(&mut Place<'t, 'b>, Wanted) -> Result<Expr<'b>, Er
             rules: self,
             braces,
         };
-        let (found, _) = repeated(&rule, self.parts.fuel, place)?;
+        let (found, _) = gathered(&rule, self.parts.fuel, place)?;
         Ok(found)
     }
 
@@ -189,9 +204,9 @@ impl<F: Copy + for<'t, 'b> Fn(&mut Place<'t, 'b>, Wanted) -> Result<Expr<'b>, Er
     fn behind_conjunction<'a>(
         &self,
         braces: bool,
-        first: Expr<'a>,
+        first: ExprNode<'a>,
         place: &mut Place<'_, 'a>,
-    ) -> Result<Expr<'a>, Error>
+    ) -> Result<ExprNode<'a>, Error>
         requires { ExprNests self.now.parts.room (F.pre self.now.parts.expr) (F.post self.now.parts.expr) }
         ensures { Reads expr_view (λ ts. plain.after_and (rows self.now.parts.fuel) braces (expr_view first.entry) ts (next ts)) place.old result place.new }
     {
@@ -199,11 +214,15 @@ impl<F: Copy + for<'t, 'b> Fn(&mut Place<'t, 'b>, Wanted) -> Result<Expr<'b>, Er
             return Ok(first);
         }
         let (first, others) = joined(first, self.ors(braces, place))?;
-        Ok(or_of(fronted(place.alloc(), first, others)?))
+        Ok(or_of(ExprNodes::fronted(place.alloc(), first, others)?))
     }
 
     /// An expression that isn't `return`.
-    fn disjunction<'a>(&self, braces: bool, place: &mut Place<'_, 'a>) -> Result<Expr<'a>, Error>
+    fn disjunction<'a>(
+        &self,
+        braces: bool,
+        place: &mut Place<'_, 'a>,
+    ) -> Result<ExprNode<'a>, Error>
         requires { ExprNests self.now.parts.room (F.pre self.now.parts.expr) (F.post self.now.parts.expr) }
         ensures { Reads expr_view (plain_or self.now.parts.fuel braces) place.old result place.new }
     {
@@ -212,7 +231,11 @@ impl<F: Copy + for<'t, 'b> Fn(&mut Place<'t, 'b>, Wanted) -> Result<Expr<'b>, Er
     }
 
     /// An expression.
-    pub(crate) fn any<'a>(&self, braces: bool, place: &mut Place<'_, 'a>) -> Result<Expr<'a>, Error>
+    pub(crate) fn any<'a>(
+        &self,
+        braces: bool,
+        place: &mut Place<'_, 'a>,
+    ) -> Result<ExprNode<'a>, Error>
         requires { ExprNests self.now.parts.room (F.pre self.now.parts.expr) (F.post self.now.parts.expr) }
         ensures { Reads expr_view (plain.read_or (rows self.now.parts.fuel) braces) place.old result place.new }
     {

@@ -3,6 +3,7 @@
 
 mod base;
 mod chain;
+mod macros;
 pub mod nested;
 mod operators;
 mod prefix;

@@ -7,7 +7,8 @@ ghost use Rattle.dm_read_places.specs.Turns.{rows};
 ghost use Rattle.dm_read_arguments.specs.Sorts.{sorted};
 
 use crate::operators::Operators;
-use dm_output::{Block, Expr};
+use dm_nodes::block::BlockNode;
+use dm_nodes::expr::ExprNode;
 use dm_read_arguments::rules::Exprs;
 use dm_read_arguments::sort::{Sort, Wanted};
 use dm_read_blocks::blocks::Blocks;
@@ -17,7 +18,7 @@ use dm_stream::Error;
 /// The expression that is wanted. Where more than `room` expressions stand in one another it wants memory: that of the stack. With less
 /// fuel than a list in it is long, or than expressions nest deep there, what is there isn't read. Refuses where no such expression stands
 /// there, or a type in it nests deeper than 128.
-pub fn expr<'a>(place: &mut Place<'_, 'a>, wanted: Wanted) -> Result<Expr<'a>, Error>
+pub fn expr<'a>(place: &mut Place<'_, 'a>, wanted: Wanted) -> Result<ExprNode<'a>, Error>
     ensures { Reads expr_view (sorted wanted.sort (rows wanted.fuel)) place.old result place.new }
 {
     if wanted.room == 0 {
@@ -40,7 +41,11 @@ pub fn expr<'a>(place: &mut Place<'_, 'a>, wanted: Wanted) -> Result<Expr<'a>, E
 }
 
 /// The inside of a block, to the end. `fuel` and `room` as for an expression in it. Refuses where anything else stands there.
-pub fn block<'a>(place: &mut Place<'_, 'a>, fuel: usize, room: usize) -> Result<Block<'a>, Error>
+pub fn block<'a>(
+    place: &mut Place<'_, 'a>,
+    fuel: usize,
+    room: usize,
+) -> Result<BlockNode<'a>, Error>
     ensures { ReadsWhole block_view (rows fuel).block place.old result }
 {
     let rules = Blocks {

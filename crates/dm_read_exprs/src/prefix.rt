@@ -11,10 +11,10 @@ ghost use Rattle.dm_read_arguments.specs.ExprNests.{ExprNests};
 ghost use Rattle.dm_read_exprs.specs.Rows as spec;
 
 use crate::operators::Operators;
-use dm_output::Expr;
+use dm_nodes::expr::ExprNode;
+use dm_nodes::make_expr::{deref_of, ref_of, ref_opaque};
 use dm_read_arguments::sort::Wanted;
-use dm_read_macros::opaque::kept;
-use dm_read_nodes::exprs::{deref_of, ref_of, ref_opaque};
+use dm_read_formats::opaque::kept;
 use dm_read_places::front::{Keyword, Sign};
 use dm_read_places::place::Place;
 use dm_read_posts::posts::Posts;
@@ -43,7 +43,7 @@ fn sees_closed_group(place: &Place<'_, '_>) -> bool
 }
 
 /// `&` in front of a group that isn't read.
-fn opaque_ref<'a>(place: &mut Place<'_, 'a>) -> Result<Expr<'a>, Error>
+fn opaque_ref<'a>(place: &mut Place<'_, 'a>) -> Result<ExprNode<'a>, Error>
     ensures { Reads expr_view (λ ts. spec.opaque_group (next ts)) place.old result place.new }
 {
     let Some(inside) = place.group(Delim::Paren) else {
@@ -55,14 +55,16 @@ fn opaque_ref<'a>(place: &mut Place<'_, 'a>) -> Result<Expr<'a>, Error>
     Ok(ref_opaque(kept(&inside)?))
 }
 
-impl<F: Copy + for<'t, 'b> Fn(&mut Place<'t, 'b>, Wanted) -> Result<Expr<'b>, Error>> Operators<F> {
+impl<F: Copy + for<'t, 'b> Fn(&mut Place<'t, 'b>, Wanted) -> Result<ExprNode<'b>, Error>> Operators<
+    F,
+> {
     /// The operand of `&` or `&mut`.
     fn referred<'a>(
         &self,
         braces: bool,
         is_mut: bool,
         place: &mut Place<'_, 'a>,
-    ) -> Result<Expr<'a>, Error>
+    ) -> Result<ExprNode<'a>, Error>
         requires { ExprNests self.now.parts.room (F.pre self.now.parts.expr) (F.post self.now.parts.expr) }
         ensures { Reads expr_view (plain.ref_from_pre (rows self.now.parts.fuel) braces is_mut) place.old result place.new }
     {
@@ -71,7 +73,7 @@ impl<F: Copy + for<'t, 'b> Fn(&mut Place<'t, 'b>, Wanted) -> Result<Expr<'b>, Er
     }
 
     /// What stands behind `&mut`.
-    fn behind_mut<'a>(&self, braces: bool, place: &mut Place<'_, 'a>) -> Result<Expr<'a>, Error>
+    fn behind_mut<'a>(&self, braces: bool, place: &mut Place<'_, 'a>) -> Result<ExprNode<'a>, Error>
         requires { ExprNests self.now.parts.room (F.pre self.now.parts.expr) (F.post self.now.parts.expr) }
         ensures { Reads expr_view (λ ts. plain.read_mut_ref (rows self.now.parts.fuel) braces ts (next ts)) place.old result place.new }
     {
@@ -82,7 +84,7 @@ impl<F: Copy + for<'t, 'b> Fn(&mut Place<'t, 'b>, Wanted) -> Result<Expr<'b>, Er
     }
 
     /// What stands behind `&`.
-    fn behind_amp<'a>(&self, braces: bool, place: &mut Place<'_, 'a>) -> Result<Expr<'a>, Error>
+    fn behind_amp<'a>(&self, braces: bool, place: &mut Place<'_, 'a>) -> Result<ExprNode<'a>, Error>
         requires { ExprNests self.now.parts.room (F.pre self.now.parts.expr) (F.post self.now.parts.expr) }
         ensures { Reads expr_view (λ ts. plain.read_ref (rows self.now.parts.fuel) braces ts (next ts)) place.old result place.new }
     {
@@ -96,7 +98,7 @@ impl<F: Copy + for<'t, 'b> Fn(&mut Place<'t, 'b>, Wanted) -> Result<Expr<'b>, Er
     }
 
     /// An expression of the rows from members on.
-    fn received<'a>(&self, braces: bool, place: &mut Place<'_, 'a>) -> Result<Expr<'a>, Error>
+    fn received<'a>(&self, braces: bool, place: &mut Place<'_, 'a>) -> Result<ExprNode<'a>, Error>
         requires { ExprNests self.now.parts.room (F.pre self.now.parts.expr) (F.post self.now.parts.expr) }
         ensures { Reads expr_view (λ ts. plain.read_post (rows self.now.parts.fuel) braces ts (next ts)) place.old result place.new }
     {
@@ -110,7 +112,7 @@ impl<F: Copy + for<'t, 'b> Fn(&mut Place<'t, 'b>, Wanted) -> Result<Expr<'b>, Er
         &self,
         braces: bool,
         place: &mut Place<'_, 'a>,
-    ) -> Result<Expr<'a>, Error>
+    ) -> Result<ExprNode<'a>, Error>
         requires { ExprNests self.now.parts.room (F.pre self.now.parts.expr) (F.post self.now.parts.expr) }
         ensures { Reads expr_view (λ ts. plain.read_pre (rows self.now.parts.fuel) braces ts (next ts)) place.old result place.new }
     {

@@ -4,6 +4,8 @@ use Rattle.dm_stream.specs.Trees.{Trees}
 use Rattle.dm_ast.specs.Tree.{TypeTree, ty_view, PathTree, path_view}
 use Rattle.dm_ast.specs.Declarations.{ParamTree, param_view, PredicateTree, predicate_view}
 use Rattle.dm_ast.specs.Readers.{tail}
+use Rattle.dm_output.specs.declared.item.ItemAttr.{ItemAttr}
+use Rattle.dm_output.specs.Output.{AssocTree, MethodTree, ItemTree}
 use Rattle.dm_reread.specs.Leaves.{Answer}
 use Rattle.dm_reread.specs.Reading.{then}
 use Rattle.dm_reread.specs.TypeLeaves.{read_type}
@@ -51,3 +53,8 @@ fits lifetimes p = is_plain p && (lifetimes || not (is_lifetime p))
 -- the parts as one
 abbrev pub made_head : List ParamTree → NamedTree × List PredicateTree → HeadTree
 made_head ps b = record { params = ps; trait_path = b.0.0; ty = b.0.1; predicates = b.1 }
+
+-- an implementation of its attributes, its head and its members
+abbrev pub item_of : List ItemAttr → HeadTree → List AssocTree → List MethodTree → ItemTree
+item_of as' h xs ms =
+    record { attrs = as'; params = h.params; trait_path = h.trait_path; ty = h.ty; predicates = h.predicates; assocs = xs; methods = ms }

@@ -1,10 +1,11 @@
 -- Parts of associated types and of methods' signatures that functions of their own read.
-use Rattle.std.specs.Prelude.{ℕ, Bool, false, Option, Some, None}
+use Rattle.std.specs.Prelude.{ℕ, Bool, false, List, Option, Some, None}
 use Rattle.dm_stream.specs.declared.tokens.Ident.{Ident}
 use Rattle.dm_stream.specs.Trees.{Trees}
 use Rattle.dm_ast.specs.Keywords.{is_name}
 use Rattle.dm_ast.specs.Tree.{TypeTree}
-use Rattle.dm_output.specs.Output.{AssocTree, ParamOfMethod}
+use Rattle.dm_output.specs.Output.{AssocTree, BlockTree, MethodTree, ParamOfMethod}
+use Rattle.dm_output.specs.declared.item.ItemAttr.{ItemAttr}
 use Rattle.dm_output.specs.declared.item.Receiver.{Receiver}
 use Rattle.dm_reread.specs.Next.{Next, k_type, a_name, a_word, next}
 use Rattle.dm_reread.specs.Leaves.{Answer}
@@ -79,3 +80,8 @@ signature_at ts = then (inputs_after leaves (next ts)) (λ p. then (output_after
 -- the method's name in front of them
 abbrev pub named_signature : Trees → Answer (Ident × Signature)
 named_signature ts = then (declared_at (next ts)) (λ s. then (signature_at s.1) (λ x. Some ((s.0, x.0), x.1)))
+
+-- a method of its attributes, its name, what it takes and gives, and its body
+abbrev pub method_of : List ItemAttr → Bool → Ident → Signature → BlockTree → MethodTree
+method_of as' is_const i s b =
+    record { attrs = as'; is_const = is_const; name = i; receiver = s.0.0; param = s.0.1; output = s.1; body = b }

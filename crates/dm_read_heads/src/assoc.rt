@@ -1,7 +1,7 @@
 //! Associated types.
 #![tactic(auto, using(crate::proofs::MemberSteps::member_steps))]
 
-ghost use Rattle.std.specs.Prelude.{map};
+ghost use Rattle.std.specs.Prelude.{◌≡◌, map};
 ghost use Rattle.dm_ast.specs.Tree.{ty_view};
 ghost use Rattle.dm_output.specs.Views.{assoc_view};
 ghost use Rattle.dm_reread.specs.Next.{next};
@@ -18,6 +18,41 @@ use dm_read_places::front::Keyword;
 use dm_read_places::list::{Rule, Turn, repeated};
 use dm_read_places::place::Place;
 use dm_stream::{Error, Seq};
+use std::marker::Model;
+
+/// Associated types that were read. They are private, so that what holds them needs to know nothing of how types are dropped; contracts
+/// see their list.
+pub struct AssocTypes<'a> {
+    trees: Seq<Assoc<'a>>,
+}
+
+impl<'a> Model for AssocTypes<'a> {
+    ghost use Rattle.std.specs.Prelude.{List};
+    ghost use Rattle.std.specs.Coded.{coded_list};
+    ghost use Rattle.dm_output.specs.declared.item.Assoc.{Assoc};
+    ghost use Rattle.dm_read_heads.specs.Codes.{assoc_code};
+
+    ghost Value = { List Assoc };
+
+    ghost coded = { coded_list assoc_code };
+
+    ghost view = { λ a. a.trees };
+}
+
+impl Drop for AssocTypes<'_> {
+    fn drop(self) {
+        let Self { trees: _ } = self;
+    }
+}
+
+impl<'a> AssocTypes<'a> {
+    pub(crate) fn into_trees(self) -> Seq<Assoc<'a>>
+        ensures { result ≡ self.entry }
+    {
+        let Self { trees } = self;
+        trees
+    }
+}
 
 /// A type and a semicolon.
 fn type_ended<'a>(place: &mut Place<'_, 'a>) -> Result<Ty<'a>, Error>
@@ -78,9 +113,9 @@ impl<'a> Rule<'a> for AssocRule {
 }
 
 /// The associated types in front, perhaps none. Refused is `type` where no associated type stands behind it. `fuel` is more than their number.
-pub fn assocs<'a>(place: &mut Place<'_, 'a>, fuel: usize) -> Result<Seq<Assoc<'a>>, Error>
+pub fn assocs<'a>(place: &mut Place<'_, 'a>, fuel: usize) -> Result<AssocTypes<'a>, Error>
     ensures { Reads (map assoc_view) (plain.read_assocs leaves fuel) place.old result place.new }
 {
-    let (found, _) = repeated(&AssocRule, fuel, place)?;
-    Ok(found)
+    let (trees, _) = repeated(&AssocRule, fuel, place)?;
+    Ok(AssocTypes { trees })
 }

@@ -4,6 +4,7 @@
 ghost use Rattle.std.specs.Prelude.{◌≡◌, true, map, option_map};
 ghost use Rattle.dm_ast.specs.Tree.{ty_view, path_view};
 ghost use Rattle.dm_ast.specs.Declarations.{param_view, predicate_view};
+ghost use Rattle.dm_output.specs.Views.{assoc_view, item_view, method_view};
 ghost use Rattle.dm_read_decl.specs.ShapeViews.{angled_view, clause_view};
 ghost use Rattle.dm_reread.specs.HeadLeaves as plain;
 ghost use Rattle.dm_reread.specs.ExactLeaves.{exact_head};
@@ -12,23 +13,70 @@ ghost use Rattle.dm_read_heads.specs.Heads as spec;
 ghost use Rattle.dm_read_heads.specs.Heads.{head_view};
 ghost use Rattle.dm_read_heads.specs.Named.{named_view, behind_view};
 
+use crate::assoc::AssocTypes;
 use dm_ast::{GenericParam, Path, Ty, TyNode, WherePredicate};
 use dm_input::Input;
 use dm_input::join::joined;
+use dm_nodes::discard::discard;
+use dm_nodes::item::{ItemNode, MethodNodes};
+use dm_output::{Item, ItemAttr};
 use dm_read::token::{behind, sees_word};
 use dm_read_decl::generics::{generics, where_clause};
-use dm_read_leaves::exact::exact;
+use dm_read_exact::exact::exact;
 use dm_read_leaves::ty::front_type;
 use dm_read_places::place::Place;
 use dm_stream::{Error, Punctuated, Seq};
 
-/// What stands between `impl` and the brace: parameters, perhaps a trait, the type, and predicates.
-#[derive(Drop)]
+/// What stands between `impl` and the brace: parameters, perhaps a trait, the type, and predicates. Its drop is a function, so that what
+/// holds a head needs to know nothing of how trees are dropped.
 pub struct Head<'a> {
     pub params: Seq<GenericParam<'a>>,
     pub trait_path: Option<Path<'a>>,
     pub ty: Ty<'a>,
     pub predicates: Seq<WherePredicate<'a>>,
+}
+
+impl Drop for Head<'_> {
+    fn drop(self) {
+        let Self {
+            params,
+            trait_path,
+            ty,
+            predicates,
+        } = self;
+        discard(params);
+        discard(trait_path);
+        discard(ty);
+        discard(predicates);
+    }
+}
+
+impl<'a> Head<'a> {
+    /// The implementation of this head with these members.
+    pub fn into_item(
+        self,
+        attrs: Seq<ItemAttr>,
+        assocs: AssocTypes<'a>,
+        methods: MethodNodes<'a>,
+    ) -> ItemNode<'a>
+        ensures { item_view result ≡ spec.item_of attrs (head_view self.entry) (map assoc_view assocs.entry) (map method_view methods.entry) }
+    {
+        let Self {
+            params,
+            trait_path,
+            ty,
+            predicates,
+        } = self;
+        ItemNode::new(Item {
+            attrs,
+            params,
+            trait_path,
+            ty,
+            predicates,
+            assocs: assocs.into_trees(),
+            methods: methods.into_trees(),
+        })
+    }
 }
 
 /// A trait's path where one stands before `for`, and the type.

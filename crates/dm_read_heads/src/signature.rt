@@ -3,7 +3,7 @@
 
 ghost use Rattle.std.specs.Prelude.{◌≡◌, None, Some, option_map};
 ghost use Rattle.dm_ast.specs.Tree.{ty_view};
-ghost use Rattle.dm_output.specs.Views.{method_param_view};
+ghost use Rattle.dm_output.specs.Views.{block_view, method_param_view, method_view};
 ghost use Rattle.dm_reread.specs.Next.{next};
 ghost use Rattle.dm_reread.specs.Items as plain;
 ghost use Rattle.dm_reread.specs.ReadBack.{leaves};
@@ -13,13 +13,16 @@ ghost use Rattle.dm_read_heads.specs.Signatures.{inputs_view, signature_view, na
 
 use dm_ast::Ty;
 use dm_input::join::{ended, joined};
-use dm_output::{MethodParam, Receiver};
+use dm_nodes::block::BlockNode;
+use dm_nodes::discard::discard;
+use dm_nodes::item::MethodNode;
+use dm_output::{ItemAttr, Method, MethodParam, Receiver};
 use dm_read::token::is_word;
 use dm_read::words::is_name;
 use dm_read_leaves::ty::ty;
 use dm_read_places::front::{Keyword, Sign};
 use dm_read_places::place::Place;
-use dm_stream::{Delim, Error, Ident};
+use dm_stream::{Delim, Error, Ident, Seq};
 
 /// What stands in a method's parentheses: its receiver, its parameter, both or none.
 #[derive(Drop)]
@@ -28,11 +31,44 @@ pub struct Inputs<'a> {
     pub param: Option<MethodParam<'a>>,
 }
 
-/// What a method takes, and the type that it gives, if one stands behind `->`.
-#[derive(Drop)]
+/// What a method takes, and the type that it gives, if one stands behind `->`. Its drop is a function, so that what holds a signature needs
+/// to know nothing of how types are dropped.
 pub struct Signature<'a> {
     pub inputs: Inputs<'a>,
     pub output: Option<Ty<'a>>,
+}
+
+impl Drop for Signature<'_> {
+    fn drop(self) {
+        let Self { inputs, output } = self;
+        discard(inputs);
+        discard(output);
+    }
+}
+
+impl<'a> Signature<'a> {
+    /// The method of this signature with this body.
+    pub fn into_method(
+        self,
+        attrs: Seq<ItemAttr>,
+        is_const: bool,
+        name: Ident<'a>,
+        body: BlockNode<'a>,
+    ) -> MethodNode<'a>
+        ensures { method_view result ≡ spec.method_of attrs is_const name.entry (signature_view self.entry) (block_view body.entry) }
+    {
+        let Self { inputs, output } = self;
+        let Inputs { receiver, param } = inputs;
+        MethodNode::new(Method {
+            attrs,
+            is_const,
+            name,
+            receiver,
+            param,
+            output,
+            body: body.into_tree(),
+        })
+    }
 }
 
 /// A type, to the end.

@@ -10,6 +10,7 @@ ghost use Rattle.dm_read_items.specs.Reading.{IsFollowed, Becomes, IsWithin, IsU
 use crate::items::items;
 use dm_levels::first_deep;
 use dm_lexer::lex;
+use dm_nodes::item::ItemNodes;
 use dm_output::Item;
 use dm_read_places::place::Place;
 use dm_stream::{Error, Kind, Refusal, Seq, Span, TokenStream};
@@ -43,7 +44,7 @@ fn within<T: Drop>(found: T, deep: Option<Span>) -> Result<T, Error>
 }
 
 /// The implementations of a text's trees, whose texts are the stream's.
-fn items_of<'a>(alloc: Global, stream: &TokenStream<'a>) -> Result<Seq<Item<'a>>, Error>
+fn items_of<'a>(alloc: Global, stream: &TokenStream<'a>) -> Result<ItemNodes<'a>, Error>
     ensures items { (text : List ℕ) → IsTreesOf text stream.now.trees → IfOk result (λ all. IsFollowed text (map item_view all) None) }
     ensures unread { (text : List ℕ) → IsTreesOf text stream.now.trees → IfErr result (IsUnread text) }
 {
@@ -53,6 +54,17 @@ fn items_of<'a>(alloc: Global, stream: &TokenStream<'a>) -> Result<Seq<Item<'a>>
             within(found, deep)
         }
         Err(error) => Err(unlike(error)),
+    }
+}
+
+/// The trees of what was read.
+#[tactic(auto)]
+fn trees_of<'a>(read: Result<ItemNodes<'a>, Error>) -> Result<Seq<Item<'a>>, Error>
+    ensures { result ≡ read.entry }
+{
+    match read {
+        Ok(found) => Ok(found.into_trees()),
+        Err(error) => Err(error),
     }
 }
 
@@ -67,7 +79,7 @@ pub fn read_items<'a>(alloc: Global, text: &'a str) -> Result<Seq<Item<'a>>, Err
     ensures unread { IfErr result (IsUnread text.now) }
 {
     let stream = lex(alloc, text)?;
-    items_of(alloc, &stream)
+    trees_of(items_of(alloc, &stream))
 }
 
 /// The same, where what is read borrows nothing.
@@ -77,5 +89,5 @@ pub fn read_owned_items<'a>(alloc: Global, text: &str) -> Result<Seq<Item<'a>>, 
 {
     let stream = lex(alloc, text)?;
     let owned = stream.into_owned(alloc)?;
-    items_of(alloc, &owned)
+    trees_of(items_of(alloc, &owned))
 }

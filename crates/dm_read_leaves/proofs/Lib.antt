@@ -1,3 +1,2 @@
-pub mod ExactSteps
 pub mod TypeSteps
 pub mod PathSteps

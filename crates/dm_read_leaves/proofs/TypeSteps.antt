@@ -9,7 +9,7 @@ use Rattle.dm_read_paths.specs.WholeReaders.{whole_type}
 use Rattle.dm_reread.specs.TypeLeaves.{answer_of, read_type}
 use Rattle.dm_reread.specs.ExactLeaves.{exactly}
 use Rattle.dm_reread.proofs.FreeDeclarations.{type_free}
-use Rattle.dm_read_leaves.proofs.ExactSteps.{exact_refuses}
+use Rattle.dm_read_exact.proofs.ExactSteps.{exact_refuses}
 
 pub type_read : (limit : ℕ) (ts us : Trees) (x : TypeTree) → whole_type (record { level = 0; limit = limit }) ts ≡ Ok (x, us) →
     read_type ts ≡ Some (x, us)

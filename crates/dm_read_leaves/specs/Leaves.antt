@@ -1,7 +1,6 @@
 -- Parts of the rows of types and qualified paths that functions of their own read.
-use Rattle.std.specs.Prelude.{nat_eq, ◌&&◌, Bool, List, Option, Some}
+use Rattle.std.specs.Prelude.{nat_eq, ◌&&◌, Bool, Some}
 use Rattle.dm_stream.specs.declared.tokens.Punct.{Punct}
-use Rattle.dm_stream.specs.declared.tokens.Entry.{Entry}
 use Rattle.dm_stream.specs.Trees.{Trees}
 use Rattle.dm_stream.specs.Layout.{nowhere}
 use Rattle.dm_expr.specs.Cuts.{split_at}
@@ -10,14 +9,10 @@ use Rattle.dm_ast.specs.Tree.{TypeTree, type_tree, MaybeSelf, maybe_self_view, P
 use Rattle.dm_ast.specs.TypeTokens.{type_trees}
 use Rattle.dm_output.specs.declared.expr.PathExpr.{PathExpr}
 use Rattle.dm_reread.specs.Leaves.{Answer}
-use Rattle.dm_reread.specs.Reading.{then, provided, whole}
+use Rattle.dm_reread.specs.Reading.{then, whole}
 use Rattle.dm_reread.specs.TypeLeaves.{read_type}
 use Rattle.dm_reread.specs.PathLeaves.{path_at}
-use Rattle.dm_reread.specs.ExactLeaves.{has_entries, exactly}
-
--- what has these tokens and delimiters
-abbrev pub only : {A : Type 0} → (A → Trees) → List Entry → A → Option A
-only trees_of es x = provided (has_entries (trees_of x) es) (Some x)
+use Rattle.dm_reread.specs.ExactLeaves.{exactly}
 
 -- whether two puncts are `::`
 abbrev pub is_separated : Punct → Punct → Bool

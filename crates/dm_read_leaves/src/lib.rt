@@ -1,6 +1,5 @@
 //! Reading the output language: types and qualified paths, as the plain reader reads them.
 #![tactic(auto)]
 
-pub mod exact;
 pub mod qualified;
 pub mod ty;

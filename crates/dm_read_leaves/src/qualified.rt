@@ -15,12 +15,12 @@ ghost use Rattle.dm_reread.specs.ExactLeaves.{exact_qualified};
 ghost use Rattle.dm_read_places.specs.Reads.{Reads, ReadsWhole};
 ghost use Rattle.dm_read_leaves.specs.Leaves.{is_separated, path_expr_view, unranged_type, cut_type, exact_cut};
 
-use crate::exact::exact;
 use crate::ty::front_type;
 use dm_ast::{Path, Ty, TyNode};
 use dm_expr::pair_size;
 use dm_input::join::ended;
 use dm_output::PathExpr;
+use dm_read_exact::exact::exact;
 use dm_read_places::place::Place;
 use dm_stream::{Cursor, Error, Piece, Punct, Spacing, Span};
 use std::alloc::Global;

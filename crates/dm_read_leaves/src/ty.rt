@@ -6,9 +6,9 @@ ghost use Rattle.dm_reread.specs.TypeLeaves.{read_type};
 ghost use Rattle.dm_reread.specs.ExactLeaves.{exact_type};
 ghost use Rattle.dm_read_places.specs.Reads.{Reads};
 
-use crate::exact::exact;
 use dm_ast::Ty;
 use dm_input::Input;
+use dm_read_exact::exact::exact;
 use dm_read_places::place::Place;
 use dm_read_types::entry;
 use dm_stream::Error;

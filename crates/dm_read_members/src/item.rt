@@ -14,20 +14,22 @@ ghost use Rattle.dm_read_members.specs.Views.{members_view, unmarked_view};
 use crate::count::turns;
 use crate::method::Bodies;
 use dm_input::join::joined;
-use dm_output::{Assoc, Expr, Item, ItemAttr, Method};
+use dm_nodes::expr::ExprNode;
+use dm_nodes::item::{ItemNode, ItemNodes, MethodNodes};
+use dm_output::ItemAttr;
 use dm_read_arguments::sort::Wanted;
-use dm_read_heads::assoc::assocs;
+use dm_read_heads::assoc::{AssocTypes, assocs};
 use dm_read_heads::attr::attrs;
 use dm_read_heads::head::{Head, printed_head};
 use dm_read_places::front::Keyword;
-use dm_read_places::list::{Rule, Turn, repeated};
+use dm_read_places::list::{Rule, Turn, gathered};
 use dm_read_places::place::Place;
 use dm_stream::{Delim, Error, Seq};
 
-type Members<'a> = (Seq<Assoc<'a>>, Seq<Method<'a>>);
+type Members<'a> = (AssocTypes<'a>, MethodNodes<'a>);
 
 /// The associated types in front.
-fn all_assocs<'a>(place: &mut Place<'_, 'a>) -> Result<Seq<Assoc<'a>>, Error>
+fn all_assocs<'a>(place: &mut Place<'_, 'a>) -> Result<AssocTypes<'a>, Error>
     ensures { Reads (map assoc_view) spec.all_assocs place.old result place.new }
 {
     let fuel = turns(place.cursor());
@@ -35,25 +37,11 @@ fn all_assocs<'a>(place: &mut Place<'_, 'a>) -> Result<Seq<Assoc<'a>>, Error>
 }
 
 /// The parts as one.
-fn item_of<'a>(attrs: Seq<ItemAttr>, parts: (Head<'a>, Members<'a>)) -> Item<'a>
+fn item_of<'a>(attrs: Seq<ItemAttr>, parts: (Head<'a>, Members<'a>)) -> ItemNode<'a>
     ensures { item_view result ≡ spec.made_item attrs (unmarked_view parts.entry) }
 {
     let (head, (assocs, methods)) = parts;
-    let Head {
-        params,
-        trait_path,
-        ty,
-        predicates,
-    } = head;
-    Item {
-        attrs,
-        params,
-        trait_path,
-        ty,
-        predicates,
-        assocs,
-        methods,
-    }
+    head.into_item(attrs, assocs, methods)
 }
 
 /// Implementations, to the end of the trees. Refuses where none stand there, or anything else does.
@@ -62,15 +50,17 @@ struct ItemRule<'g, F> {
     bodies: &'g Bodies<F>,
 }
 
-impl<'g, 'a, F: Copy + for<'t, 'b> Fn(&mut Place<'t, 'b>, Wanted) -> Result<Expr<'b>, Error>> Rule<
+impl<
+    'g,
     'a,
-> for ItemRule<'g, F> {
+    F: Copy + for<'t, 'b> Fn(&mut Place<'t, 'b>, Wanted) -> Result<ExprNode<'b>, Error>,
+> Rule<'a> for ItemRule<'g, F> {
     ghost use Rattle.dm_output.specs.Output.{ItemTree};
     ghost use Rattle.dm_output.specs.Views.{item_view};
     ghost use Rattle.dm_read_arguments.specs.ExprNests.{ExprNests};
     ghost use Rattle.dm_read_members.specs.Rows.{item_turn};
 
-    type Part = Item<'a>;
+    type Part = ItemNode<'a>;
 
     type Last = ();
 
@@ -86,7 +76,11 @@ impl<'g, 'a, F: Copy + for<'t, 'b> Fn(&mut Place<'t, 'b>, Wanted) -> Result<Expr
 
     ghost reader = { λ _. item_turn };
 
-    fn turn(&self, _fuel: usize, place: &mut Place<'_, 'a>) -> Result<Turn<Item<'a>, ()>, Error> {
+    fn turn(
+        &self,
+        _fuel: usize,
+        place: &mut Place<'_, 'a>,
+    ) -> Result<Turn<ItemNode<'a>, ()>, Error> {
         if place.at_end() {
             return Ok(Turn::End(()));
         }
@@ -94,7 +88,9 @@ impl<'g, 'a, F: Copy + for<'t, 'b> Fn(&mut Place<'t, 'b>, Wanted) -> Result<Expr
     }
 }
 
-impl<F: Copy + for<'t, 'b> Fn(&mut Place<'t, 'b>, Wanted) -> Result<Expr<'b>, Error>> Bodies<F> {
+impl<F: Copy + for<'t, 'b> Fn(&mut Place<'t, 'b>, Wanted) -> Result<ExprNode<'b>, Error>> Bodies<
+    F,
+> {
     /// Associated types, and methods to the end.
     fn all_members<'a>(&self, place: &mut Place<'_, 'a>) -> Result<Members<'a>, Error>
         requires { ExprNests self.now.room (F.pre self.now.expr) (F.post self.now.expr) }
@@ -136,7 +132,7 @@ impl<F: Copy + for<'t, 'b> Fn(&mut Place<'t, 'b>, Wanted) -> Result<Expr<'b>, Er
     }
 
     /// An implementation.
-    fn item<'a>(&self, place: &mut Place<'_, 'a>) -> Result<Item<'a>, Error>
+    fn item<'a>(&self, place: &mut Place<'_, 'a>) -> Result<ItemNode<'a>, Error>
         requires { ExprNests self.now.room (F.pre self.now.expr) (F.post self.now.expr) }
         ensures { Reads item_view (plain.read_item item_leaves) place.old result place.new }
     {
@@ -150,16 +146,16 @@ impl<F: Copy + for<'t, 'b> Fn(&mut Place<'t, 'b>, Wanted) -> Result<Expr<'b>, Er
         &self,
         most: usize,
         place: &mut Place<'_, 'a>,
-    ) -> Result<Seq<Item<'a>>, Error>
+    ) -> Result<ItemNodes<'a>, Error>
         requires { ExprNests self.now.room (F.pre self.now.expr) (F.post self.now.expr) }
         ensures { ReadsWhole (map item_view) (plain.items_with item_leaves most) place.old result }
     {
-        let (found, _) = repeated(&ItemRule { bodies: self }, most, place)?;
+        let (found, _) = gathered(&ItemRule { bodies: self }, most, place)?;
         Ok(found)
     }
 
     /// Implementations, to the end of the trees. Refuses where none stand there, or anything else does.
-    pub fn items<'a>(&self, place: &mut Place<'_, 'a>) -> Result<Seq<Item<'a>>, Error>
+    pub fn items<'a>(&self, place: &mut Place<'_, 'a>) -> Result<ItemNodes<'a>, Error>
         requires { ExprNests self.now.room (F.pre self.now.expr) (F.post self.now.expr) }
         ensures { ReadsWhole (map item_view) read_output place.old result }
     {

@@ -15,14 +15,17 @@ ghost use Rattle.dm_read_members.specs.Views.{behind_view, unnamed_view};
 
 use crate::count::{fuel, turns};
 use dm_input::join::joined;
-use dm_output::{Block, Expr, ItemAttr, Method};
+use dm_nodes::block::BlockNode;
+use dm_nodes::expr::ExprNode;
+use dm_nodes::item::{MethodNode, MethodNodes};
+use dm_output::ItemAttr;
 use dm_read_arguments::rules::Exprs;
 use dm_read_arguments::sort::Wanted;
 use dm_read_blocks::blocks::Blocks;
 use dm_read_heads::attr::attrs;
-use dm_read_heads::signature::{Inputs, Signature, named_signature};
+use dm_read_heads::signature::{Signature, named_signature};
 use dm_read_places::front::Keyword;
-use dm_read_places::list::{Rule, Turn, repeated};
+use dm_read_places::list::{Rule, Turn, gathered};
 use dm_read_places::place::Place;
 use dm_stream::{Delim, Error, Ident, Seq};
 
@@ -46,23 +49,14 @@ fn const_fn(place: &mut Place<'_, '_>) -> Result<bool, Error>
     Ok(is_const)
 }
 
-type Behind<'a> = ((Ident<'a>, Signature<'a>), Block<'a>);
+type Behind<'a> = ((Ident<'a>, Signature<'a>), BlockNode<'a>);
 
 /// The parts as one.
-fn method_of<'a>(attrs: Seq<ItemAttr>, parts: (bool, Behind<'a>)) -> Method<'a>
+fn method_of<'a>(attrs: Seq<ItemAttr>, parts: (bool, Behind<'a>)) -> MethodNode<'a>
     ensures { method_view result ≡ spec.made_method attrs (unnamed_view parts.entry) }
 {
-    let (is_const, ((name, Signature { inputs, output }), body)) = parts;
-    let Inputs { receiver, param } = inputs;
-    Method {
-        attrs,
-        is_const,
-        name,
-        receiver,
-        param,
-        output,
-        body,
-    }
+    let (is_const, ((name, signature), body)) = parts;
+    signature.into_method(attrs, is_const, name, body)
 }
 
 /// Methods, to the end.
@@ -71,15 +65,17 @@ struct MethodRule<'g, F> {
     bodies: &'g Bodies<F>,
 }
 
-impl<'g, 'a, F: Copy + for<'t, 'b> Fn(&mut Place<'t, 'b>, Wanted) -> Result<Expr<'b>, Error>> Rule<
+impl<
+    'g,
     'a,
-> for MethodRule<'g, F> {
+    F: Copy + for<'t, 'b> Fn(&mut Place<'t, 'b>, Wanted) -> Result<ExprNode<'b>, Error>,
+> Rule<'a> for MethodRule<'g, F> {
     ghost use Rattle.dm_output.specs.Output.{MethodTree};
     ghost use Rattle.dm_output.specs.Views.{method_view};
     ghost use Rattle.dm_read_arguments.specs.ExprNests.{ExprNests};
     ghost use Rattle.dm_read_members.specs.Rows.{method_turn};
 
-    type Part = Method<'a>;
+    type Part = MethodNode<'a>;
 
     type Last = ();
 
@@ -95,7 +91,11 @@ impl<'g, 'a, F: Copy + for<'t, 'b> Fn(&mut Place<'t, 'b>, Wanted) -> Result<Expr
 
     ghost reader = { λ _. method_turn };
 
-    fn turn(&self, _fuel: usize, place: &mut Place<'_, 'a>) -> Result<Turn<Method<'a>, ()>, Error> {
+    fn turn(
+        &self,
+        _fuel: usize,
+        place: &mut Place<'_, 'a>,
+    ) -> Result<Turn<MethodNode<'a>, ()>, Error> {
         if place.at_end() {
             return Ok(Turn::End(()));
         }
@@ -103,9 +103,11 @@ impl<'g, 'a, F: Copy + for<'t, 'b> Fn(&mut Place<'t, 'b>, Wanted) -> Result<Expr
     }
 }
 
-impl<F: Copy + for<'t, 'b> Fn(&mut Place<'t, 'b>, Wanted) -> Result<Expr<'b>, Error>> Bodies<F> {
+impl<F: Copy + for<'t, 'b> Fn(&mut Place<'t, 'b>, Wanted) -> Result<ExprNode<'b>, Error>> Bodies<
+    F,
+> {
     /// The inside of a block, to the end.
-    fn block<'a>(&self, place: &mut Place<'_, 'a>, fuel: usize) -> Result<Block<'a>, Error>
+    fn block<'a>(&self, place: &mut Place<'_, 'a>, fuel: usize) -> Result<BlockNode<'a>, Error>
         requires { ExprNests self.now.room (F.pre self.now.expr) (F.post self.now.expr) }
         ensures { ReadsWhole block_view (rows fuel).block place.old result }
     {
@@ -120,7 +122,7 @@ impl<F: Copy + for<'t, 'b> Fn(&mut Place<'t, 'b>, Wanted) -> Result<Expr<'b>, Er
     }
 
     /// The inside of a body, to the end.
-    fn inside<'a>(&self, place: &mut Place<'_, 'a>) -> Result<Block<'a>, Error>
+    fn inside<'a>(&self, place: &mut Place<'_, 'a>) -> Result<BlockNode<'a>, Error>
         requires { ExprNests self.now.room (F.pre self.now.expr) (F.post self.now.expr) }
         ensures { ReadsWhole block_view (read_inside leaves) place.old result }
     {
@@ -131,7 +133,7 @@ impl<F: Copy + for<'t, 'b> Fn(&mut Place<'t, 'b>, Wanted) -> Result<Expr<'b>, Er
     }
 
     /// A body in braces.
-    fn body<'a>(&self, place: &mut Place<'_, 'a>) -> Result<Block<'a>, Error>
+    fn body<'a>(&self, place: &mut Place<'_, 'a>) -> Result<BlockNode<'a>, Error>
         requires { ExprNests self.now.room (F.pre self.now.expr) (F.post self.now.expr) }
         ensures { Reads block_view (λ ts. plain.body_after leaves (next ts)) place.old result place.new }
     {
@@ -160,7 +162,7 @@ impl<F: Copy + for<'t, 'b> Fn(&mut Place<'t, 'b>, Wanted) -> Result<Expr<'b>, Er
     }
 
     /// A method.
-    fn method<'a>(&self, place: &mut Place<'_, 'a>) -> Result<Method<'a>, Error>
+    fn method<'a>(&self, place: &mut Place<'_, 'a>) -> Result<MethodNode<'a>, Error>
         requires { ExprNests self.now.room (F.pre self.now.expr) (F.post self.now.expr) }
         ensures { Reads method_view (plain.read_method leaves) place.old result place.new }
     {
@@ -174,16 +176,16 @@ impl<F: Copy + for<'t, 'b> Fn(&mut Place<'t, 'b>, Wanted) -> Result<Expr<'b>, Er
         &self,
         most: usize,
         place: &mut Place<'_, 'a>,
-    ) -> Result<Seq<Method<'a>>, Error>
+    ) -> Result<MethodNodes<'a>, Error>
         requires { ExprNests self.now.room (F.pre self.now.expr) (F.post self.now.expr) }
         ensures { ReadsWhole (map method_view) (plain.read_methods leaves most) place.old result }
     {
-        let (found, _) = repeated(&MethodRule { bodies: self }, most, place)?;
+        let (found, _) = gathered(&MethodRule { bodies: self }, most, place)?;
         Ok(found)
     }
 
     /// Methods, to the end.
-    pub(crate) fn methods<'a>(&self, place: &mut Place<'_, 'a>) -> Result<Seq<Method<'a>>, Error>
+    pub(crate) fn methods<'a>(&self, place: &mut Place<'_, 'a>) -> Result<MethodNodes<'a>, Error>
         requires { ExprNests self.now.room (F.pre self.now.expr) (F.post self.now.expr) }
         ensures { ReadsWhole (map method_view) spec.all_methods place.old result }
     {

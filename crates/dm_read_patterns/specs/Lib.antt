@@ -1,3 +1,5 @@
 pub mod PatternTurns
 pub mod PatternNests
 pub mod PatternRows
+pub mod ArmPatterns
+pub mod Codes

@@ -1,8 +1,6 @@
 //! Patterns that nest down to a depth.
 #![tactic(auto, using(crate::proofs::Nesting::nesting_steps))]
 
-ghost use Rattle.std.specs.Prelude.{map};
-ghost use Rattle.dm_output.specs.Output.{patterns_of};
 ghost use Rattle.dm_output.specs.Views.{pattern_view};
 ghost use Rattle.dm_read_places.specs.Reads.{Reads};
 ghost use Rattle.dm_read_places.specs.Turns.{rows};
@@ -10,7 +8,7 @@ ghost use Rattle.dm_read_places.specs.Turns.{rows};
 use crate::pattern::Patterns;
 use dm_output::Pattern;
 use dm_read_places::place::Place;
-use dm_stream::{Error, Seq};
+use dm_stream::Error;
 
 /// A pattern, with at most `room` patterns in one another. Deeper ones want memory: that of the stack. `fuel` is a number that no list in it
 /// exceeds, nor how deep patterns nest there: with less, what is there isn't read. Refuses where no pattern stands there.
@@ -33,20 +31,4 @@ pub fn pattern<'a>(
         pattern,
     };
     rules.row(place)
-}
-
-/// The patterns behind the first of an arm, with `|` before each.
-pub fn alternatives<'a>(
-    place: &mut Place<'_, 'a>,
-    fuel: usize,
-    room: usize,
-) -> Result<Seq<Pattern<'a>>, Error>
-    ensures { Reads (λ v. patterns_of (map pattern_view v)) (rows fuel).bars place.old result place.new }
-{
-    let rules = Patterns {
-        fuel,
-        room,
-        pattern,
-    };
-    rules.alternatives(place)
 }

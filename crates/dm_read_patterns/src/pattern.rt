@@ -16,12 +16,12 @@ use crate::pattern_nodes::{
     bind, named_part, named_pattern, pair_of, path_pattern, str_pattern, tuple_pattern, wild,
 };
 use dm_ast::Path;
+use dm_gather::two_boxes;
 use dm_input::join::{ended, joined};
 use dm_output::{Binding, NamedPattern, Pattern};
 use dm_read_places::expect::is_str;
 use dm_read_places::front::{Keyword, Sign};
 use dm_read_places::list::{Rule, Turn, repeated};
-use dm_read_places::node::two_boxes;
 use dm_read_places::path::path;
 use dm_read_places::place::Place;
 use dm_stream::{Delim, Error, Literal, Seq};

@@ -4,6 +4,5 @@
 pub mod expect;
 pub mod front;
 pub mod list;
-pub mod node;
 pub mod path;
 pub mod place;

@@ -10,6 +10,7 @@ ghost use Rattle.dm_read_places.specs.Reads.{Reads};
 ghost use Rattle.dm_read_places.specs.Repeating.{turn_view, repeat};
 
 use crate::place::Place;
+use dm_gather::Gathers;
 use dm_stream::{Error, Seq};
 
 /// One turn of a list: a part, or what ends the list.
@@ -62,6 +63,28 @@ pub trait Rule<'a> {
 }
 
 /// Parts up to the end, in at most so many turns.
+pub fn gathered<'a, R: Rule<'a>, L: Gathers<R::Part>>(
+    rule: &R,
+    fuel: usize,
+    place: &mut Place<'_, 'a>,
+) -> Result<(L, R::Last), Error>
+    requires { R.usable rule.now }
+    ensures { Reads (λ v. (map R.view (L.parts v.0), R.last v.1)) (repeat (R.reader rule.now) fuel) place.old result place.new }
+{
+    let mut items = L::none(place.alloc());
+    let mut left = fuel;
+    while left > 0 {
+        left -= 1;
+        match rule.turn(left, place) {
+            Ok(Turn::One(item)) => items.gather(item)?,
+            Ok(Turn::End(end)) => return Ok((items, end)),
+            Err(error) => return Err(error),
+        }
+    }
+    Err(place.refused())
+}
+
+/// The same, in a list.
 pub fn repeated<'a, R: Rule<'a>>(
     rule: &R,
     fuel: usize,
@@ -70,15 +93,5 @@ pub fn repeated<'a, R: Rule<'a>>(
     requires { R.usable rule.now }
     ensures { Reads (λ v. (map R.view v.0, R.last v.1)) (repeat (R.reader rule.now) fuel) place.old result place.new }
 {
-    let mut items = Seq::new(place.alloc());
-    let mut left = fuel;
-    while left > 0 {
-        left -= 1;
-        match rule.turn(left, place) {
-            Ok(Turn::One(item)) => items.add(item)?,
-            Ok(Turn::End(end)) => return Ok((items, end)),
-            Err(error) => return Err(error),
-        }
-    }
-    Err(place.refused())
+    gathered(rule, fuel, place)
 }

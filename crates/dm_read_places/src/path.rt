@@ -10,9 +10,9 @@ ghost use Rattle.dm_read_places.specs.Turns.{rows, segment_at, segment_name};
 
 use crate::front::Sign;
 use crate::list::{Rule, Turn, repeated};
-use crate::node::fronted;
 use crate::place::Place;
 use dm_ast::{Path, PathArguments, PathSegment};
+use dm_gather::fronted;
 use dm_input::join::joined;
 use dm_read_paths::path::{no_arguments, path_of, segment_of};
 use dm_stream::{Error, Ident, Seq};

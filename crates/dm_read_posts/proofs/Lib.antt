@@ -1,2 +1,3 @@
 pub mod PostLists
 pub mod PostSteps
+pub mod Applying

@@ -14,7 +14,7 @@ use Rattle.dm_read_places.specs.declared.list.Turn.TheVariants.{One}
 use Rattle.dm_read_places.specs.Repeating.{after_turn, repeat}
 use Rattle.dm_read_places.specs.Turns.{rows}
 use Rattle.dm_read_places.proofs.Lists.{Listed, in_front}
-use Rattle.dm_read_nodes.specs.Posts.{PostTree, member_post, call_post, map_post, map_err_post, question_post, post_then, posts_of}
+use Rattle.dm_read_posts.specs.Posts.{PostTree, member_post, call_post, map_post, map_err_post, question_post, post_then, posts_of}
 use Rattle.dm_read_posts.specs.Turns.{method_post, map_err_of, map_of, member_at, post_behind, post_turn_at, post_turn}
 
 posts_made : (x : PostTree) (xs : List PostTree) → posts_of (x ∷ xs) ≡ post_then x (posts_of xs)

@@ -14,7 +14,7 @@ use Rattle.dm_read_places.specs.declared.front.Sign.TheVariants as sign
 use Rattle.dm_read_places.specs.declared.list.Turn.TheVariants.{End}
 use Rattle.dm_read_places.specs.Fronts.{is_sign, is_name_next, is_group_next}
 use Rattle.dm_read_places.specs.Turns.{rows}
-use Rattle.dm_read_nodes.specs.Posts.{PostTree, member_post, call_post, map_err_post}
+use Rattle.dm_read_posts.specs.Posts.{PostTree, member_post, call_post, map_err_post}
 use Rattle.dm_read_posts.specs.Turns.{method_post, map_err_of, map_of, member_at, post_behind, post_turn_at}
 use Rattle.dm_read_posts.specs.Rows.{plain_args}
 use Rattle.dm_read_posts.proofs.PostLists.{posts_are}

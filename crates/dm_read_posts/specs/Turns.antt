@@ -10,7 +10,7 @@ use Rattle.dm_reread.specs.Reading.{then, provided, is_int, read_args, is_map, i
 use Rattle.dm_read_places.specs.declared.list.Turn.{Turn}
 use Rattle.dm_read_places.specs.declared.list.Turn.TheVariants.{One, End}
 use Rattle.dm_read_places.specs.Turns.{rows}
-use Rattle.dm_read_nodes.specs.Posts.{PostTree, member_post, call_post, map_post, map_err_post, question_post}
+use Rattle.dm_read_posts.specs.Posts.{PostTree, member_post, call_post, map_post, map_err_post, question_post}
 
 abbrev pub method_post : ℕ → Ident → Trees → Option PostTree
 method_post n i inside = then (read_args (rows n) false inside) (λ a. provided (not a.1) (Some (call_post i a.0)))

@@ -10,18 +10,19 @@ ghost use Rattle.dm_read_places.specs.Reads.{Reads, ReadsWhole};
 ghost use Rattle.dm_read_places.specs.Repeating.{turn_view};
 ghost use Rattle.dm_read_places.specs.Turns.{rows};
 ghost use Rattle.dm_read_arguments.specs.ExprNests.{ExprNests};
-ghost use Rattle.dm_read_nodes.specs.Posts.{posts_of, post_view};
+ghost use Rattle.dm_read_posts.specs.Posts.{posts_of, post_view};
 ghost use Rattle.dm_read_posts.specs.Turns as turns;
 ghost use Rattle.dm_read_posts.specs.Rows as spec;
 
+use crate::post::{Post, applied};
 use dm_input::join::joined;
-use dm_output::{Expr, Member};
+use dm_nodes::expr::{ExprNode, ExprNodes};
+use dm_output::Member;
 use dm_read::token::is_word;
 use dm_read::words::is_name;
 use dm_read_arguments::rules::Exprs;
 use dm_read_arguments::sort::Wanted;
-use dm_read_macros::opaque::kept;
-use dm_read_nodes::post::{Post, applied, mapped};
+use dm_read_formats::opaque::kept;
 use dm_read_places::front::Sign;
 use dm_read_places::list::{Rule, Turn, repeated};
 use dm_read_places::place::Place;
@@ -55,11 +56,13 @@ struct PostRule<'g, F> {
     rules: &'g Posts<F>,
 }
 
-impl<'g, 'a, F: Copy + for<'t, 'b> Fn(&mut Place<'t, 'b>, Wanted) -> Result<Expr<'b>, Error>> Rule<
+impl<
+    'g,
     'a,
-> for PostRule<'g, F> {
+    F: Copy + for<'t, 'b> Fn(&mut Place<'t, 'b>, Wanted) -> Result<ExprNode<'b>, Error>,
+> Rule<'a> for PostRule<'g, F> {
     ghost use Rattle.dm_read_arguments.specs.ExprNests.{ExprNests};
-    ghost use Rattle.dm_read_nodes.specs.Posts.{PostTree, post_view};
+    ghost use Rattle.dm_read_posts.specs.Posts.{PostTree, post_view};
     ghost use Rattle.dm_read_posts.specs.Turns.{post_turn};
 
     type Part = Post<'a>;
@@ -83,9 +86,9 @@ impl<'g, 'a, F: Copy + for<'t, 'b> Fn(&mut Place<'t, 'b>, Wanted) -> Result<Expr
     }
 }
 
-impl<F: Copy + for<'t, 'b> Fn(&mut Place<'t, 'b>, Wanted) -> Result<Expr<'b>, Error>> Posts<F> {
+impl<F: Copy + for<'t, 'b> Fn(&mut Place<'t, 'b>, Wanted) -> Result<ExprNode<'b>, Error>> Posts<F> {
     /// Arguments to the end, without a comma behind the last.
-    fn plain_arguments<'a>(&self, place: &mut Place<'_, 'a>) -> Result<Seq<Expr<'a>>, Error>
+    fn plain_arguments<'a>(&self, place: &mut Place<'_, 'a>) -> Result<ExprNodes<'a>, Error>
         requires { ExprNests self.now.parts.room (F.pre self.now.parts.expr) (F.post self.now.parts.expr) }
         ensures { ReadsWhole (λ v. exprs_of (map expr_view v)) (spec.plain_args self.now.parts.fuel) place.old result }
     {
@@ -111,7 +114,7 @@ impl<F: Copy + for<'t, 'b> Fn(&mut Place<'t, 'b>, Wanted) -> Result<Expr<'b>, Er
     }
 
     /// A closure behind its first `|`: its expression.
-    fn closure<'a>(&self, inside: &mut Place<'_, 'a>) -> Result<Expr<'a>, Error>
+    fn closure<'a>(&self, inside: &mut Place<'_, 'a>) -> Result<ExprNode<'a>, Error>
         requires { ExprNests self.now.parts.room (F.pre self.now.parts.expr) (F.post self.now.parts.expr) }
         ensures { ReadsWhole expr_view (λ ts. plain.closure_from (rows self.now.parts.fuel) (next ts)) inside.old result }
     {
@@ -135,8 +138,7 @@ impl<F: Copy + for<'t, 'b> Fn(&mut Place<'t, 'b>, Wanted) -> Result<Expr<'b>, Er
         if !inside.take(Sign::Bar) {
             return self.plain_call(name, inside);
         }
-        let found = self.closure(inside)?;
-        Ok(mapped(inside.alloc(), found)?)
+        Ok(Post::Map(self.closure(inside)?))
     }
 
     /// `map_err` with what isn't read, or as any other method.
@@ -219,9 +221,9 @@ impl<F: Copy + for<'t, 'b> Fn(&mut Place<'t, 'b>, Wanted) -> Result<Expr<'b>, Er
     /// A receiver with all that stands behind it.
     pub fn with_posts<'a>(
         &self,
-        receiver: Expr<'a>,
+        receiver: ExprNode<'a>,
         place: &mut Place<'_, 'a>,
-    ) -> Result<Expr<'a>, Error>
+    ) -> Result<ExprNode<'a>, Error>
         requires { ExprNests self.now.parts.room (F.pre self.now.parts.expr) (F.post self.now.parts.expr) }
         ensures { Reads expr_view (spec.posts_behind self.now.parts.fuel (expr_view receiver.entry)) place.old result place.new }
     {

@@ -3,13 +3,13 @@
 use dm_lexer::lex;
 use dm_read_arguments::sort::{Sort, Wanted};
 use dm_read_exprs::nested::{block, expr};
+use dm_read_formats::opaque::run;
 use dm_read_heads::assoc::assocs;
 use dm_read_heads::attr::attrs;
 use dm_read_heads::head::printed_head;
 use dm_read_heads::signature::named_signature;
 use dm_read_leaves::qualified::qualified;
 use dm_read_leaves::ty::ty;
-use dm_read_macros::opaque::run;
 use dm_read_patterns::nested::pattern;
 use dm_read_places::path::path;
 use dm_read_places::place::Place;

@@ -10,6 +10,7 @@ ghost use Rattle.dm_output.specs.Tokens.{printed};
 ghost use Rattle.dm_read_items.specs.Reading.{IsAnswerTo};
 
 use dm_expansion::print_items;
+use dm_nodes::item::ItemNodes;
 use dm_read_items::read_items;
 use dm_stream::{Error, Refusal};
 use std::alloc::{AllocError, Global};
@@ -19,7 +20,7 @@ use std::io;
 fn reprinted(alloc: Global, text: &str) -> Result<String, Error>
     ensures { IfOk result (λ s. (is : List ItemTree) × IsAnswerTo text.now (Some is) × (string_bytes s ≡ printed is)) }
 {
-    let items = read_items(alloc, text)?;
+    let items = ItemNodes::new(read_items(alloc, text)?);
     Ok(print_items(alloc, items.as_slice())?)
 }
 

@@ -4,8 +4,8 @@ use Rattle.std.specs.declared.alloc.Global.{Global}
 use Rattle.std.specs.declared.process.ExitCode.{ExitCode}
 use Rattle.std.specs.Process.{exit_status}
 use Rattle.dm_run.specs.Ended.{IsEnded, IsRun, Reading, Writing}
-use Rattle.dm_run.specs.Runs.{exit_code}
-use Rattle.dm_run.specs.declared.top.Status.{Status}
+use Rattle.dm_outside.specs.Exits.{exit_code}
+use Rattle.dm_outside.specs.declared.exit.Status.{Status}
 
 pub ended : (words : Result (Vec (String Global) Global) Status) (all : Vec (String Global) Global) (given : List (String Global)) (U W : Type 0)
     (source source' : Reading) (sink sink' : Writing) (code : ExitCode) (status : Status) → words ≡ Ok all → given ≡ drop 1 all.items →

@@ -2,4 +2,3 @@ pub mod Lines
 pub mod RunLemmas
 pub mod Sampling
 pub mod Ending
-pub mod Turning

@@ -1,17 +1,19 @@
--- What a run did to the bytes of the source and of the sink.
-use Rattle.std.proofs.Common.{◌≡◌, ℕ, ◌<◌, List, Option, Some, None, length, inl, inr, arith, sym, subst, ◌∙◌, ◌++◌}
+-- What a run did to the bytes of the source and of the sink, and by which reads.
+use Rattle.std.proofs.Common.{◌≡◌, ℕ, ◌<◌, ◌≤◌, List, Option, Some, None, length, inl, inr, arith, sym, subst, ◌∙◌, ◌++◌}
 use Rattle.std.specs.Prelude.{IfSome, ◌⊎◌}
 use Rattle.std.proofs.KnownBytes.{Consumes-whole}
 use Rattle.std.proofs.lemmas.List.{length-append}
 use Rattle.std.specs.Io.KnownBytes.{Keeps}
 use Rattle.dm_stream.specs.declared.error.Refusal.{Refusal}
-use Rattle.dm_run.specs.declared.transfer.TheConstants.{LARGEST_INPUT}
-use Rattle.dm_run.specs.declared.top.Status.{Status}
-use Rattle.dm_run.specs.declared.top.Status.TheVariants.{Done, Refused, BadInput, ReadFault, WriteFault, NoMemory, Usage}
+use Rattle.dm_outside.specs.Transfers.{WasRead, IsTooMuch, TookToEnd}
+use Rattle.dm_outside.specs.declared.transfer.TheConstants.{LARGEST_INPUT}
+use Rattle.dm_outside.specs.declared.exit.Status.{Status}
+use Rattle.dm_outside.specs.declared.exit.Status.TheVariants.{Done, Refused, BadInput, ReadFault, WriteFault, NoMemory, Usage}
 use Rattle.dm_printed.specs.Derived.{Refuses}
 use Rattle.dm_run.specs.Split.{HasLine, IsSplit}
 use Rattle.dm_printed.proofs.Deriving.{derivable}
-use Rattle.dm_run.specs.Runs.{WasRead, IsTooMuch, IsAccepted, IsFaultless, Responds, Ran, Means}
+use Rattle.dm_run.specs.Runs.{IsAccepted, IsFaultless, Responds, Ran, Means}
+use Rattle.dm_run.specs.Turns.{Turns}
 
 -- a run that read all is one that responds to what it read
 pub ran : (left left' before now : Option (List ℕ)) (bytes : List ℕ) (status : Status) → WasRead left left' bytes →
@@ -23,6 +25,17 @@ ran left left' before now bytes ReadFault all r = absurd r
 ran left left' before now bytes WriteFault all r = (bytes, all, r)
 ran left left' before now bytes NoMemory all r = r
 ran left left' before now bytes Usage all r = absurd r
+
+-- a run that read to the end
+pub turned : (a b w w' : Option (List ℕ)) (total : ℕ) (bytes : List ℕ) (status : Status) → total ≤ LARGEST_INPUT → TookToEnd a b total →
+    Responds bytes w w' status → Turns a b status
+turned a b w w' total bytes Done few t r = (total, few, t)
+turned a b w w' total bytes Refused few t r = (total, few, t)
+turned a b w w' total bytes BadInput few t r = inr (total, few, t)
+turned a b w w' total bytes ReadFault few t r = absurd r
+turned a b w w' total bytes WriteFault few t r = (total, few, t)
+turned a b w w' total bytes NoMemory few t r = inr (total, t)
+turned a b w w' total bytes Usage few t r = absurd r
 
 -- more than too much is too much
 more_is : (bs ys xs : List ℕ) → LARGEST_INPUT < length bs → xs ≡ bs ++ ys → LARGEST_INPUT < length xs

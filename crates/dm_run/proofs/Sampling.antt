@@ -11,8 +11,8 @@ use Rattle.dm_sample.specs.Summaries.{told_line}
 use Rattle.dm_sample.specs.declared.summary.Told.{Told}
 use Rattle.dm_run.specs.Runs.{Ran}
 use Rattle.dm_run.specs.Sampled.{AreLines, AreWords, IsTold, Sampled, names_of}
-use Rattle.dm_run.specs.declared.top.Status.{Status}
-use Rattle.dm_run.specs.declared.top.Status.TheVariants.{Usage}
+use Rattle.dm_outside.specs.declared.exit.Status.{Status}
+use Rattle.dm_outside.specs.declared.exit.Status.TheVariants.{Usage}
 
 -- ---- lines
 

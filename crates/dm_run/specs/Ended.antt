@@ -4,13 +4,14 @@ use Rattle.std.specs.declared.alloc.Global.{Global}
 use Rattle.std.specs.declared.process.ExitCode.{ExitCode}
 use Rattle.std.specs.Process.{exit_status}
 use Rattle.dm_sample.specs.Samples.{IsSample}
-use Rattle.dm_run.specs.Causes.{Rose}
-use Rattle.dm_run.specs.Offers.{Offer}
-use Rattle.dm_run.specs.Runs.{exit_code, Ran, Means, IsAccepted, IsFaultless, IsSilent}
+use Rattle.dm_outside.specs.Causes.{Rose}
+use Rattle.dm_outside.specs.Offers.{Offer}
+use Rattle.dm_outside.specs.Exits.{exit_code}
+use Rattle.dm_run.specs.Runs.{Ran, Means, IsAccepted, IsFaultless, IsSilent}
 use Rattle.dm_run.specs.Sampled.{AreWords, Sampled}
 use Rattle.dm_run.specs.Turns.{Turns, Offered}
-use Rattle.dm_run.specs.declared.top.Status.{Status}
-use Rattle.dm_run.specs.declared.top.Status.TheVariants.{ReadFault, WriteFault, Usage}
+use Rattle.dm_outside.specs.declared.exit.Status.{Status}
+use Rattle.dm_outside.specs.declared.exit.Status.TheVariants.{ReadFault, WriteFault, Usage}
 
 -- what a source shows
 pub record Reading : Type 0 where

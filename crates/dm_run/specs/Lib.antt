@@ -1,8 +1,10 @@
-pub mod Causes
 pub mod Ended
-pub mod Offers
 pub mod Runs
 pub mod Sampled
 pub mod Split
-pub mod States
 pub mod Turns
+pub use Rattle.dm_outside.specs.Causes
+pub use Rattle.dm_outside.specs.Exits
+pub use Rattle.dm_outside.specs.Offers
+pub use Rattle.dm_outside.specs.States
+pub use Rattle.dm_outside.specs.Transfers

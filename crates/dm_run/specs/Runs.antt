@@ -1,34 +1,14 @@
 -- What a run does to the bytes of the source and of the sink, by how it ended.
-use Rattle.std.specs.Prelude.{◌≡◌, ℕ, ◌≤◌, ◌<◌, List, ◌++◌, Option, length, take, codes, ◌⊎◌}
-use Rattle.std.specs.Io.KnownBytes.{Consumes, Appends, Keeps, IsAtEnd}
+use Rattle.std.specs.Prelude.{◌≡◌, ℕ, ◌≤◌, ◌<◌, List, ◌++◌, Option, length, codes, ◌⊎◌}
+use Rattle.std.specs.Io.KnownBytes.{Appends, Keeps}
 use Rattle.dm_stream.specs.Messages.{refusal_text}
 use Rattle.dm_stream.specs.declared.error.Refusal.{Refusal}
 use Rattle.dm_printed.specs.Derived.{Answers, Refuses, IsDerivable}
 use Rattle.dm_run.specs.Split.{HasLine, IsSplit}
-use Rattle.dm_run.specs.declared.transfer.TheConstants.{LARGEST_INPUT}
-use Rattle.dm_run.specs.declared.top.Status.{Status}
-use Rattle.dm_run.specs.declared.top.Status.TheVariants.{Done, Refused, BadInput, ReadFault, WriteFault, NoMemory, Usage}
-
--- the status that a process ends with
-abbrev pub exit_code : Status → ℕ
-exit_code Done = 0
-exit_code Refused = 1
-exit_code BadInput = 2
-exit_code ReadFault = 3
-exit_code WriteFault = 4
-exit_code NoMemory = 5
-exit_code Usage = 6
-
--- the source was read to its end
-pub record WasRead (before now : Option (List ℕ)) (bytes : List ℕ) : Type 0 where
-  pub taken : Consumes before now bytes
-  pub «end» : IsAtEnd now
-  pub few : length bytes ≤ LARGEST_INPUT
-
--- more than the limit was read
-pub record IsTooMuch (before now : Option (List ℕ)) (bytes : List ℕ) : Type 0 where
-  pub taken : Consumes before now bytes
-  pub many : LARGEST_INPUT < length bytes
+use Rattle.dm_outside.specs.Transfers.{WasRead, IsTooMuch, AppendsPrefix}
+use Rattle.dm_outside.specs.declared.transfer.TheConstants.{LARGEST_INPUT}
+use Rattle.dm_outside.specs.declared.exit.Status.{Status}
+use Rattle.dm_outside.specs.declared.exit.Status.TheVariants.{Done, Refused, BadInput, ReadFault, WriteFault, NoMemory, Usage}
 
 -- the bytes name a trait and a declaration, and this text is the derive's answer
 pub record IsAnswered (bytes text : List ℕ) : Type 0 where
@@ -49,10 +29,6 @@ pub record IsRefused (bytes line : List ℕ) : Type 0 where
   pub split : IsSplit bytes name declaration
   pub refused : Refuses name declaration refusal
   pub told : line ≡ line_of refusal
-
--- a prefix of the text was written, and not all of it
-abbrev pub AppendsPrefix : Option (List ℕ) → Option (List ℕ) → List ℕ → Type 0
-AppendsPrefix before now text = (n : ℕ) × (n < length text) × Appends before now (take n text)
 
 -- What is written for bytes that were read to the end.
 abbrev pub Responds : List ℕ → Option (List ℕ) → Option (List ℕ) → Status → Type 0

@@ -9,9 +9,9 @@ use Rattle.dm_sample.specs.declared.summary.Told.{Told}
 use Rattle.dm_sample.specs.declared.summary.Told.TheVariants as told
 use Rattle.dm_printed.specs.Derived.{Refuses}
 use Rattle.dm_printed.specs.Counts.{AreCounts}
-use Rattle.dm_run.specs.Runs.{AppendsPrefix}
-use Rattle.dm_run.specs.declared.top.Status.{Status}
-use Rattle.dm_run.specs.declared.top.Status.TheVariants.{Done, WriteFault, NoMemory}
+use Rattle.dm_outside.specs.Transfers.{AppendsPrefix}
+use Rattle.dm_outside.specs.declared.exit.Status.{Status}
+use Rattle.dm_outside.specs.declared.exit.Status.TheVariants.{Done, WriteFault, NoMemory}
 
 -- what is told of the answer of the trait of this name to a text
 abbrev pub IsTold : List ℕ → List ℕ → Told → Type 0

@@ -1,10 +1,10 @@
 ghost use Rattle.std.specs.Prelude.{◌≡◌, drop};
 ghost use Rattle.std.specs.Process.{exit_status};
-ghost use Rattle.dm_run.specs.Runs.{exit_code};
+ghost use Rattle.dm_outside.specs.Exits.{exit_code};
 ghost use Rattle.dm_run.specs.Ended.{IsEnded};
 
-use super::outside::{Sink, Source};
-use super::top::{Status, derive_main};
+use super::top::derive_main;
+use dm_outside::{Sink, Source, Status};
 use std::alloc::Global;
 use std::process::ExitCode;
 

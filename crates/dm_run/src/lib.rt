@@ -4,15 +4,10 @@
 mod ended;
 mod input;
 mod line;
-mod memory;
-mod outside;
 mod summary;
 mod top;
-mod transfer;
 
+pub use dm_outside::{Failed, LARGEST_INPUT, MemSink, MemSource, Sink, Source, Status};
 pub use ended::ended_run;
 pub use input::split;
-pub use memory::{MemSink, MemSource};
-pub use outside::{Failed, Sink, Source};
-pub use top::{Status, derive_main};
-pub use transfer::LARGEST_INPUT;
+pub use top::derive_main;

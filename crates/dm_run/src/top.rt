@@ -1,55 +1,18 @@
 ghost use Rattle.std.specs.Prelude.{◌≡◌, ◌↔◌, ℕ, [], IfSome};
 ghost use Rattle.dm_sample.specs.Samples.{IsSample};
-ghost use Rattle.dm_run.specs.Causes.{Rose};
-ghost use Rattle.dm_run.specs.Runs.{exit_code, Responds, Ran, Means, IsAccepted, IsFaultless, IsSilent};
+ghost use Rattle.dm_outside.specs.Causes.{Rose};
+ghost use Rattle.dm_run.specs.Runs.{Responds, Ran, Means, IsAccepted, IsFaultless, IsSilent};
 ghost use Rattle.dm_run.specs.Sampled.{AreWords, Sampled};
 ghost use Rattle.dm_run.specs.Turns.{Turns, Offered};
 
 use super::input::split;
 use super::line::refusal_line;
-use super::outside::{Failed, Sink, Source};
 use super::summary::sample_lines;
-use super::transfer::{ReadError, read_all, write_all};
+use dm_outside::{Failed, ReadError, Sink, Source, Status, read_all, write_all};
 use dm_printed::derive_printed;
 use dm_sample::sample_size;
 use dm_stream::{Error, Refusal};
 use std::alloc::Global;
-
-/// How a run ended.
-#[derive(Clone, Copy, Debug, PartialEq, Eq)]
-pub enum Status {
-    /// The implementations were written, or the lines of a sample.
-    Done,
-    /// The derive refused the declaration, and the refusal's line was written.
-    Refused,
-    /// There were more than 1,048,576 bytes, or no trait's name and declaration.
-    BadInput,
-    /// The source failed.
-    ReadFault,
-    /// The sink failed.
-    WriteFault,
-    /// There was no memory.
-    NoMemory,
-    /// The words are no words of this program.
-    Usage,
-}
-
-impl Status {
-    /// The exit code of a process that ends so.
-    pub fn code(self) -> u8
-        ensures { result ≡ exit_code self }
-    {
-        match self {
-            Status::Done => 0,
-            Status::Refused => 1,
-            Status::BadInput => 2,
-            Status::ReadFault => 3,
-            Status::WriteFault => 4,
-            Status::NoMemory => 5,
-            Status::Usage => 6,
-        }
-    }
-}
 
 /// Answers bytes that were read to the end, and writes the answer whole.
 fn respond<K: Sink>(alloc: Global, bytes: &[u8], sink: &mut K) -> Status

@@ -1,5 +1,6 @@
 //! What the heads of rows ask for.
 
+use crate::formats::{Asked, of_placeholders};
 use crate::lexing::{comes_back, layout_of, only_read};
 use crate::outlines::{outline, places};
 use crate::units::{Taker, first_unit, takes, takes_opened};
@@ -69,6 +70,14 @@ const CALLS: &[(&str, Call)] = &[
     ("run behind 200000 <", Call::Opened(200_000)),
 ];
 
+/// Of these each answer is told line by line.
+const FORMATS: &[(&str, Asked)] = &[
+    ("format", Asked::Front),
+    ("trait", Asked::Trait),
+    ("format string", Asked::All),
+    ("placeholders", Asked::Values),
+];
+
 fn answer_to(alloc: Global, call: Call, text: &str) -> Result<String, Error> {
     match call {
         Call::Tokens => outline(alloc, text),
@@ -101,7 +110,10 @@ impl Answers for TokenRows {
                 let answer = answer_to(alloc, call, text)?;
                 shown(alloc, answer.as_str())
             }
-            None => unknown(alloc),
+            None => match named(FORMATS, head) {
+                Some(asked) => of_placeholders(alloc, asked, text),
+                None => unknown(alloc),
+            },
         }
     }
 }

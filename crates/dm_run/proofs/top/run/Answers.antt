@@ -1,5 +1,4 @@
-use Rattle.dm_run.proofs.RunLemmas.{ran}
-use Rattle.dm_run.proofs.Turning.{turned}
+use Rattle.dm_run.proofs.RunLemmas.{ran, turned}
 use Rattle.dm_run.proofs.top.run.Goals as goal
 
 pub returns-in-Ok-clause-ran : goal.returns-in-Ok-clause-ran

@@ -1,0 +1,10 @@
+//! Nodes of the output language: trees that are private, so that what holds a node needs to know nothing of how a tree is dropped, and how
+//! they are made of their parts. Contracts see the trees.
+#![tactic(auto)]
+
+pub mod block;
+pub mod discard;
+pub mod expr;
+pub mod item;
+pub mod make_block;
+pub mod make_expr;

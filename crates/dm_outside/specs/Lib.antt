@@ -1,0 +1,5 @@
+pub mod Causes
+pub mod Exits
+pub mod Offers
+pub mod States
+pub mod Transfers

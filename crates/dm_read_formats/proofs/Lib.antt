@@ -1,0 +1,3 @@
+pub mod RunSteps
+pub mod FormatLists
+pub mod FormatSteps

@@ -1,4 +1,0 @@
-pub mod RunSteps
-pub mod FormatLists
-pub mod FormatSteps
-pub mod MacroSteps

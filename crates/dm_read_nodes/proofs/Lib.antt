@@ -1,2 +1,0 @@
-pub mod BoxSteps
-pub mod Applying
