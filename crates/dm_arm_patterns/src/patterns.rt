@@ -1,7 +1,6 @@
 #![tactic(auto, using(dm_output::proofs::View::view_steps))]
 
-ghost use Rattle.std.specs.Prelude.{◌≡◌, ◌++◌, [], map, IfOk, string_bytes};
-ghost use Rattle.std.specs.Fmt.{decimal};
+ghost use Rattle.std.specs.Prelude.{◌≡◌, [], map, IfOk};
 ghost use Rattle.dm_ast.specs.Tree.{path_view};
 ghost use Rattle.dm_ast.specs.Declarations.{field_view, fields_view};
 ghost use Rattle.dm_output.specs.Output.{bind};

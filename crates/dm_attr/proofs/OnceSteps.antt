@@ -1,5 +1,5 @@
 -- What the fold of a kind that may be given once answers, by the definitions of what is refused and of what stays.
-use Rattle.std.proofs.Common.{◌≡◌, ℕ, List, [], ◌∷◌, Bool, true, false, cond, filter, Option, None, Some, Ok, Err, refl, sym, ap, ◌∙◌, subst}
+use Rattle.std.proofs.Common.{◌≡◌, ℕ, List, [], ◌∷◌, Bool, false, cond, filter, Option, None, Some, Ok, Err, refl, sym, ap, ◌∙◌, subst}
 use Rattle.std.specs.Prelude.{Result, IsErrAnd, option_map}
 use Rattle.std.specs.Option.{is_some, option_or}
 use Rattle.dm_stream.specs.Cursors.{first_span}

@@ -1,6 +1,5 @@
 //! One of two kinds, values, or iterators.
 
-ghost use Rattle.std.specs.Prelude.{◌≡◌};
 ghost use Rattle.dm_attr.specs.Answers.{Within, same};
 ghost use Rattle.dm_attr.specs.Eithers.{either, either_steps, MatchEither, ReadsEither, ReadsEitherOf, MergesEither};
 

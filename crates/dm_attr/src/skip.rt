@@ -1,6 +1,6 @@
 //! The kind of attributes that leave a place out.
 
-ghost use Rattle.std.specs.Prelude.{◌≡◌, codes};
+ghost use Rattle.std.specs.Prelude.{◌≡◌};
 ghost use Rattle.dm_stream.specs.Cursors.{left, sound};
 ghost use Rattle.dm_attr.specs.Answers.{Within, same};
 ghost use Rattle.dm_attr.specs.Kinds.{ReadsWhole, ReadsContents, MergesNever};

@@ -1,15 +1,15 @@
 -- The predicates that are added cover the operations on fields.
-use Rattle.std.proofs.Common.{◌≡◌, ℕ, zero, suc, ◌+◌, List, [], ◌∷◌, ◌++◌, map, length, Bool, true, false, not, cond, ◌&&◌, ◌||◌, Option, Some, None, slice_get, refl, sym, ap, ◌∙◌, arith, inl, inr}
+use Rattle.std.proofs.Common.{◌≡◌, ℕ, zero, suc, ◌+◌, List, [], ◌∷◌, ◌++◌, map, true, false, Some, slice_get, refl, ap, inl, inr}
 use Rattle.std.specs.Prelude.{flat_map, ◌⊎◌}
-use Rattle.dm_ast.specs.Tree.{TypeTree, PathTree}
+use Rattle.dm_ast.specs.Tree.{PathTree}
 use Rattle.dm_ast.specs.Declarations.{FieldTree, PredicateTree, Declaration}
 use Rattle.dm_attr.specs.Skips.{is_skipped}
 use Rattle.dm_output.specs.Values.{Case, cases, field_list}
 use Rattle.dm_searches.specs.Mentions.{mentions}
 use Rattle.dm_searches.specs.Inside.{inside}
-use Rattle.dm_operands.specs.Marked.{MarkedField, MarkedCase, mark_field, mark_case, marked}
-use Rattle.dm_bounds.specs.Needed.{Wanted, wanted_of, bounded, needs, added, added_in, needed}
-use Rattle.dm_bounds.specs.Covering.{IsAmong, HoldsOwn, IsCovered, Covers}
+use Rattle.dm_operands.specs.Marked.{mark_field, mark_case, marked}
+use Rattle.dm_bounds.specs.Needed.{Wanted, wanted_of, bounded, added, added_in, needed}
+use Rattle.dm_bounds.specs.Covering.{IsAmong, HoldsOwn, Covers}
 
 -- an item among the first, or among the last, of two lists
 among-last : {A : Type 0} (x : A) (xs ys : List A) → IsAmong x ys → IsAmong x (xs ++ ys)

@@ -11,7 +11,7 @@ use Rattle.dm_ast.specs.Tree.{TypeTree, segments_of, SegmentTrees, segment, no_s
 use Rattle.dm_ast.specs.Spelling.{sees, sees_colons, sees_equals, sees_colon, Nothing, colons, equals}
 use Rattle.dm_ast.specs.Keywords.{is_name}
 use Rattle.dm_ast.specs.TypeGrammar as grammar
-use Rattle.dm_ast.specs.TypeGrammar.{name, is_path_word, sees_arguments, type_spelled, path_spelled, segments_left, arguments_of_segment, argument, arguments_left}
+use Rattle.dm_ast.specs.TypeGrammar.{name, is_path_word, sees_arguments, type_spelled, arguments_of_segment, argument, arguments_left}
 use Rattle.dm_ast.specs.TypeTokens as spell
 use Rattle.dm_ast.specs.Implementors.{segments, plain_path}
 use Rattle.dm_generics.specs.Words.{word, plain_segments}

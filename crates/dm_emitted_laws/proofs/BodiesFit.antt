@@ -32,7 +32,7 @@ use Rattle.dm_output.specs.Output.{PatternTree, wild, bind, patterns_of, named_o
 use Rattle.dm_output.specs.Values.{Text, Case, cases, is_enum, field_list}
 use Rattle.dm_output.specs.Calls.{ok_names, err_names, discriminant_names}
 use Rattle.dm_written.specs.Fitting as fitting
-use Rattle.dm_written.specs.Fitting.{Fits, NameFits, PatternFits, PatternsFit, NamedPatternsFit, ExprFits, ExprsFit, NamedExprsFit, MaybeFits, ArmsFit, BodyFits, StmtFits, StmtsFit, BlockFits}
+use Rattle.dm_written.specs.Fitting.{Fits, NameFits, PatternFits, PatternsFit, NamedPatternsFit, ExprFits, ExprsFit, NamedExprsFit, MaybeFits, ArmsFit, BodyFits, StmtsFit, BlockFits}
 use Rattle.dm_written.proofs.Fitted.{none_fits, join_fits, name_fits, colons_fit, spaced_fits}
 use Rattle.dm_generics.specs.Words.{word, words}
 use Rattle.dm_generics.specs.Numerals.{digits_of, numeral}

@@ -16,7 +16,7 @@ use Rattle.dm_ast.specs.Tree.{TypeTree, type_tree, path, no_self, PathTree, path
 use Rattle.dm_ast.specs.Declarations.{ParamTree, lifetime_param, type_param, const_param, Declaration}
 use Rattle.dm_ast.specs.Spelling.{Where, deeper, Marks, Spelling, deepest, first_too_deep, last_end, range_of, sees, sees_word, sees_lifetime, sees_colon, sees_equals, sees_colons, Nothing, ◌then◌, Before, punct, lifetime, colons, equals}
 use Rattle.dm_ast.specs.TypeGrammar as grammar
-use Rattle.dm_ast.specs.TypeGrammar.{name, is_path_word, sees_macro, sees_arguments, type_spelled, path_spelled, segments_left, arguments_of_segment, argument, arguments_left}
+use Rattle.dm_ast.specs.TypeGrammar.{name, is_path_word, sees_macro, sees_arguments, type_spelled, path_spelled, arguments_of_segment, argument, arguments_left}
 use Rattle.dm_ast.specs.TypeTokens as spell
 use Rattle.dm_ast.specs.Parsed.{SpelledBy}
 use Rattle.dm_ast.specs.Implementors.{segments, plain_path, name_type, params_of, arguments, implementor}

@@ -1,4 +1,4 @@
-//! Parts put together. What they are is open here, so nothing has to be known of how they are dropped.
+//! Parts put together, and let go. What they are is open here, so nothing has to be known of how they are dropped.
 #![tactic(auto)]
 
 ghost use Rattle.std.specs.Prelude.{◌≡◌, ◌∷◌, IfOk};
@@ -28,3 +28,6 @@ pub fn two_boxes<T: Drop>(
     let second = Box::new(alloc, second)?;
     Ok((first, second))
 }
+
+/// Drops a part.
+pub fn discard<T: Drop>(_part: T) {}

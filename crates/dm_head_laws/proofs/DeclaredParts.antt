@@ -17,7 +17,7 @@ use Rattle.dm_ast.specs.Tree.{Lifetimes, TypeTree, type_tree, path, PathTree, pa
 use Rattle.dm_ast.specs.Declarations.{Listed, FieldTree, FieldsTree, named, unnamed, unit, VariantTree, ShapeTree, struct_shape, enum_shape, union_shape, ParamTree, lifetime_param, type_param, const_param, PredicateTree, GenericsTree, Declaration}
 use Rattle.dm_ast.specs.Spelling.{Where, deeper, Marks, Spelling, deepest, first_too_deep, last_end, range_of, at_end, sees, sees_colon, sees_equals, sees_colons, Nothing, ◌then◌, Provided, Before, RangedAt, punct, lifetime, keyword, colon, GroupAt, perhaps, items_left, items}
 use Rattle.dm_ast.specs.TypeGrammar as grammar
-use Rattle.dm_ast.specs.TypeGrammar.{name, is_path_word, behind_idents, is_call, sees_macro, sees_arguments, between_angles, type_spelled}
+use Rattle.dm_ast.specs.TypeGrammar.{name, behind_idents, is_call, sees_arguments, type_spelled}
 use Rattle.dm_ast.specs.DeclarationGrammar.{lifetime_bounds, bound_list, param, generics, predicate, ends_where, where_clause, named_field, slot, braced, slots, variant_fields, variant, variants, struct_body, shape, declaration}
 use Rattle.dm_ast.specs.Runs.{run}
 use Rattle.dm_ast.specs.Parsed.{SpelledBy}

@@ -1,1 +1,2 @@
 pub mod BoxSteps
+pub mod MethodCalls

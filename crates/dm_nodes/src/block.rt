@@ -1,11 +1,11 @@
-//! Nodes of arms, statements and blocks. The tree is private in its node, so that what holds a node needs to know nothing of how
-//! trees are dropped; contracts see the tree.
+//! Nodes of arms, statements and blocks. A tree is private in its node, and a wide one in a box, so that what holds a node needs to know nothing of
+//! how trees are dropped and how large they are; contracts see the tree.
 #![tactic(auto)]
 
-ghost use Rattle.std.specs.Prelude.{◌≡◌};
+ghost use Rattle.std.specs.Prelude.{◌≡◌, IfOk};
 
-use crate::discard::discard;
-use dm_gather::Gathers;
+use dm_gather::{Gathers, discard};
+use dm_input::join::boxed;
 use dm_output::{Arm, ArmBody, Block, Stmt};
 use dm_stream::Seq;
 use std::alloc::{AllocError, Global};
@@ -13,7 +13,7 @@ use std::marker::Model;
 
 /// What stands behind `=>`.
 pub struct BodyNode<'a> {
-    pub(crate) tree: ArmBody<'a>,
+    tree: Box<ArmBody<'a>>,
 }
 
 impl<'a> Model for BodyNode<'a> {
@@ -24,7 +24,7 @@ impl<'a> Model for BodyNode<'a> {
 
     ghost coded = { body_code };
 
-    ghost view = { λ n. n.tree };
+    ghost view = { λ n. n.tree.value };
 }
 
 impl Drop for BodyNode<'_> {
@@ -35,18 +35,26 @@ impl Drop for BodyNode<'_> {
 }
 
 impl<'a> BodyNode<'a> {
+    /// The node of a tree.
+    pub(crate) fn new(alloc: Global, tree: ArmBody<'a>) -> Result<BodyNode<'a>, AllocError>
+        ensures { IfOk result (λ n. n ≡ tree.entry) }
+    {
+        let tree = boxed(alloc, tree)?;
+        Ok(BodyNode { tree })
+    }
+
     /// Its tree.
-    pub fn into_tree(self) -> ArmBody<'a>
+    pub(crate) fn into_tree(self) -> ArmBody<'a>
         ensures { result ≡ self.entry }
     {
         let Self { tree } = self;
-        tree
+        Box::into_inner(tree)
     }
 }
 
 /// An arm.
 pub struct ArmNode<'a> {
-    pub(crate) tree: Arm<'a>,
+    tree: Box<Arm<'a>>,
 }
 
 impl<'a> Model for ArmNode<'a> {
@@ -57,7 +65,7 @@ impl<'a> Model for ArmNode<'a> {
 
     ghost coded = { arm_code };
 
-    ghost view = { λ n. n.tree };
+    ghost view = { λ n. n.tree.value };
 }
 
 impl Drop for ArmNode<'_> {
@@ -68,12 +76,20 @@ impl Drop for ArmNode<'_> {
 }
 
 impl<'a> ArmNode<'a> {
+    /// The node of a tree.
+    pub(crate) fn new(alloc: Global, tree: Arm<'a>) -> Result<ArmNode<'a>, AllocError>
+        ensures { IfOk result (λ n. n ≡ tree.entry) }
+    {
+        let tree = boxed(alloc, tree)?;
+        Ok(ArmNode { tree })
+    }
+
     /// Its tree.
-    pub fn into_tree(self) -> Arm<'a>
+    fn into_tree(self) -> Arm<'a>
         ensures { result ≡ self.entry }
     {
         let Self { tree } = self;
-        tree
+        Box::into_inner(tree)
     }
 }
 
@@ -117,7 +133,7 @@ impl<'a> Gathers<ArmNode<'a>> for ArmNodes<'a> {
 
 impl<'a> ArmNodes<'a> {
     /// Their trees.
-    pub fn into_trees(self) -> Seq<Arm<'a>>
+    pub(crate) fn into_trees(self) -> Seq<Arm<'a>>
         ensures { result ≡ self.entry }
     {
         let Self { trees } = self;
@@ -127,7 +143,7 @@ impl<'a> ArmNodes<'a> {
 
 /// A statement.
 pub struct StmtNode<'a> {
-    pub(crate) tree: Stmt<'a>,
+    tree: Box<Stmt<'a>>,
 }
 
 impl<'a> Model for StmtNode<'a> {
@@ -138,7 +154,7 @@ impl<'a> Model for StmtNode<'a> {
 
     ghost coded = { stmt_code };
 
-    ghost view = { λ n. n.tree };
+    ghost view = { λ n. n.tree.value };
 }
 
 impl Drop for StmtNode<'_> {
@@ -149,12 +165,20 @@ impl Drop for StmtNode<'_> {
 }
 
 impl<'a> StmtNode<'a> {
+    /// The node of a tree.
+    pub(crate) fn new(alloc: Global, tree: Stmt<'a>) -> Result<StmtNode<'a>, AllocError>
+        ensures { IfOk result (λ n. n ≡ tree.entry) }
+    {
+        let tree = boxed(alloc, tree)?;
+        Ok(StmtNode { tree })
+    }
+
     /// Its tree.
-    pub fn into_tree(self) -> Stmt<'a>
+    fn into_tree(self) -> Stmt<'a>
         ensures { result ≡ self.entry }
     {
         let Self { tree } = self;
-        tree
+        Box::into_inner(tree)
     }
 }
 
@@ -198,7 +222,7 @@ impl<'a> Gathers<StmtNode<'a>> for StmtNodes<'a> {
 
 impl<'a> StmtNodes<'a> {
     /// Their trees.
-    pub fn into_trees(self) -> Seq<Stmt<'a>>
+    pub(crate) fn into_trees(self) -> Seq<Stmt<'a>>
         ensures { result ≡ self.entry }
     {
         let Self { trees } = self;
@@ -208,7 +232,7 @@ impl<'a> StmtNodes<'a> {
 
 /// A block.
 pub struct BlockNode<'a> {
-    pub(crate) tree: Block<'a>,
+    tree: Block<'a>,
 }
 
 impl<'a> Model for BlockNode<'a> {
@@ -230,6 +254,13 @@ impl Drop for BlockNode<'_> {
 }
 
 impl<'a> BlockNode<'a> {
+    /// The node of a tree.
+    pub(crate) fn new(tree: Block<'a>) -> BlockNode<'a>
+        ensures { result ≡ tree.entry }
+    {
+        BlockNode { tree }
+    }
+
     /// Its tree.
     pub fn into_tree(self) -> Block<'a>
         ensures { result ≡ self.entry }

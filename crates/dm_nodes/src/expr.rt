@@ -1,12 +1,11 @@
-//! Nodes of expressions, and of fields with their values. The tree is private in its node, so that what holds a node needs to know nothing of how
-//! trees are dropped; contracts see the tree.
+//! Nodes of expressions, and of fields with their values. A tree is private in its node and in a box, so that what holds a node needs to know
+//! nothing of how trees are dropped and how large they are; contracts see the tree.
 #![tactic(auto)]
 
 ghost use Rattle.std.specs.Prelude.{◌≡◌, ◌∷◌, ◌++◌, ◌<◌, ◌↔◌, [], length, IfOk, IsSome, IsTrue};
 ghost use Rattle.std.specs.Option.{option_to_list};
 
-use crate::discard::discard;
-use dm_gather::{Gathers, fronted};
+use dm_gather::{Gathers, discard, fronted};
 use dm_input::join::boxed;
 use dm_output::{Expr, NamedExpr};
 use dm_stream::Seq;
@@ -15,7 +14,7 @@ use std::marker::Model;
 
 /// An expression.
 pub struct ExprNode<'a> {
-    pub(crate) tree: Expr<'a>,
+    tree: Box<Expr<'a>>,
 }
 
 impl<'a> Model for ExprNode<'a> {
@@ -26,7 +25,7 @@ impl<'a> Model for ExprNode<'a> {
 
     ghost coded = { expr_code };
 
-    ghost view = { λ n. n.tree };
+    ghost view = { λ n. n.tree.value };
 }
 
 impl Drop for ExprNode<'_> {
@@ -38,28 +37,26 @@ impl Drop for ExprNode<'_> {
 
 impl<'a> ExprNode<'a> {
     /// The node of a tree.
-    pub fn new(tree: Expr<'a>) -> ExprNode<'a>
-        ensures { result ≡ tree.entry }
+    pub(crate) fn new(alloc: Global, tree: Expr<'a>) -> Result<ExprNode<'a>, AllocError>
+        ensures { IfOk result (λ n. n ≡ tree.entry) }
     {
-        ExprNode { tree }
+        let tree = boxed(alloc, tree)?;
+        Ok(ExprNode { tree })
     }
 
-    /// Its tree.
-    pub fn into_tree(self) -> Expr<'a>
-        ensures { result ≡ self.entry }
+    /// Its tree in its box.
+    pub(crate) fn into_box(self) -> Box<Expr<'a>>
+        ensures { result.value ≡ self.entry }
     {
         let Self { tree } = self;
         tree
     }
-}
 
-impl<'a> ExprNode<'a> {
-    /// Its tree in a box.
-    pub(crate) fn into_box(self, alloc: Global) -> Result<Box<Expr<'a>>, AllocError>
-        ensures { IfOk result (λ b. b.value ≡ self.entry) }
+    /// Its tree.
+    pub(crate) fn into_tree(self) -> Expr<'a>
+        ensures { result ≡ self.entry }
     {
-        let Self { tree } = self;
-        boxed(alloc, tree)
+        Box::into_inner(self.into_box())
     }
 }
 
@@ -102,16 +99,6 @@ impl<'a> Gathers<ExprNode<'a>> for ExprNodes<'a> {
 }
 
 impl<'a> ExprNodes<'a> {
-    /// Their trees.
-    pub fn into_trees(self) -> Seq<Expr<'a>>
-        ensures { result ≡ self.entry }
-    {
-        let Self { trees } = self;
-        trees
-    }
-}
-
-impl<'a> ExprNodes<'a> {
     /// An expression in front of others.
     pub fn fronted(
         alloc: Global,
@@ -138,21 +125,29 @@ impl<'a> ExprNodes<'a> {
         self.trees.is_empty()
     }
 
-    /// Takes the last one away, where there is one.
-    pub fn pop(&mut self) -> Option<ExprNode<'a>>
-        ensures taken { self.old ≡ self.new ++ option_to_list result }
-        ensures some { IsSome result ↔ (0 < length self.old) }
+    /// Takes the last one away, where there is one. Where memory is short it is gone.
+    pub fn pop(&mut self, alloc: Global) -> Result<Option<ExprNode<'a>>, AllocError>
+        ensures taken { IfOk result (λ o. self.old ≡ self.new ++ option_to_list o) }
+        ensures some { IfOk result (λ o. IsSome o ↔ (0 < length self.old)) }
     {
         match self.trees.pop() {
-            Some(tree) => Some(ExprNode { tree }),
-            None => None,
+            Some(tree) => Ok(Some(ExprNode::new(alloc, tree)?)),
+            None => Ok(None),
         }
+    }
+
+    /// Their trees.
+    pub(crate) fn into_trees(self) -> Seq<Expr<'a>>
+        ensures { result ≡ self.entry }
+    {
+        let Self { trees } = self;
+        trees
     }
 }
 
 /// A field with its value.
 pub struct FieldNode<'a> {
-    pub(crate) tree: NamedExpr<'a>,
+    tree: Box<NamedExpr<'a>>,
 }
 
 impl<'a> Model for FieldNode<'a> {
@@ -163,7 +158,7 @@ impl<'a> Model for FieldNode<'a> {
 
     ghost coded = { named_expr_code };
 
-    ghost view = { λ n. n.tree };
+    ghost view = { λ n. n.tree.value };
 }
 
 impl Drop for FieldNode<'_> {
@@ -174,12 +169,20 @@ impl Drop for FieldNode<'_> {
 }
 
 impl<'a> FieldNode<'a> {
+    /// The node of a tree.
+    pub(crate) fn new(alloc: Global, tree: NamedExpr<'a>) -> Result<FieldNode<'a>, AllocError>
+        ensures { IfOk result (λ n. n ≡ tree.entry) }
+    {
+        let tree = boxed(alloc, tree)?;
+        Ok(FieldNode { tree })
+    }
+
     /// Its tree.
-    pub fn into_tree(self) -> NamedExpr<'a>
+    fn into_tree(self) -> NamedExpr<'a>
         ensures { result ≡ self.entry }
     {
         let Self { tree } = self;
-        tree
+        Box::into_inner(tree)
     }
 }
 
@@ -223,7 +226,7 @@ impl<'a> Gathers<FieldNode<'a>> for FieldNodes<'a> {
 
 impl<'a> FieldNodes<'a> {
     /// Their trees.
-    pub fn into_trees(self) -> Seq<NamedExpr<'a>>
+    pub(crate) fn into_trees(self) -> Seq<NamedExpr<'a>>
         ensures { result ≡ self.entry }
     {
         let Self { trees } = self;

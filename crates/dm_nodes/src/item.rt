@@ -1,11 +1,11 @@
-//! Nodes of methods and implementations. The tree is private in its node, so that what holds a node needs to know nothing of how
-//! trees are dropped; contracts see the tree.
+//! Nodes of methods and implementations. A tree is private in its node and in a box, so that what holds a node needs to know nothing of how
+//! trees are dropped and how large they are; contracts see the tree.
 #![tactic(auto)]
 
-ghost use Rattle.std.specs.Prelude.{◌≡◌};
+ghost use Rattle.std.specs.Prelude.{◌≡◌, IfOk};
 
-use crate::discard::discard;
-use dm_gather::Gathers;
+use dm_gather::{Gathers, discard};
+use dm_input::join::boxed;
 use dm_output::{Item, Method};
 use dm_stream::Seq;
 use std::alloc::{AllocError, Global};
@@ -13,7 +13,7 @@ use std::marker::Model;
 
 /// A method.
 pub struct MethodNode<'a> {
-    pub(crate) tree: Method<'a>,
+    tree: Box<Method<'a>>,
 }
 
 impl<'a> Model for MethodNode<'a> {
@@ -24,7 +24,7 @@ impl<'a> Model for MethodNode<'a> {
 
     ghost coded = { method_code };
 
-    ghost view = { λ n. n.tree };
+    ghost view = { λ n. n.tree.value };
 }
 
 impl Drop for MethodNode<'_> {
@@ -36,18 +36,19 @@ impl Drop for MethodNode<'_> {
 
 impl<'a> MethodNode<'a> {
     /// The node of a tree.
-    pub fn new(tree: Method<'a>) -> MethodNode<'a>
-        ensures { result ≡ tree.entry }
+    pub fn new(alloc: Global, tree: Method<'a>) -> Result<MethodNode<'a>, AllocError>
+        ensures { IfOk result (λ n. n ≡ tree.entry) }
     {
-        MethodNode { tree }
+        let tree = boxed(alloc, tree)?;
+        Ok(MethodNode { tree })
     }
 
     /// Its tree.
-    pub fn into_tree(self) -> Method<'a>
+    fn into_tree(self) -> Method<'a>
         ensures { result ≡ self.entry }
     {
         let Self { tree } = self;
-        tree
+        Box::into_inner(tree)
     }
 }
 
@@ -101,7 +102,7 @@ impl<'a> MethodNodes<'a> {
 
 /// An implementation.
 pub struct ItemNode<'a> {
-    pub(crate) tree: Item<'a>,
+    tree: Box<Item<'a>>,
 }
 
 impl<'a> Model for ItemNode<'a> {
@@ -112,7 +113,7 @@ impl<'a> Model for ItemNode<'a> {
 
     ghost coded = { item_code };
 
-    ghost view = { λ n. n.tree };
+    ghost view = { λ n. n.tree.value };
 }
 
 impl Drop for ItemNode<'_> {
@@ -124,18 +125,19 @@ impl Drop for ItemNode<'_> {
 
 impl<'a> ItemNode<'a> {
     /// The node of a tree.
-    pub fn new(tree: Item<'a>) -> ItemNode<'a>
-        ensures { result ≡ tree.entry }
+    pub fn new(alloc: Global, tree: Item<'a>) -> Result<ItemNode<'a>, AllocError>
+        ensures { IfOk result (λ n. n ≡ tree.entry) }
     {
-        ItemNode { tree }
+        let tree = boxed(alloc, tree)?;
+        Ok(ItemNode { tree })
     }
 
     /// Its tree.
-    pub fn into_tree(self) -> Item<'a>
+    fn into_tree(self) -> Item<'a>
         ensures { result ≡ self.entry }
     {
         let Self { tree } = self;
-        tree
+        Box::into_inner(tree)
     }
 }
 

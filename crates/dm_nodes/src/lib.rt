@@ -3,7 +3,6 @@
 #![tactic(auto)]
 
 pub mod block;
-pub mod discard;
 pub mod expr;
 pub mod item;
 pub mod make_block;

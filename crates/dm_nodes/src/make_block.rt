@@ -15,15 +15,15 @@ use dm_stream::{Ident, Literal, Seq};
 use std::alloc::{AllocError, Global};
 
 /// `x: a`
-pub fn named_expr<'a>(name: Ident<'a>, value: ExprNode<'a>) -> FieldNode<'a>
-    ensures { named_expr_view result ≡ (name.entry, expr_view value.entry) }
+pub fn named_expr<'a>(
+    alloc: Global,
+    name: Ident<'a>,
+    value: ExprNode<'a>,
+) -> Result<FieldNode<'a>, AllocError>
+    ensures { IfOk result (λ f. named_expr_view f ≡ (name.entry, expr_view value.entry)) }
 {
-    FieldNode {
-        tree: NamedExpr {
-            name,
-            value: value.into_tree(),
-        },
-    }
+    let value = value.into_tree();
+    Ok(FieldNode::new(alloc, NamedExpr { name, value })?)
 }
 
 /// The tree of an expression that may be there.
@@ -38,115 +38,99 @@ fn maybe_tree<'a>(node: Option<ExprNode<'a>>) -> Option<Expr<'a>>
 
 /// An arm.
 pub fn arm_of<'a>(
+    alloc: Global,
     patterns: Seq<Pattern<'a>>,
     behind: (Option<ExprNode<'a>>, BodyNode<'a>),
-) -> ArmNode<'a>
-    ensures { arm_view result ≡ record { patterns = tree.patterns_of (map pattern_view patterns.entry); guard = tree.maybe_expr (option_map expr_view behind.entry.0); body = body_view behind.entry.1 } }
+) -> Result<ArmNode<'a>, AllocError>
+    ensures { IfOk result (λ a. arm_view a ≡ record { patterns = tree.patterns_of (map pattern_view patterns.entry); guard = tree.maybe_expr (option_map expr_view behind.entry.0); body = body_view behind.entry.1 }) }
 {
     let (guard, body) = behind;
-    ArmNode {
-        tree: Arm {
-            patterns,
-            guard: maybe_tree(guard),
-            body: body.into_tree(),
-        },
-    }
+    let guard = maybe_tree(guard);
+    let body = body.into_tree();
+    let tree = Arm {
+        patterns,
+        guard,
+        body,
+    };
+    Ok(ArmNode::new(alloc, tree)?)
 }
 
 /// A block behind `=>`.
-pub fn block_body<'a>(block: BlockNode<'a>) -> BodyNode<'a>
-    ensures { body_view result ≡ tree.block_body (block_view block.entry) }
+pub fn block_body<'a>(alloc: Global, block: BlockNode<'a>) -> Result<BodyNode<'a>, AllocError>
+    ensures { IfOk result (λ b. body_view b ≡ tree.block_body (block_view block.entry)) }
 {
-    BodyNode {
-        tree: ArmBody::Block(block.into_tree()),
-    }
+    Ok(BodyNode::new(alloc, ArmBody::Block(block.into_tree()))?)
 }
 
 /// An expression behind `=>`.
-pub fn expr_body<'a>(value: ExprNode<'a>) -> BodyNode<'a>
-    ensures { body_view result ≡ tree.expr_body (expr_view value.entry) }
+pub fn expr_body<'a>(alloc: Global, value: ExprNode<'a>) -> Result<BodyNode<'a>, AllocError>
+    ensures { IfOk result (λ b. body_view b ≡ tree.expr_body (expr_view value.entry)) }
 {
-    BodyNode {
-        tree: ArmBody::Expr(value.into_tree()),
-    }
+    Ok(BodyNode::new(alloc, ArmBody::Expr(value.into_tree()))?)
 }
 
 /// The last expression of a block in its box.
-fn boxed_last<'a>(
-    alloc: Global,
-    last: Option<ExprNode<'a>>,
-) -> Result<Option<Box<Expr<'a>>>, AllocError>
-    ensures { IfOk result (IsBoxed last.entry) }
+fn boxed_last<'a>(last: Option<ExprNode<'a>>) -> Option<Box<Expr<'a>>>
+    ensures { IsBoxed last.entry result }
 {
     match last {
-        Some(node) => Ok(Some(node.into_box(alloc)?)),
-        None => Ok(None),
+        Some(node) => Some(node.into_box()),
+        None => None,
     }
 }
 
 /// A block.
 #[tactic(auto, using(crate::proofs::BoxSteps::box_steps))]
-pub fn block_of<'a>(
-    alloc: Global,
-    stmts: StmtNodes<'a>,
-    last: Option<ExprNode<'a>>,
-) -> Result<BlockNode<'a>, AllocError>
-    ensures { IfOk result (λ b. block_view b ≡ tree.block (tree.stmts_of (map stmt_view stmts.entry)) (last_view last.entry)) }
+pub fn block_of<'a>(stmts: StmtNodes<'a>, last: Option<ExprNode<'a>>) -> BlockNode<'a>
+    ensures { block_view result ≡ tree.block (tree.stmts_of (map stmt_view stmts.entry)) (last_view last.entry) }
 {
-    let last = boxed_last(alloc, last)?;
-    Ok(BlockNode {
-        tree: Block {
-            stmts: stmts.into_trees(),
-            last,
-        },
+    let last = boxed_last(last);
+    BlockNode::new(Block {
+        stmts: stmts.into_trees(),
+        last,
     })
 }
 
 /// `let x = a;`
-pub fn let_of<'a>(name: Ident<'a>, value: ExprNode<'a>) -> StmtNode<'a>
-    ensures { stmt_view result ≡ tree.let_stmt name.entry (expr_view value.entry) }
+pub fn let_of<'a>(
+    alloc: Global,
+    name: Ident<'a>,
+    value: ExprNode<'a>,
+) -> Result<StmtNode<'a>, AllocError>
+    ensures { IfOk result (λ s. stmt_view s ≡ tree.let_stmt name.entry (expr_view value.entry)) }
 {
-    StmtNode {
-        tree: Stmt::Let(name, value.into_tree()),
-    }
+    Ok(StmtNode::new(alloc, Stmt::Let(name, value.into_tree()))?)
 }
 
 /// `let _: T;`
-pub fn check_of<'a>(ty: Ty<'a>) -> StmtNode<'a>
-    ensures { stmt_view result ≡ tree.check_stmt (ty_view ty.entry) }
+pub fn check_of<'a>(alloc: Global, ty: Ty<'a>) -> Result<StmtNode<'a>, AllocError>
+    ensures { IfOk result (λ s. stmt_view s ≡ tree.check_stmt (ty_view ty.entry)) }
 {
-    StmtNode {
-        tree: Stmt::Check(ty),
-    }
+    Ok(StmtNode::new(alloc, Stmt::Check(ty))?)
 }
 
 /// `use p as _;`
-pub fn import_of<'a>(path: Path<'a>) -> StmtNode<'a>
-    ensures { stmt_view result ≡ tree.import_stmt (path_view path.entry) }
+pub fn import_of<'a>(alloc: Global, path: Path<'a>) -> Result<StmtNode<'a>, AllocError>
+    ensures { IfOk result (λ s. stmt_view s ≡ tree.import_stmt (path_view path.entry)) }
 {
-    StmtNode {
-        tree: Stmt::Import(path),
-    }
+    Ok(StmtNode::new(alloc, Stmt::Import(path))?)
 }
 
 /// `a;`
-pub fn do_of<'a>(value: ExprNode<'a>) -> StmtNode<'a>
-    ensures { stmt_view result ≡ tree.do_stmt (expr_view value.entry) }
+pub fn do_of<'a>(alloc: Global, value: ExprNode<'a>) -> Result<StmtNode<'a>, AllocError>
+    ensures { IfOk result (λ s. stmt_view s ≡ tree.do_stmt (expr_view value.entry)) }
 {
-    StmtNode {
-        tree: Stmt::Expr(value.into_tree()),
-    }
+    Ok(StmtNode::new(alloc, Stmt::Expr(value.into_tree()))?)
 }
 
 /// `const X: T = (tokens) + n;`
 pub fn const_of<'a>(
+    alloc: Global,
     name: Ident<'a>,
     behind: (Ty<'a>, (Option<Opaque<'a>>, Literal<'a>)),
-) -> StmtNode<'a>
-    ensures { stmt_view result ≡ tree.const_stmt name.entry (ty_view behind.entry.0) (option_map opaque_view behind.entry.1.0) behind.entry.1.1 }
+) -> Result<StmtNode<'a>, AllocError>
+    ensures { IfOk result (λ s. stmt_view s ≡ tree.const_stmt name.entry (ty_view behind.entry.0) (option_map opaque_view behind.entry.1.0) behind.entry.1.1) }
 {
     let (ty, (base, number)) = behind;
-    StmtNode {
-        tree: Stmt::Const(name, ty, base, number),
-    }
+    Ok(StmtNode::new(alloc, Stmt::Const(name, ty, base, number))?)
 }

@@ -17,18 +17,14 @@ use std::alloc::{AllocError, Global};
 pub fn return_of<'a>(alloc: Global, value: ExprNode<'a>) -> Result<ExprNode<'a>, AllocError>
     ensures { IfOk result (λ e. expr_view e ≡ tree.return_expr (expr_view value.entry)) }
 {
-    Ok(ExprNode {
-        tree: Expr::Return(value.into_box(alloc)?),
-    })
+    Ok(ExprNode::new(alloc, Expr::Return(value.into_box()))?)
 }
 
 /// `*a`
 pub fn deref_of<'a>(alloc: Global, value: ExprNode<'a>) -> Result<ExprNode<'a>, AllocError>
     ensures { IfOk result (λ e. expr_view e ≡ tree.deref (expr_view value.entry)) }
 {
-    Ok(ExprNode {
-        tree: Expr::Deref(value.into_box(alloc)?),
-    })
+    Ok(ExprNode::new(alloc, Expr::Deref(value.into_box()))?)
 }
 
 /// `&a` or `&mut a`
@@ -39,18 +35,14 @@ pub fn ref_of<'a>(
 ) -> Result<ExprNode<'a>, AllocError>
     ensures { IfOk result (λ e. expr_view e ≡ tree.ref_expr is_mut (expr_view value.entry)) }
 {
-    Ok(ExprNode {
-        tree: Expr::Ref(is_mut, value.into_box(alloc)?),
-    })
+    Ok(ExprNode::new(alloc, Expr::Ref(is_mut, value.into_box()))?)
 }
 
 /// `&(tokens)`
-pub fn ref_opaque<'a>(tokens: Opaque<'a>) -> ExprNode<'a>
-    ensures { expr_view result ≡ tree.ref_opaque (opaque_view tokens.entry) }
+pub fn ref_opaque<'a>(alloc: Global, tokens: Opaque<'a>) -> Result<ExprNode<'a>, AllocError>
+    ensures { IfOk result (λ e. expr_view e ≡ tree.ref_opaque (opaque_view tokens.entry)) }
 {
-    ExprNode {
-        tree: Expr::RefOpaque(tokens),
-    }
+    Ok(ExprNode::new(alloc, Expr::RefOpaque(tokens))?)
 }
 
 /// `a == b`
@@ -61,11 +53,7 @@ pub fn equal_of<'a>(
 ) -> Result<ExprNode<'a>, AllocError>
     ensures { IfOk result (λ e. expr_view e ≡ tree.equal (expr_view left.entry) (expr_view right.entry)) }
 {
-    let left = left.into_box(alloc)?;
-    let right = right.into_box(alloc)?;
-    Ok(ExprNode {
-        tree: Expr::Equal(left, right),
-    })
+    Ok(ExprNode::new(alloc, Expr::Equal(left.into_box(), right.into_box()))?)
 }
 
 /// `a != b`
@@ -76,56 +64,42 @@ pub fn unequal_of<'a>(
 ) -> Result<ExprNode<'a>, AllocError>
     ensures { IfOk result (λ e. expr_view e ≡ tree.unequal (expr_view left.entry) (expr_view right.entry)) }
 {
-    let left = left.into_box(alloc)?;
-    let right = right.into_box(alloc)?;
-    Ok(ExprNode {
-        tree: Expr::Unequal(left, right),
-    })
+    Ok(ExprNode::new(alloc, Expr::Unequal(left.into_box(), right.into_box()))?)
 }
 
 /// `a && b`
-pub fn and_of<'a>(parts: ExprNodes<'a>) -> ExprNode<'a>
-    ensures { expr_view result ≡ tree.and_expr (tree.exprs_of (map expr_view parts.entry)) }
+pub fn and_of<'a>(alloc: Global, parts: ExprNodes<'a>) -> Result<ExprNode<'a>, AllocError>
+    ensures { IfOk result (λ e. expr_view e ≡ tree.and_expr (tree.exprs_of (map expr_view parts.entry))) }
 {
-    ExprNode {
-        tree: Expr::And(parts.into_trees()),
-    }
+    Ok(ExprNode::new(alloc, Expr::And(parts.into_trees()))?)
 }
 
 /// `a || b`
-pub fn or_of<'a>(parts: ExprNodes<'a>) -> ExprNode<'a>
-    ensures { expr_view result ≡ tree.or_expr (tree.exprs_of (map expr_view parts.entry)) }
+pub fn or_of<'a>(alloc: Global, parts: ExprNodes<'a>) -> Result<ExprNode<'a>, AllocError>
+    ensures { IfOk result (λ e. expr_view e ≡ tree.or_expr (tree.exprs_of (map expr_view parts.entry))) }
 {
-    ExprNode {
-        tree: Expr::Or(parts.into_trees()),
-    }
+    Ok(ExprNode::new(alloc, Expr::Or(parts.into_trees()))?)
 }
 
 /// `"text"`
-pub fn str_of<'a>(text: Literal<'a>) -> ExprNode<'a>
-    ensures { expr_view result ≡ tree.str_expr text.entry }
+pub fn str_of<'a>(alloc: Global, text: Literal<'a>) -> Result<ExprNode<'a>, AllocError>
+    ensures { IfOk result (λ e. expr_view e ≡ tree.str_expr text.entry) }
 {
-    ExprNode {
-        tree: Expr::Str(text),
-    }
+    Ok(ExprNode::new(alloc, Expr::Str(text))?)
 }
 
 /// `true` or `false`
-pub fn bool_of<'a>(value: bool) -> ExprNode<'a>
-    ensures { expr_view result ≡ tree.bool value }
+pub fn bool_of<'a>(alloc: Global, value: bool) -> Result<ExprNode<'a>, AllocError>
+    ensures { IfOk result (λ e. expr_view e ≡ tree.bool value) }
 {
-    ExprNode {
-        tree: Expr::Bool(value),
-    }
+    Ok(ExprNode::new(alloc, Expr::Bool(value))?)
 }
 
 /// `unsafe { a }`
 pub fn unsafe_of<'a>(alloc: Global, value: ExprNode<'a>) -> Result<ExprNode<'a>, AllocError>
     ensures { IfOk result (λ e. expr_view e ≡ tree.unsafe_expr (expr_view value.entry)) }
 {
-    Ok(ExprNode {
-        tree: Expr::Unsafe(value.into_box(alloc)?),
-    })
+    Ok(ExprNode::new(alloc, Expr::Unsafe(value.into_box()))?)
 }
 
 /// `match a { arms }`
@@ -136,10 +110,7 @@ pub fn match_of<'a>(
 ) -> Result<ExprNode<'a>, AllocError>
     ensures { IfOk result (λ e. expr_view e ≡ tree.match_expr (expr_view value.entry) (tree.arms_of (map arm_view arms.entry))) }
 {
-    let value = value.into_box(alloc)?;
-    Ok(ExprNode {
-        tree: Expr::Match(value, arms.into_trees()),
-    })
+    Ok(ExprNode::new(alloc, Expr::Match(value.into_box(), arms.into_trees()))?)
 }
 
 /// `(tokens)(a)`
@@ -150,64 +121,61 @@ pub fn opaque_call<'a>(
 ) -> Result<ExprNode<'a>, AllocError>
     ensures { IfOk result (λ e. expr_view e ≡ tree.opaque_call (opaque_view tokens.entry) (expr_view value.entry)) }
 {
-    let value = value.into_box(alloc)?;
-    Ok(ExprNode {
-        tree: Expr::OpaqueCall(tokens, value),
-    })
+    Ok(ExprNode::new(alloc, Expr::OpaqueCall(tokens, value.into_box()))?)
 }
 
 /// `(a)`
 pub fn paren_of<'a>(alloc: Global, value: ExprNode<'a>) -> Result<ExprNode<'a>, AllocError>
     ensures { IfOk result (λ e. expr_view e ≡ tree.paren (expr_view value.entry)) }
 {
-    Ok(ExprNode {
-        tree: Expr::Paren(value.into_box(alloc)?),
-    })
+    Ok(ExprNode::new(alloc, Expr::Paren(value.into_box()))?)
 }
 
 /// `(a, b)`
-pub fn tuple_of<'a>(parts: ExprNodes<'a>) -> ExprNode<'a>
-    ensures { expr_view result ≡ tree.tuple (tree.exprs_of (map expr_view parts.entry)) }
+pub fn tuple_of<'a>(alloc: Global, parts: ExprNodes<'a>) -> Result<ExprNode<'a>, AllocError>
+    ensures { IfOk result (λ e. expr_view e ≡ tree.tuple (tree.exprs_of (map expr_view parts.entry))) }
 {
-    ExprNode {
-        tree: Expr::Tuple(parts.into_trees()),
-    }
+    Ok(ExprNode::new(alloc, Expr::Tuple(parts.into_trees()))?)
 }
 
 /// A path as an expression.
-pub fn path_expr<'a>(path: PathExpr<'a>) -> ExprNode<'a>
-    ensures { expr_view result ≡ tree.path_expr (maybe_self_view path.entry.qself) (path_view path.entry.path) }
+pub fn path_expr<'a>(alloc: Global, path: PathExpr<'a>) -> Result<ExprNode<'a>, AllocError>
+    ensures { IfOk result (λ e. expr_view e ≡ tree.path_expr (maybe_self_view path.entry.qself) (path_view path.entry.path)) }
 {
-    ExprNode {
-        tree: Expr::Path(path),
-    }
+    Ok(ExprNode::new(alloc, Expr::Path(path))?)
 }
 
 /// `f(a, b)`
-pub fn call_of<'a>(path: PathExpr<'a>, args: ExprNodes<'a>) -> ExprNode<'a>
-    ensures { expr_view result ≡ tree.call (maybe_self_view path.entry.qself) (path_view path.entry.path) (tree.exprs_of (map expr_view args.entry)) }
+pub fn call_of<'a>(
+    alloc: Global,
+    path: PathExpr<'a>,
+    args: ExprNodes<'a>,
+) -> Result<ExprNode<'a>, AllocError>
+    ensures { IfOk result (λ e. expr_view e ≡ tree.call (maybe_self_view path.entry.qself) (path_view path.entry.path) (tree.exprs_of (map expr_view args.entry))) }
 {
-    ExprNode {
-        tree: Expr::Call(path, args.into_trees()),
-    }
+    Ok(ExprNode::new(alloc, Expr::Call(path, args.into_trees()))?)
 }
 
 /// `f(a, b,)`
-pub fn build_of<'a>(path: PathExpr<'a>, args: ExprNodes<'a>) -> ExprNode<'a>
-    ensures { expr_view result ≡ tree.build (maybe_self_view path.entry.qself) (path_view path.entry.path) (tree.exprs_of (map expr_view args.entry)) }
+pub fn build_of<'a>(
+    alloc: Global,
+    path: PathExpr<'a>,
+    args: ExprNodes<'a>,
+) -> Result<ExprNode<'a>, AllocError>
+    ensures { IfOk result (λ e. expr_view e ≡ tree.build (maybe_self_view path.entry.qself) (path_view path.entry.path) (tree.exprs_of (map expr_view args.entry))) }
 {
-    ExprNode {
-        tree: Expr::Build(path, args.into_trees()),
-    }
+    Ok(ExprNode::new(alloc, Expr::Build(path, args.into_trees()))?)
 }
 
 /// `f { x: a, }`
-pub fn built<'a>(path: PathExpr<'a>, fields: FieldNodes<'a>) -> ExprNode<'a>
-    ensures { expr_view result ≡ tree.build_named (maybe_self_view path.entry.qself) (path_view path.entry.path) (tree.named_exprs_of (map named_expr_view fields.entry)) }
+pub fn built<'a>(
+    alloc: Global,
+    path: PathExpr<'a>,
+    fields: FieldNodes<'a>,
+) -> Result<ExprNode<'a>, AllocError>
+    ensures { IfOk result (λ e. expr_view e ≡ tree.build_named (maybe_self_view path.entry.qself) (path_view path.entry.path) (tree.named_exprs_of (map named_expr_view fields.entry))) }
 {
-    ExprNode {
-        tree: Expr::BuildNamed(path, fields.into_trees()),
-    }
+    Ok(ExprNode::new(alloc, Expr::BuildNamed(path, fields.into_trees()))?)
 }
 
 /// `a.x`
@@ -218,10 +186,7 @@ pub fn member_of<'a>(
 ) -> Result<ExprNode<'a>, AllocError>
     ensures { IfOk result (λ e. expr_view e ≡ tree.member (expr_view receiver.entry) member.entry) }
 {
-    let receiver = receiver.into_box(alloc)?;
-    Ok(ExprNode {
-        tree: Expr::Member(receiver, member),
-    })
+    Ok(ExprNode::new(alloc, Expr::Member(receiver.into_box(), member))?)
 }
 
 /// `a.f(b, c)`
@@ -233,10 +198,10 @@ pub fn method_call_of<'a>(
 ) -> Result<ExprNode<'a>, AllocError>
     ensures { IfOk result (λ e. expr_view e ≡ tree.method_call (expr_view receiver.entry) name.entry (tree.exprs_of (map expr_view args.entry))) }
 {
-    let receiver = receiver.into_box(alloc)?;
-    Ok(ExprNode {
-        tree: Expr::MethodCall(receiver, name, args.into_trees()),
-    })
+    ExprNode::new(
+        alloc,
+        Expr::MethodCall(receiver.into_box(), name, args.into_trees()),
+    )
 }
 
 /// `a.map(|v| b)`
@@ -247,11 +212,7 @@ pub fn map_of<'a>(
 ) -> Result<ExprNode<'a>, AllocError>
     ensures { IfOk result (λ e. expr_view e ≡ tree.map_expr (expr_view receiver.entry) (expr_view value.entry)) }
 {
-    let receiver = receiver.into_box(alloc)?;
-    let value = value.into_box(alloc)?;
-    Ok(ExprNode {
-        tree: Expr::Map(receiver, value),
-    })
+    Ok(ExprNode::new(alloc, Expr::Map(receiver.into_box(), value.into_box()))?)
 }
 
 /// `a.map_err(tokens)`
@@ -262,35 +223,30 @@ pub fn map_err_of<'a>(
 ) -> Result<ExprNode<'a>, AllocError>
     ensures { IfOk result (λ e. expr_view e ≡ tree.map_err (expr_view receiver.entry) (opaque_view tokens.entry)) }
 {
-    let receiver = receiver.into_box(alloc)?;
-    Ok(ExprNode {
-        tree: Expr::MapErr(receiver, tokens),
-    })
+    Ok(ExprNode::new(alloc, Expr::MapErr(receiver.into_box(), tokens))?)
 }
 
 /// `a?`
 pub fn question_of<'a>(alloc: Global, receiver: ExprNode<'a>) -> Result<ExprNode<'a>, AllocError>
     ensures { IfOk result (λ e. expr_view e ≡ tree.question (expr_view receiver.entry)) }
 {
-    Ok(ExprNode {
-        tree: Expr::Question(receiver.into_box(alloc)?),
-    })
+    Ok(ExprNode::new(alloc, Expr::Question(receiver.into_box()))?)
 }
 
 /// `derive_more::core::write!(f, format)`
-pub fn write_of<'a>(name: Ident<'a>, format: FmtArgs<'a>) -> ExprNode<'a>
-    ensures { expr_view result ≡ tree.write_expr name.entry (fmt_view format.entry) }
+pub fn write_of<'a>(
+    alloc: Global,
+    name: Ident<'a>,
+    format: FmtArgs<'a>,
+) -> Result<ExprNode<'a>, AllocError>
+    ensures { IfOk result (λ e. expr_view e ≡ tree.write_expr name.entry (fmt_view format.entry)) }
 {
-    ExprNode {
-        tree: Expr::Write(name, format),
-    }
+    Ok(ExprNode::new(alloc, Expr::Write(name, format))?)
 }
 
 /// `derive_more::core::format_args!(format)`
-pub fn format_args_of<'a>(format: FmtArgs<'a>) -> ExprNode<'a>
-    ensures { expr_view result ≡ tree.format_args (fmt_view format.entry) }
+pub fn format_args_of<'a>(alloc: Global, format: FmtArgs<'a>) -> Result<ExprNode<'a>, AllocError>
+    ensures { IfOk result (λ e. expr_view e ≡ tree.format_args (fmt_view format.entry)) }
 {
-    ExprNode {
-        tree: Expr::FormatArgs(format),
-    }
+    Ok(ExprNode::new(alloc, Expr::FormatArgs(format))?)
 }

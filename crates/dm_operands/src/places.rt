@@ -11,7 +11,7 @@ ghost use Rattle.dm_attr.specs.Skips.{is_skipped};
 ghost use Rattle.dm_attr.specs.SkipRefusals.{place_refusal};
 ghost use Rattle.dm_operands.specs.Marked as marked;
 ghost use Rattle.dm_operands.specs.Places as spec;
-ghost use Rattle.dm_operands.specs.CaseViews.{case_view, field_ref_view};
+ghost use Rattle.dm_operands.specs.CaseViews.{field_ref_view};
 
 use crate::cases::{CaseRef, FieldRef, Form};
 use dm_ast::{Attribute, Data, DeriveInput, Field, Fields, Variant};

@@ -1,10 +1,9 @@
 //! The arms for one operand.
 #![tactic(auto, using(crate::proofs::Values::value_steps))]
 
-ghost use Rattle.std.specs.Prelude.{◌≡◌, [], ◌∷◌, map, OnOk};
+ghost use Rattle.std.specs.Prelude.{◌≡◌, map, OnOk};
 ghost use Rattle.dm_stream.specs.Layout.{nowhere};
 ghost use Rattle.dm_ast.specs.Declarations.{declaration_view};
-ghost use Rattle.dm_ast.specs.Implementors.{plain_path};
 ghost use Rattle.dm_ast.specs.TypeTokens as syntax;
 ghost use Rattle.dm_output.specs.Output.{arms_of};
 ghost use Rattle.dm_output.specs.Tokens as tokens;

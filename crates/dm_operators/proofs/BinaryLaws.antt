@@ -19,7 +19,7 @@ use Rattle.dm_operands.proofs.ArmLaws.{two_values, both_sides, both-known}
 use Rattle.dm_operators.specs.Operators.{Form, structural, scalar, Operator, IsOperator}
 use Rattle.dm_operators.specs.Attributes.{skips, cases_for}
 use Rattle.dm_operators.specs.Meaning as means
-use Rattle.dm_operators.specs.Meaning.{combined, with_fields, is_unit, ok_if, of_two, of_any, IsTerm}
+use Rattle.dm_operators.specs.Meaning.{combined, with_fields, is_unit, ok_if, IsTerm}
 use Rattle.dm_operators.specs.Bodies as bodies
 use Rattle.dm_operators.specs.Bodies.{quoted, in_ok, right_name, binary_part, arm, binary_given, value_given, answer_given, is_unit_form, binary_body}
 use Rattle.dm_operators.proofs.TableLaws.{means-method, known-value}

@@ -28,7 +28,7 @@ use Rattle.dm_operators.specs.Attributes.{skipped_by, skips, cases_for}
 use Rattle.dm_operators.specs.Meaning as means
 use Rattle.dm_operators.specs.Meaning.{operation, with_fields, is_unit, is_unit_in, case_of, some_unit, has_unit, of_one}
 use Rattle.dm_operators.specs.Bodies as bodies
-use Rattle.dm_operators.specs.Bodies.{arm, inner_name, inner_part, variant_path, is_unit_form, some_unit_form, unary_given, unary_arm, member_of, own_part, own_value, unary_enum, unary_struct, body_expr, in_ok}
+use Rattle.dm_operators.specs.Bodies.{arm, inner_name, inner_part, variant_path, some_unit_form, unary_given, unary_arm, member_of, own_part, own_value, unary_enum, unary_struct, in_ok}
 use Rattle.dm_operators.specs.Implementations.{method_in}
 use Rattle.dm_operators.specs.Laws.{AreFew}
 use Rattle.dm_operators.proofs.TableLaws.{means-method, known-value, unary-value}

@@ -1,7 +1,7 @@
 //! The traits that an implementation names, and its predicates.
 #![tactic(auto, using(crate::proofs::TraitSteps::trait_steps))]
 
-ghost use Rattle.std.specs.Prelude.{◌≡◌, [], ◌∷◌, ◌++◌, map, false, None, codes, IfOk, IsOkAnd, OnOk};
+ghost use Rattle.std.specs.Prelude.{◌≡◌, ◌++◌, map, false, None, codes, IfOk, IsOkAnd, OnOk};
 ghost use Rattle.dm_ast.specs.Tree as tree;
 ghost use Rattle.dm_ast.specs.Tree.{ty_view, path_view, argument_view, arguments_view};
 ghost use Rattle.dm_ast.specs.Declarations as tree_of;

@@ -1,4 +1,4 @@
-ghost use Rattle.std.specs.Prelude.{◌≡◌, ◌≤◌, ◌<◌, ℕ, List, length, IfOk, OnOk, OnErr, IsErrOf};
+ghost use Rattle.std.specs.Prelude.{◌≤◌, ◌<◌, ℕ, List, length, IfOk, OnOk, OnErr, IsErrOf};
 ghost use Rattle.std.specs.Io.KnownBytes.{Appends};
 ghost use Rattle.dm_outside.specs.Causes.{Rose};
 ghost use Rattle.dm_outside.specs.Transfers.{WasRead, IsTooMuch, AppendsPrefix, ReadTurns, OffersToEnd, OffersPrefix};

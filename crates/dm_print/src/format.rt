@@ -1,12 +1,12 @@
 //! Formats, and the calls of macros that take them.
 #![tactic(auto, using(dm_print_types::proofs::Laying::print_steps))]
 
-ghost use Rattle.std.specs.Prelude.{◌≡◌, map, codes, OnOk, false};
+ghost use Rattle.std.specs.Prelude.{◌≡◌, map, OnOk, false};
 ghost use Rattle.dm_ast.specs.TypeTokens as syntax;
 ghost use Rattle.dm_output.specs.Output as output;
 ghost use Rattle.dm_output.specs.Tokens as spec;
 ghost use Rattle.dm_output.specs.Views.{fmt_view, fmt_arg_view};
-ghost use Rattle.dm_print_types.specs.Laying.{lay, fix};
+ghost use Rattle.dm_print_types.specs.Laying.{lay};
 
 use dm_layout::Layout;
 use dm_output::{FmtArg, FmtArgs};

@@ -7,6 +7,7 @@ ghost use Rattle.dm_printed.specs.Derived.{Reads};
 ghost use Rattle.dm_printed.specs.Texts.{IsOfText};
 
 use dm_ast::DeriveInput;
+use dm_gather::discard;
 use dm_lexer::lex;
 use dm_names::check_names_in;
 use dm_read_decl::parse_decl;
@@ -37,9 +38,6 @@ impl Drop for Declaration<'_> {
         discard(tree);
     }
 }
-
-/// Drops a value. What it is is open here, so nothing has to be known of how it is dropped.
-fn discard<T: Drop>(_value: T) {}
 
 impl<'a> Declaration<'a> {
     /// Its tree.

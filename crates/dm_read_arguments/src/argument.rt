@@ -162,7 +162,7 @@ impl<F: Copy + for<'t, 'b> Fn(&mut Place<'t, 'b>, Wanted) -> Result<ExprNode<'b>
     {
         let name = place.declared()?;
         let (name, value) = joined(name, self.value(place))?;
-        Ok(named_expr(name, value))
+        Ok(named_expr(place.alloc(), name, value)?)
     }
 
     /// Fields with values, to the end.

@@ -1,10 +1,14 @@
 -- The rows of blocks.
-use Rattle.std.proofs.Common.{◌≡◌, ℕ, Bool, true, false, Option, Some, None, refl}
+use Rattle.std.proofs.Common.{◌≡◌, ◌∙◌, ℕ, Bool, true, false, Option, Some, None, Result, Ok, Err, refl, subst}
 use Rattle.std.proofs.lemmas.Grind.{common_steps}
+use Rattle.dm_stream.specs.declared.error.Error.{Error}
+use Rattle.dm_stream.specs.declared.error.Error.TheVariants as error
 use Rattle.dm_stream.specs.declared.tokens.Ident.{Ident}
 use Rattle.dm_stream.specs.Trees.{Trees, no_trees, token, group}
 use Rattle.dm_ast.specs.Keywords.{is_name}
 use Rattle.dm_ast.specs.Spelling.{at_end}
+use Rattle.dm_output.specs.declared.expr.Stmt.{Stmt}
+use Rattle.dm_output.specs.Views.{stmt_view}
 use Rattle.dm_output.specs.Output.{ExprTree, MaybeExpr, no_expr, some_expr, StmtTree, let_stmt, do_stmt}
 use Rattle.dm_reread.specs.Next.{k_let, k_use, k_const, k_wild, Next, ended, a_name, a_word, next}
 use Rattle.dm_reread.specs.Leaves.{Answer}
@@ -13,6 +17,7 @@ use Rattle.dm_read_places.specs.declared.front.Keyword.TheVariants as keyword
 use Rattle.dm_read_places.specs.declared.list.Turn.{Turn}
 use Rattle.dm_read_places.specs.declared.list.Turn.TheVariants.{One, End}
 use Rattle.dm_read_places.specs.Fronts.{is_keyword}
+use Rattle.dm_read_places.specs.Reads.{Reads}
 use Rattle.dm_read_places.specs.Turns.{rows, declared_at}
 use Rattle.dm_read_blocks.specs.Turns.{let_value, let_of, stmt_turn, value_end, value_turn, block_turn_at}
 use Rattle.dm_read_statements.specs.Statements.{ended_stmt}
@@ -72,6 +77,17 @@ name_in n _ e = refl
 
 pub name_bound : (n : ℕ) (ts : Trees) → is_keyword keyword.Wild (next ts) ≡ false → let_of n (next ts) ≡ named_let n ts
 name_bound n ts e = name_in n (next ts) e
+
+let_here : (n : ℕ) (ts new : Trees) (r : Result Stmt Error) → is_keyword keyword.Wild (next ts) ≡ false → Reads stmt_view (named_let n) ts r new →
+    Reads stmt_view (λ us. let_of n (next us)) ts r new
+let_here n ts new (Ok s) e h = name_bound n ts e ∙ h
+let_here n ts new (Err (error.Refused x)) e h = name_bound n ts e ∙ h
+let_here n ts new (Err error.NoMemory) e h = tt
+
+-- what stands behind `let`, where no `_` does
+pub let_reads : (n : ℕ) (old mid new : Trees) (r : Result Stmt Error) → is_keyword keyword.Wild (next old) ≡ false → mid ≡ old →
+    Reads stmt_view (named_let n) mid r new → Reads stmt_view (λ ts. let_of n (next ts)) old r new
+let_reads n old mid new r e m h = let_here n old new r e (subst (λ z. Reads stmt_view (named_let n) z r new) m h)
 
 pub value_last : (a : ExprTree) (ts : Trees) → at_end ts ≡ true → value_end a ts (next ts) ≡ Some (End (some_expr a), ts)
 value_last a no_trees e = refl

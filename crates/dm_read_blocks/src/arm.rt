@@ -46,9 +46,11 @@ impl<F: Copy + for<'t, 'b> Fn(&mut Place<'t, 'b>, Wanted) -> Result<ExprNode<'b>
         ensures { Reads body_view (λ ts. plain.read_body (rows self.now.parts.fuel) ts (next ts)) place.old result place.new }
     {
         if let Some(mut inside) = place.group(Delim::Brace) {
-            return Ok(block_body(self.block(&mut inside)?));
+            let found = self.block(&mut inside)?;
+            return Ok(block_body(place.alloc(), found)?);
         }
-        Ok(expr_body(self.parts.whole(true, place)?))
+        let found = self.parts.whole(true, place)?;
+        Ok(expr_body(place.alloc(), found)?)
     }
 
     /// `=>`, a body and a comma.
@@ -80,7 +82,7 @@ impl<F: Copy + for<'t, 'b> Fn(&mut Place<'t, 'b>, Wanted) -> Result<ExprNode<'b>
     {
         let found = arm_patterns(place, self.parts.fuel, self.parts.room)?;
         let (found, behind) = joined(found, self.behind_patterns(place))?;
-        Ok(arm_of(found.into_trees(), behind))
+        Ok(arm_of(place.alloc(), found.into_trees(), behind)?)
     }
 
     /// An arm, or the end of a list of them, with fuel for what is in it.

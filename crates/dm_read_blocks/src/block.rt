@@ -40,7 +40,7 @@ fn value_end<'a>(
         return Ok(Turn::End(Some(value)));
     }
     let value = ended(value, place.semicolon())?;
-    Ok(Turn::One(do_of(value)))
+    Ok(Turn::One(do_of(place.alloc(), value)?))
 }
 
 impl<F: Copy + for<'t, 'b> Fn(&mut Place<'t, 'b>, Wanted) -> Result<ExprNode<'b>, Error>> Blocks<
@@ -62,7 +62,7 @@ impl<F: Copy + for<'t, 'b> Fn(&mut Place<'t, 'b>, Wanted) -> Result<ExprNode<'b>
     {
         let name = place.declared()?;
         let (name, value) = joined(name, self.assigned(place))?;
-        Ok(let_of(name, value))
+        Ok(let_of(place.alloc(), name, value)?)
     }
 
     /// A name's value, or a type that is checked, behind `let`.
@@ -146,6 +146,6 @@ impl<F: Copy + for<'t, 'b> Fn(&mut Place<'t, 'b>, Wanted) -> Result<ExprNode<'b>
         ensures { ReadsWhole block_view (rows self.now.parts.fuel).block place.old result }
     {
         let (stmts, last) = self.statements(place)?;
-        Ok(block_of(place.alloc(), stmts, last)?)
+        Ok(block_of(stmts, last))
     }
 }

@@ -1,11 +1,11 @@
 -- What is read, with the comparison of its tokens.
-use Rattle.std.proofs.Common.{◌≡◌, Bool, true, false, Option, Some, None, Result, Ok, Err, refl, sym, ap, ◌∙◌, subst}
+use Rattle.std.proofs.Common.{◌≡◌, Bool, true, false, Some, None, Result, Ok, Err, refl, ap, ◌∙◌}
 use Rattle.std.proofs.lemmas.Grind.{common_steps}
 use Rattle.dm_stream.specs.declared.error.Error.{Error}
 use Rattle.dm_stream.specs.declared.error.Error.TheVariants as error
 use Rattle.dm_stream.specs.Trees.{Trees}
 use Rattle.dm_reread.specs.Leaves.{Answer}
-use Rattle.dm_reread.specs.Reading.{then, provided}
+use Rattle.dm_reread.specs.Reading.{provided}
 use Rattle.dm_reread.specs.ExactLeaves.{passed, has_entries, exactly}
 use Rattle.dm_read_places.specs.Reads.{Reads, ReadsWhole}
 use Rattle.dm_read_exact.specs.Exact.{only}

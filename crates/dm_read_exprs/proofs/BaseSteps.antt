@@ -1,19 +1,17 @@
 -- The rows of paths, calls, groups and others.
-use Rattle.std.proofs.Common.{◌≡◌, ℕ, Bool, true, false, Option, Some, None, Result, Ok, Err, refl, sym, ap, ◌∙◌, subst}
-use Rattle.std.proofs.lemmas.Grind.{common_steps}
+use Rattle.std.proofs.Common.{◌≡◌, ℕ, Bool, true, false, Option, Some, None, Result, Ok, Err, refl, ap, ◌∙◌, subst}
 use Rattle.dm_stream.specs.declared.tokens.Delim.TheVariants.{Paren, Brace}
 use Rattle.dm_stream.specs.declared.error.Error.{Error}
 use Rattle.dm_stream.specs.declared.error.Error.TheVariants as error
 use Rattle.dm_stream.specs.declared.tokens.Literal.{Literal}
-use Rattle.dm_stream.specs.Trees.{Trees, no_trees, token, group}
+use Rattle.dm_stream.specs.Trees.{Trees}
 use Rattle.dm_expr.specs.Cuts.{split_at}
 use Rattle.dm_ast.specs.Tree.{TypeTree, type_tree, path, paren, tuple, slice, array, reference, pointer, bare_fn, trait_object, impl_trait, infer, never, macro_type, MaybeSelf, no_self, some_self, PathTree}
-use Rattle.dm_output.specs.Output as tree
 use Rattle.dm_output.specs.Output.{ExprTree, path_expr, str_expr, ArmTrees, match_expr, opaque_call, ExprTrees, no_exprs, expr_then}
 use Rattle.dm_output.specs.Tokens.{path_expr_trees}
 use Rattle.dm_output.specs.Views.{expr_view}
 use Rattle.dm_output.specs.declared.expr.Expr.{Expr}
-use Rattle.dm_reread.specs.Next.{k_true, k_false, k_unsafe, k_match, Next, bangs, less, in_parens, in_braces, literal, a_name, a_word, next}
+use Rattle.dm_reread.specs.Next.{k_true, k_false, k_unsafe, k_match, Next, bangs, less, in_parens, in_braces, literal, a_word, next}
 use Rattle.dm_reread.specs.Leaves.{Answer}
 use Rattle.dm_reread.specs.Reading.{then, provided, whole, is_str, is_some_trees, Readers, read_args, called, after_path, macro_from, path_base, qualified_base, tuple_of, group_from, unsafe_of, match_of, read_base}
 use Rattle.dm_reread.specs.TypeLeaves.{read_type}
@@ -26,7 +24,7 @@ use Rattle.dm_read_places.specs.Reads.{Reads}
 use Rattle.dm_read_places.specs.Turns.{rows}
 use Rattle.dm_read_formats.proofs.FormatLists.{leaves_are}
 use Rattle.dm_read_blocks.specs.Rows.{braced_arms}
-use Rattle.dm_read_exprs.specs.Rows.{text, braced_path, behind_path, tuple_only, parts, opaque_called, match_from, leaf, with_path}
+use Rattle.dm_read_exprs.specs.Rows.{braced_path, behind_path, tuple_only, parts, opaque_called, match_from, leaf, with_path}
 use Rattle.dm_read_statements.proofs.GroupSteps.{group_steps}
 
 -- ---- behind a path

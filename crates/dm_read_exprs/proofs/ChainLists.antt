@@ -1,18 +1,15 @@
 -- The plain reader's lists are turns: chains.
-use Rattle.std.proofs.Common.{◌≡◌, ℕ, zero, suc, Bool, true, false, List, [], ◌∷◌, Option, Some, None, option_map, refl, sym, ap, ◌∙◌}
-use Rattle.dm_stream.specs.declared.tokens.Ident.{Ident}
-use Rattle.dm_stream.specs.Trees.{Trees, no_trees, token, group}
-use Rattle.dm_ast.specs.Keywords.{is_name}
-use Rattle.dm_output.specs.Output.{FmtArgTree, PatternTree, PatternTrees, pattern_then, ExprTree, ExprTrees, expr_then, exprs_of, NamedExprs, named_expr_then, named_exprs_of, MaybeExpr, ArmTree, ArmTrees, arm_then, arms_of, ArmBodyTree}
-use Rattle.dm_reread.specs.Next.{Next, ended, oror, andand, comma, colon, a_name, next}
+use Rattle.std.proofs.Common.{◌≡◌, ℕ, zero, suc, Bool, List, ◌∷◌, Option, Some, None, option_map, refl, ap, ◌∙◌}
+use Rattle.dm_stream.specs.Trees.{Trees}
+use Rattle.dm_output.specs.Output.{ExprTree, ExprTrees, expr_then, exprs_of}
+use Rattle.dm_reread.specs.Next.{Next, oror, andand, next}
 use Rattle.dm_reread.specs.Leaves.{Answer}
-use Rattle.dm_reread.specs.Reading.{then, provided, comma_after, colon_after, leads_after, readers, read_fmt_arg, more_fmt_args, read_args, first_arg, more_args, named_value, read_named_exprs, read_cmp, more_ands, read_and, more_ors, read_guard, read_body, arm_from, some_arm, read_arms}
-use Rattle.dm_reread.specs.ReadBack.{leaves}
+use Rattle.dm_reread.specs.Reading.{then, readers, read_cmp, more_ands, read_and, more_ors}
 use Rattle.dm_read_places.specs.declared.list.Turn.{Turn}
-use Rattle.dm_read_places.specs.declared.list.Turn.TheVariants.{One, End}
-use Rattle.dm_read_places.specs.Repeating.{before_others, after_turn, repeat}
-use Rattle.dm_read_places.specs.Turns.{rows, declared_at}
-use Rattle.dm_read_places.proofs.Lists.{Listed, in_front, Whole, whole_in_front, Ended, ended_in_front}
+use Rattle.dm_read_places.specs.declared.list.Turn.TheVariants.{One}
+use Rattle.dm_read_places.specs.Repeating.{after_turn, repeat}
+use Rattle.dm_read_places.specs.Turns.{rows}
+use Rattle.dm_read_places.proofs.Lists.{Listed, in_front}
 use Rattle.dm_read_exprs.specs.Turns.{and_turn_at, and_turn, or_turn_at, or_turn}
 
 exprs_made : (x : ExprTree) (xs : List ExprTree) → exprs_of (x ∷ xs) ≡ expr_then x (exprs_of xs)

@@ -1,5 +1,5 @@
 -- The rows of operators between two expressions.
-use Rattle.std.proofs.Common.{◌≡◌, ℕ, Bool, true, false, Some, None, refl}
+use Rattle.std.proofs.Common.{◌≡◌, ℕ, Bool, true, false, Some, refl}
 use Rattle.std.proofs.lemmas.Grind.{common_steps}
 use Rattle.dm_stream.specs.Trees.{Trees}
 use Rattle.dm_output.specs.Output.{ExprTree, and_expr, or_expr, expr_then}

@@ -6,11 +6,10 @@ use Rattle.dm_stream.specs.Trees.{Trees}
 use Rattle.dm_ast.specs.declared.ty.PathSegment.{PathSegment}
 use Rattle.dm_ast.specs.Keywords.{is_name}
 use Rattle.dm_ast.specs.Spelling.{is_word}
-use Rattle.dm_ast.specs.Tree.{PathTree, path_tree, SegmentTree, segment, SegmentTrees, no_segments, segment_then, absent, angle, parens, segments_of, segment_view}
+use Rattle.dm_ast.specs.Tree.{PathTree, path_tree, SegmentTree, segment, no_segments, segment_then, absent, angle, parens, segments_of, segment_view}
 use Rattle.dm_ast.proofs.View as syntax
 use Rattle.dm_output.specs.Output.{ExprTree, write_expr, FmtTree}
 use Rattle.dm_reread.specs.Next.{Next, a_name, next}
-use Rattle.dm_reread.specs.Leaves.{Answer}
 use Rattle.dm_reread.specs.Reading.{then, provided, comma_after, read_fmt, is_macro_path, write_from, macro_of}
 use Rattle.dm_read_places.specs.Turns.{rows, declared_at, segment_name}
 use Rattle.dm_read_exprs.specs.Macros.{segment_is, fmt_behind_comma, named_write, format_args_from}

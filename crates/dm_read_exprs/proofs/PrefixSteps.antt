@@ -1,12 +1,9 @@
 -- The rows of operators in front of an operand.
-use Rattle.std.proofs.Common.{◌≡◌, ℕ, not, Bool, true, false, cond, Some, None, refl}
-use Rattle.std.proofs.lemmas.Grind.{common_steps}
+use Rattle.std.proofs.Common.{◌≡◌, not, Bool, true, false, cond, Some, None, refl}
 use Rattle.dm_stream.specs.declared.tokens.Delim.TheVariants.{Paren}
-use Rattle.dm_stream.specs.Trees.{Trees, no_trees, token, group}
-use Rattle.dm_ast.specs.Spelling.{at_end}
-use Rattle.dm_output.specs.Output.{ExprTree, ref_opaque}
+use Rattle.dm_stream.specs.Trees.{Trees}
+use Rattle.dm_output.specs.Output.{ref_opaque}
 use Rattle.dm_reread.specs.Next.{k_mut, Next, star, amp, dot, asks, in_parens, a_word, next}
-use Rattle.dm_reread.specs.Leaves.{Answer}
 use Rattle.dm_reread.specs.Reading.{provided, is_some_trees, Readers, goes_on, ref_from_pre, read_mut_ref, read_ref, read_pre, read_post}
 use Rattle.dm_read_places.specs.declared.front.Sign.TheVariants as sign
 use Rattle.dm_read_places.specs.declared.front.Keyword.TheVariants as keyword

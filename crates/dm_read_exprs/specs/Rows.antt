@@ -1,21 +1,14 @@
 -- Parts of the plain reader's rows that functions of their own read.
-use Rattle.std.specs.Prelude.{◌≡◌, ℕ, not, Bool, true, false, Option, Some, None}
-use Rattle.std.specs.declared.boxed.Box.{Box}
-use Rattle.std.specs.declared.alloc.Global.{Global}
-use Rattle.dm_stream.specs.declared.tokens.Ident.{Ident}
+use Rattle.std.specs.Prelude.{ℕ, not, Bool, true, false, Option, Some, None}
 use Rattle.dm_stream.specs.declared.tokens.Literal.{Literal}
 use Rattle.dm_stream.specs.Trees.{Trees}
-use Rattle.dm_ast.specs.Tree.{TypeTree, MaybeSelf, no_self, PathTree}
-use Rattle.dm_output.specs.declared.expr.Expr.{Expr}
-use Rattle.dm_output.specs.Output.{ArmTrees, MaybeExpr, no_expr, some_expr, StmtTree, ExprTree, ref_opaque, opaque_call, paren, tuple, path_expr, build_named, match_expr, str_expr, ExprTrees, no_exprs, expr_then}
-use Rattle.dm_output.specs.Views.{expr_view}
-use Rattle.dm_reread.specs.Next.{Next, bangs, less, literal, in_parens, in_braces, next}
+use Rattle.dm_ast.specs.Tree.{MaybeSelf, no_self, PathTree}
+use Rattle.dm_output.specs.Output.{ExprTree, ref_opaque, opaque_call, paren, tuple, path_expr, build_named, match_expr, str_expr, ExprTrees, no_exprs, expr_then}
+use Rattle.dm_reread.specs.Next.{Next, less, literal, in_parens, in_braces, next}
 use Rattle.dm_reread.specs.Leaves.{Answer}
-use Rattle.dm_reread.specs.Reading.{then, provided, whole, is_str, is_some_trees, goes_on, comma_after, colon_after, semicolon_after, assigns_after, plus_after, as_after, wild_after, int_after, apply, called, read_args, read_and, after_and, after_path, macro_from, path_base, qualified_base, base_from}
-use Rattle.dm_reread.specs.ReadBack.{leaves}
+use Rattle.dm_reread.specs.Reading.{then, provided, whole, is_str, is_some_trees, goes_on, called, read_args, read_and, after_and, after_path, path_base, qualified_base}
 use Rattle.dm_read_places.specs.Turns.{rows}
 use Rattle.dm_read_blocks.specs.Rows.{braced_arms}
-use Rattle.dm_read_posts.specs.Posts.{PostTree, map_post}
 
 -- ---- operators
 

@@ -1,7 +1,7 @@
 //! Expressions that no operator stands in or behind: paths, calls, groups, `match` and others.
 #![tactic(auto, using(crate::proofs::BaseSteps::base_steps))]
 
-ghost use Rattle.std.specs.Prelude.{◌≡◌, map};
+ghost use Rattle.std.specs.Prelude.{◌≡◌, IfOk, map};
 ghost use Rattle.dm_ast.specs.Tree.{path_view, maybe_self_view};
 ghost use Rattle.dm_output.specs.Output.{exprs_of, arms_of};
 ghost use Rattle.dm_output.specs.Views.{expr_view, arm_view};
@@ -33,6 +33,7 @@ use dm_read_places::front::{Keyword, Sign};
 use dm_read_places::path::path;
 use dm_read_places::place::Place;
 use dm_stream::{Delim, Error, Literal};
+use std::alloc::{AllocError, Global};
 
 /// A string.
 fn text<'a>(found: &Literal<'a>, place: &Place<'_, 'a>) -> Result<ExprNode<'a>, Error>
@@ -41,7 +42,8 @@ fn text<'a>(found: &Literal<'a>, place: &Place<'_, 'a>) -> Result<ExprNode<'a>, 
     if !is_str(found.kind) {
         return Err(place.refused());
     }
-    Ok(str_of(found.clone_in(place.alloc())?))
+    let found = found.clone_in(place.alloc())?;
+    Ok(str_of(place.alloc(), found)?)
 }
 
 /// One part without a comma is in parentheses, others are a tuple. A comma behind the last of some is refused.
@@ -54,30 +56,35 @@ fn tuple_or_paren<'a>(
     ensures { ReadsWhole expr_view (spec.tuple_only last) (exprs_of (map expr_view parts.entry)) result }
 {
     if parts.is_empty() {
-        return Ok(tuple_of(parts));
+        return Ok(tuple_of(place.alloc(), parts)?);
     }
     if last {
         return Err(place.refused());
     }
     if parts.len() != 1 {
-        return Ok(tuple_of(parts));
+        return Ok(tuple_of(place.alloc(), parts)?);
     }
     let mut parts = parts;
-    match parts.pop() {
-        Some(only) => Ok(paren_of(place.alloc(), only)?),
-        None => unreachable!(),
+    match parts.pop(place.alloc()) {
+        Ok(Some(only)) => Ok(paren_of(place.alloc(), only)?),
+        Ok(None) => unreachable!(),
+        Err(AllocError) => Err(Error::NoMemory),
     }
 }
 
 /// A path with arguments behind it. A comma behind the last of them says that it is built, and not called.
-fn called<'a>(path: PathExpr<'a>, args: (ExprNodes<'a>, bool)) -> ExprNode<'a>
-    ensures { expr_view result ≡ plain.called (maybe_self_view path.entry.qself) (path_view path.entry.path) (exprs_of (map expr_view args.entry.0)) args.entry.1 }
+fn called<'a>(
+    alloc: Global,
+    path: PathExpr<'a>,
+    args: (ExprNodes<'a>, bool),
+) -> Result<ExprNode<'a>, AllocError>
+    ensures { IfOk result (λ e. expr_view e ≡ plain.called (maybe_self_view path.entry.qself) (path_view path.entry.path) (exprs_of (map expr_view args.entry.0)) args.entry.1) }
 {
     let (parts, is_built) = args;
     if is_built {
-        build_of(path, parts)
+        Ok(build_of(alloc, path, parts)?)
     } else {
-        call_of(path, parts)
+        Ok(call_of(alloc, path, parts)?)
     }
 }
 
@@ -95,9 +102,9 @@ impl<F: Copy + for<'t, 'b> Fn(&mut Place<'t, 'b>, Wanted) -> Result<ExprNode<'b>
     {
         if let Some(mut inside) = place.group(Delim::Brace) {
             let (path, fields) = joined(path, self.parts.fields(&mut inside))?;
-            return Ok(built(path, fields));
+            return Ok(built(place.alloc(), path, fields)?);
         }
-        Ok(path_expr(path))
+        Ok(path_expr(place.alloc(), path)?)
     }
 
     /// A path, or what it is called with.
@@ -112,12 +119,12 @@ impl<F: Copy + for<'t, 'b> Fn(&mut Place<'t, 'b>, Wanted) -> Result<ExprNode<'b>
     {
         if let Some(mut inside) = place.group(Delim::Paren) {
             let (path, args) = joined(path, self.parts.arguments(&mut inside))?;
-            return Ok(called(path, args));
+            return Ok(called(place.alloc(), path, args)?);
         }
         if braces {
             return self.braced(path, place);
         }
-        Ok(path_expr(path))
+        Ok(path_expr(place.alloc(), path)?)
     }
 
     /// The call of the macro with this path, behind `!`.
@@ -269,10 +276,10 @@ impl<F: Copy + for<'t, 'b> Fn(&mut Place<'t, 'b>, Wanted) -> Result<ExprNode<'b>
         ensures { Reads expr_view (λ ts. plain.read_base (rows self.now.parts.fuel) braces ts (next ts)) place.old result place.new }
     {
         if place.take_keyword(Keyword::True) {
-            return Ok(bool_of(true));
+            return Ok(bool_of(place.alloc(), true)?);
         }
         if place.take_keyword(Keyword::False) {
-            return Ok(bool_of(false));
+            return Ok(bool_of(place.alloc(), false)?);
         }
         if place.take_keyword(Keyword::Unsafe) {
             return self.unsafe_block(place);

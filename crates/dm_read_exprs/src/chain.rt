@@ -171,7 +171,8 @@ impl<F: Copy + for<'t, 'b> Fn(&mut Place<'t, 'b>, Wanted) -> Result<ExprNode<'b>
             return Ok(first);
         }
         let (first, others) = joined(first, self.ands(braces, place))?;
-        Ok(and_of(ExprNodes::fronted(place.alloc(), first, others)?))
+        let all = ExprNodes::fronted(place.alloc(), first, others)?;
+        Ok(and_of(place.alloc(), all)?)
     }
 
     /// Comparisons with `&&` between.
@@ -214,7 +215,8 @@ impl<F: Copy + for<'t, 'b> Fn(&mut Place<'t, 'b>, Wanted) -> Result<ExprNode<'b>
             return Ok(first);
         }
         let (first, others) = joined(first, self.ors(braces, place))?;
-        Ok(or_of(ExprNodes::fronted(place.alloc(), first, others)?))
+        let all = ExprNodes::fronted(place.alloc(), first, others)?;
+        Ok(or_of(place.alloc(), all)?)
     }
 
     /// An expression that isn't `return`.

@@ -62,14 +62,15 @@ fn write_call<'a>(fuel: usize, place: &mut Place<'_, 'a>) -> Result<ExprNode<'a>
 {
     let name = place.declared()?;
     let (name, format) = joined(name, behind_comma(fuel, place))?;
-    Ok(write_of(name, format))
+    Ok(write_of(place.alloc(), name, format)?)
 }
 
 /// What stands in the parentheses of `format_args!`.
 fn format_args_call<'a>(fuel: usize, place: &mut Place<'_, 'a>) -> Result<ExprNode<'a>, Error>
     ensures { ReadsWhole expr_view (format_args_from fuel) place.old result }
 {
-    Ok(format_args_of(format(fuel, place)?))
+    let format = format(fuel, place)?;
+    Ok(format_args_of(place.alloc(), format)?)
 }
 
 /// The call of the macro with this path, by what stands in its parentheses: `derive_more::core::write`, or `format_args`. `fuel` is more

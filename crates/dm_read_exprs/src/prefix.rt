@@ -1,7 +1,7 @@
 //! Operators in front of an operand.
 #![tactic(auto, using(crate::proofs::PrefixSteps::prefix_steps))]
 
-ghost use Rattle.std.specs.Prelude.{◌≡◌, None, Some, MatchOption};
+ghost use Rattle.std.specs.Prelude.{◌≡◌, None, Some};
 ghost use Rattle.dm_output.specs.Views.{expr_view};
 ghost use Rattle.dm_reread.specs.Next.{next};
 ghost use Rattle.dm_reread.specs.Reading as plain;
@@ -52,7 +52,8 @@ fn opaque_ref<'a>(place: &mut Place<'_, 'a>) -> Result<ExprNode<'a>, Error>
     if inside.at_end() {
         return Err(inside.refused());
     }
-    Ok(ref_opaque(kept(&inside)?))
+    let tokens = kept(&inside)?;
+    Ok(ref_opaque(place.alloc(), tokens)?)
 }
 
 impl<F: Copy + for<'t, 'b> Fn(&mut Place<'t, 'b>, Wanted) -> Result<ExprNode<'b>, Error>> Operators<

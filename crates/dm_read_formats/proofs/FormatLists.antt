@@ -1,5 +1,5 @@
 -- The plain reader's lists are turns: arguments of formats.
-use Rattle.std.proofs.Common.{◌≡◌, ℕ, zero, suc, List, [], ◌∷◌, Option, Some, None, option_map, refl, ap, ◌∙◌}
+use Rattle.std.proofs.Common.{◌≡◌, ℕ, zero, suc, List, ◌∷◌, Option, Some, None, option_map, refl, ap, ◌∙◌}
 use Rattle.dm_stream.specs.Trees.{Trees}
 use Rattle.dm_output.specs.Output.{FmtArgTree}
 use Rattle.dm_reread.specs.Next.{Next, ended, comma, next}

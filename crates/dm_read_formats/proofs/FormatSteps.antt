@@ -1,17 +1,15 @@
 -- The rows of formats and their arguments.
-use Rattle.std.proofs.Common.{◌≡◌, ◌==◌, ◌&&◌, Bool, true, false, cond, Option, Some, None, refl, sym, ap, ◌∙◌, subst}
+use Rattle.std.proofs.Common.{◌≡◌, true, false, cond, Some, None, refl, ap, ◌∙◌}
 use Rattle.std.proofs.lemmas.Grind.{common_steps}
 use Rattle.dm_stream.specs.declared.tokens.Ident.{Ident}
 use Rattle.dm_stream.specs.declared.tokens.Punct.{Punct}
 use Rattle.dm_stream.specs.declared.tokens.Token.TheVariants as t
 use Rattle.dm_stream.specs.Trees.{Trees, no_trees, token, group}
 use Rattle.dm_stream.specs.Cursors.{first_punct, first_ident}
-use Rattle.dm_ast.specs.Keywords.{is_name}
 use Rattle.dm_ast.specs.Spelling.{at_end}
 use Rattle.dm_read.proofs.Seeing.{punct_front, ident_front}
 use Rattle.dm_reread.specs.Next.{Next, ended, literal, next}
-use Rattle.dm_reread.specs.Leaves.{Leaves}
-use Rattle.dm_reread.specs.Reading.{is_alone, alias_of, fmt_arg_from, Readers, read_fmt}
+use Rattle.dm_reread.specs.Reading.{alias_of, Readers, read_fmt}
 use Rattle.dm_read_places.specs.declared.list.Turn.TheVariants.{End}
 use Rattle.dm_read_places.specs.Fronts.{is_literal_next}
 use Rattle.dm_read_formats.specs.Values.{is_alias}

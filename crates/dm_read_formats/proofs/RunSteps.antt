@@ -1,12 +1,12 @@
 -- Values of which nothing is left open.
-use Rattle.std.proofs.Common.{◌≡◌, ℕ, ◌+◌, ◌&&◌, ◌||◌, not, nat_eq, Bool, true, false, Option, Some, None, refl, sym, ap, ◌∙◌, subst}
+use Rattle.std.proofs.Common.{◌≡◌, ◌+◌, ◌&&◌, ◌||◌, not, nat_eq, Bool, true, false, Some, None, refl, sym, ap, ◌∙◌, subst}
 use Rattle.std.proofs.lemmas.Grind.{common_steps}
 use Rattle.dm_stream.specs.declared.tokens.Punct.{Punct}
 use Rattle.dm_stream.specs.declared.tokens.Token.TheVariants as t
 use Rattle.dm_stream.specs.Trees.{Trees, no_trees, token, group}
 use Rattle.dm_stream.specs.Cursors.{first_punct, first_tree}
 use Rattle.dm_stream.specs.Sizes.{size}
-use Rattle.dm_expr.specs.Cuts.{pair_at, split_at}
+use Rattle.dm_expr.specs.Cuts.{pair_at}
 use Rattle.dm_expr.specs.Reach.{is_there}
 use Rattle.dm_read.proofs.Seeing.{punct_front}
 use Rattle.dm_reread.specs.Reading.{then, provided}

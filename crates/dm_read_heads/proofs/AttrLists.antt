@@ -2,7 +2,6 @@
 use Rattle.std.proofs.Common.{◌≡◌, ℕ, zero, suc, ◌≤◌, ◌<◌, List, [], ◌∷◌, map, Option, Some, None, length, length-append, Result, Ok, Err, refl, ap, ◌∙◌, arith}
 use Rattle.dm_stream.specs.declared.error.Error.{Error}
 use Rattle.dm_stream.specs.declared.error.Error.TheVariants as error
-use Rattle.dm_stream.specs.declared.tokens.Token.TheVariants as t
 use Rattle.dm_stream.specs.declared.tokens.Entry.TheVariants as entry
 use Rattle.dm_stream.specs.Trees.{Trees, no_trees, token, group, flatten}
 use Rattle.dm_output.specs.declared.item.ItemAttr.{ItemAttr}

@@ -1,20 +1,18 @@
 -- The words of attributes, one test after another.
-use Rattle.std.proofs.Common.{◌≡◌, ℕ, ◌&&◌, ◌||◌, ◌==◌, not, cond, Bool, true, false, List, codes, Option, Some, None, refl, sym, ap, ◌∙◌}
+use Rattle.std.proofs.Common.{◌≡◌, ℕ, ◌&&◌, ◌||◌, ◌==◌, not, Bool, true, false, List, codes, Option, Some, None, refl, ap, ◌∙◌}
 use Rattle.std.proofs.lemmas.Grind.{common_steps}
 use Rattle.std.specs.Str.{bytes_eq}
-use Rattle.dm_stream.specs.declared.tokens.Delim.{Delim}
 use Rattle.dm_stream.specs.declared.tokens.Delim.TheVariants.{Paren, Bracket, Brace}
 use Rattle.dm_stream.specs.declared.tokens.Ident.{Ident}
 use Rattle.dm_stream.specs.declared.tokens.Punct.{Punct}
 use Rattle.dm_stream.specs.declared.tokens.Span.{Span}
-use Rattle.dm_stream.specs.declared.tokens.Spacing.TheVariants.{Joint, Alone}
+use Rattle.dm_stream.specs.declared.tokens.Spacing.TheVariants.{Joint}
 use Rattle.dm_stream.specs.declared.tokens.Token.TheVariants as t
 use Rattle.dm_stream.specs.Layout.{nowhere}
 use Rattle.dm_stream.specs.Trees.{Trees, no_trees, token, group, join}
 use Rattle.dm_ast.specs.Spelling.{at_end}
 use Rattle.dm_output.specs.Tokens as spell
-use Rattle.dm_output.specs.declared.item.ItemAttr.TheVariants as attr
-use Rattle.dm_reread.specs.Next.{Next, hash, in_brackets, next}
+use Rattle.dm_reread.specs.Next.{Next, hash, in_brackets}
 use Rattle.dm_reread.specs.Reading.{then, provided, is_alone}
 use Rattle.dm_reread.specs.Items.{same_words}
 use Rattle.dm_read_places.specs.declared.front.Sign.TheVariants as sign

@@ -1,17 +1,16 @@
 -- The rows of heads.
-use Rattle.std.proofs.Common.{◌≡◌, ℕ, Bool, true, false, ◌&&◌, ◌||◌, not, List, [], ◌∷◌, Option, Some, None, Ok, Err, refl, sym, ap, ◌∙◌, subst}
+use Rattle.std.proofs.Common.{◌≡◌, ℕ, Bool, List, Option, Some, None, Ok, Err, refl, sym, ap, ◌∙◌, subst}
 use Rattle.std.proofs.lemmas.Grind.{common_steps}
 use Rattle.dm_stream.specs.declared.error.Error.{Error}
 use Rattle.dm_stream.specs.declared.error.Error.TheVariants as error
 use Rattle.dm_stream.specs.Trees.{Trees}
 use Rattle.dm_ast.specs.Declarations.{Listed, ParamTree, PredicateTree}
-use Rattle.dm_ast.specs.Tree.{TypeTree, PathTree}
 use Rattle.dm_ast.specs.Spelling.{Where}
 use Rattle.dm_ast.specs.Readers.{Parser}
 use Rattle.dm_input.specs.State.{State}
 use Rattle.dm_input.specs.Inputs as inputs
 use Rattle.dm_reread.specs.Leaves.{Answer}
-use Rattle.dm_reread.specs.Reading.{then, provided}
+use Rattle.dm_reread.specs.Reading.{then}
 use Rattle.dm_reread.specs.TypeLeaves.{answer_of}
 use Rattle.dm_reread.specs.Items.{HeadTree, between_trees}
 use Rattle.dm_reread.specs.HeadLeaves.{read_generics, read_where, read_named, predicates_in, head_in, read_head, plain_head}

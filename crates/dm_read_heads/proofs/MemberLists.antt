@@ -1,5 +1,5 @@
 -- Associated types in turn.
-use Rattle.std.proofs.Common.{◌≡◌, ℕ, zero, suc, Bool, true, false, List, [], ◌∷◌, Option, Some, None, option_map, refl, sym, ap, ◌∙◌}
+use Rattle.std.proofs.Common.{◌≡◌, ℕ, zero, suc, Bool, true, false, List, ◌∷◌, Option, Some, None, refl, ap, ◌∙◌}
 use Rattle.dm_stream.specs.declared.tokens.Ident.{Ident}
 use Rattle.dm_stream.specs.Trees.{Trees}
 use Rattle.dm_ast.specs.Keywords.{is_name}
@@ -11,7 +11,6 @@ use Rattle.dm_reread.specs.Reading.{then, provided, assigns_after, semicolon_aft
 use Rattle.dm_reread.specs.ReadBack.{leaves}
 use Rattle.dm_reread.specs.Items.{assoc_from, assocs_from, read_assocs}
 use Rattle.dm_read_places.specs.Repeating.{after_turn, repeat}
-use Rattle.dm_read_places.specs.Turns.{declared_at}
 use Rattle.dm_read_heads.specs.Members.{type_ended, type_assigned, assoc_at, assoc_turn_at, assoc_turn}
 use Rattle.dm_read_heads.proofs.Turned.{Parts, PartTurn, part_on}
 

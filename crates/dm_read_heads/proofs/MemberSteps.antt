@@ -1,20 +1,19 @@
 -- The rows of associated types and of signatures.
-use Rattle.std.proofs.Common.{◌≡◌, ℕ, Bool, true, false, cond, Option, Some, None, refl, sym, ap, ◌∙◌}
+use Rattle.std.proofs.Common.{◌≡◌, Bool, true, false, cond, Option, Some, None, refl, ap, ◌∙◌}
 use Rattle.std.proofs.lemmas.Grind.{common_steps}
 use Rattle.dm_stream.specs.declared.tokens.Delim.TheVariants.{Paren}
 use Rattle.dm_stream.specs.declared.tokens.Ident.{Ident}
 use Rattle.dm_stream.specs.Trees.{Trees, no_trees, token, group}
 use Rattle.dm_ast.specs.Keywords.{is_name}
-use Rattle.dm_ast.specs.Spelling.{at_end, is_word}
+use Rattle.dm_ast.specs.Spelling.{at_end}
 use Rattle.dm_ast.specs.Tree.{TypeTree}
-use Rattle.dm_output.specs.Output.{AssocTree, ParamOfMethod}
+use Rattle.dm_output.specs.Output.{ParamOfMethod}
 use Rattle.dm_output.specs.declared.item.Receiver.{Receiver}
 use Rattle.dm_output.specs.declared.item.Receiver.TheVariants as receiver
 use Rattle.dm_reread.specs.Next.{k_mut, k_type, Next, ended, amp, comma, arrow, in_parens, a_name, a_word, next}
-use Rattle.dm_reread.specs.Leaves.{Answer}
-use Rattle.dm_reread.specs.Reading.{then, provided, whole, assigns_after, semicolon_after, colon_after, comma_after}
+use Rattle.dm_reread.specs.Reading.{then, provided, whole, colon_after, comma_after}
 use Rattle.dm_reread.specs.ReadBack.{leaves}
-use Rattle.dm_reread.specs.Items.{Inputs, assoc_from, param_from, behind_receiver, self_from, ref_input, read_inputs, inputs_after, output_after}
+use Rattle.dm_reread.specs.Items.{Inputs, param_from, behind_receiver, self_from, ref_input, read_inputs, inputs_after, output_after}
 use Rattle.dm_read_places.specs.declared.front.Keyword.TheVariants as keyword
 use Rattle.dm_read_places.specs.declared.front.Sign.TheVariants as sign
 use Rattle.dm_read_places.specs.declared.list.Turn.TheVariants.{End}
@@ -22,7 +21,7 @@ use Rattle.dm_read_places.specs.Fronts.{is_sign, is_keyword, is_name_next, is_gr
 use Rattle.dm_read_places.specs.Turns.{declared_at}
 use Rattle.dm_read_heads.proofs.Fronts.{begun}
 use Rattle.dm_read_heads.proofs.MemberLists.{assocs_are}
-use Rattle.dm_read_heads.specs.Members.{type_ended, type_assigned, assoc_at, assoc_turn_at, last_type, typed, param_at, with_param, behind_comma, only_param, is_declared, signature_at}
+use Rattle.dm_read_heads.specs.Members.{assoc_turn_at, last_type, typed, with_param, behind_comma, only_param, is_declared}
 
 -- ---- associated types
 

@@ -1,5 +1,5 @@
 -- The head of an implementation as the program holds it, and the parts that functions of their own read.
-use Rattle.std.specs.Prelude.{true, not, ◌&&◌, ◌||◌, Bool, List, map, Option, option_map, Some, None}
+use Rattle.std.specs.Prelude.{not, ◌&&◌, ◌||◌, Bool, List, map, Option, option_map, Some}
 use Rattle.dm_stream.specs.Trees.{Trees}
 use Rattle.dm_ast.specs.Tree.{TypeTree, ty_view, PathTree, path_view}
 use Rattle.dm_ast.specs.Declarations.{ParamTree, param_view, PredicateTree, predicate_view}

@@ -1,6 +1,5 @@
 -- The trait and the type of a head, as the program holds them.
 use Rattle.std.specs.Prelude.{List, map, option_map}
-use Rattle.dm_stream.specs.declared.seq.Seq.{Seq}
 use Rattle.dm_ast.specs.declared.decl.WherePredicate.{WherePredicate}
 use Rattle.dm_ast.specs.Tree.{ty_view, path_view}
 use Rattle.dm_ast.specs.Declarations.{PredicateTree, predicate_view}

@@ -1,5 +1,5 @@
 -- What a method takes and gives, as the program holds it.
-use Rattle.std.specs.Prelude.{Option, option_map}
+use Rattle.std.specs.Prelude.{option_map}
 use Rattle.dm_stream.specs.declared.tokens.Ident.{Ident}
 use Rattle.dm_ast.specs.Tree.{ty_view}
 use Rattle.dm_output.specs.Views.{method_param_view}

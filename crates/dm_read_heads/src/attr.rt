@@ -1,7 +1,7 @@
 //! Attributes, by the words in their brackets.
 #![tactic(auto, using(crate::proofs::AttrSteps::attr_steps))]
 
-ghost use Rattle.std.specs.Prelude.{◌≡◌, ◌<◌, suc, map, None, Some, MatchOption, IfSome, codes};
+ghost use Rattle.std.specs.Prelude.{◌≡◌, ◌<◌, suc, map, None, Some, MatchOption, IfSome};
 ghost use Rattle.dm_stream.specs.Cursors.{left, sound};
 ghost use Rattle.dm_stream.specs.declared.tokens.Delim.TheVariants.{Paren};
 ghost use Rattle.dm_stream.specs.Trees.{join};

@@ -1,7 +1,7 @@
 //! Heads: what stands between `impl` and the brace.
 #![tactic(auto, using(crate::proofs::HeadSteps::head_steps))]
 
-ghost use Rattle.std.specs.Prelude.{◌≡◌, true, map, option_map};
+ghost use Rattle.std.specs.Prelude.{◌≡◌, true, IfOk, map, option_map};
 ghost use Rattle.dm_ast.specs.Tree.{ty_view, path_view};
 ghost use Rattle.dm_ast.specs.Declarations.{param_view, predicate_view};
 ghost use Rattle.dm_output.specs.Views.{assoc_view, item_view, method_view};
@@ -15,9 +15,9 @@ ghost use Rattle.dm_read_heads.specs.Named.{named_view, behind_view};
 
 use crate::assoc::AssocTypes;
 use dm_ast::{GenericParam, Path, Ty, TyNode, WherePredicate};
+use dm_gather::discard;
 use dm_input::Input;
 use dm_input::join::joined;
-use dm_nodes::discard::discard;
 use dm_nodes::item::{ItemNode, MethodNodes};
 use dm_output::{Item, ItemAttr};
 use dm_read::token::{behind, sees_word};
@@ -26,6 +26,7 @@ use dm_read_exact::exact::exact;
 use dm_read_leaves::ty::front_type;
 use dm_read_places::place::Place;
 use dm_stream::{Error, Punctuated, Seq};
+use std::alloc::{AllocError, Global};
 
 /// What stands between `impl` and the brace: parameters, perhaps a trait, the type, and predicates. Its drop is a function, so that what
 /// holds a head needs to know nothing of how trees are dropped.
@@ -55,11 +56,12 @@ impl<'a> Head<'a> {
     /// The implementation of this head with these members.
     pub fn into_item(
         self,
+        alloc: Global,
         attrs: Seq<ItemAttr>,
         assocs: AssocTypes<'a>,
         methods: MethodNodes<'a>,
-    ) -> ItemNode<'a>
-        ensures { item_view result ≡ spec.item_of attrs (head_view self.entry) (map assoc_view assocs.entry) (map method_view methods.entry) }
+    ) -> Result<ItemNode<'a>, AllocError>
+        ensures { IfOk result (λ i. item_view i ≡ spec.item_of attrs (head_view self.entry) (map assoc_view assocs.entry) (map method_view methods.entry)) }
     {
         let Self {
             params,
@@ -67,7 +69,7 @@ impl<'a> Head<'a> {
             ty,
             predicates,
         } = self;
-        ItemNode::new(Item {
+        let tree = Item {
             attrs,
             params,
             trait_path,
@@ -75,7 +77,8 @@ impl<'a> Head<'a> {
             predicates,
             assocs: assocs.into_trees(),
             methods: methods.into_trees(),
-        })
+        };
+        Ok(ItemNode::new(alloc, tree)?)
     }
 }
 

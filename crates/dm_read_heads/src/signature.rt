@@ -1,7 +1,7 @@
 //! What a method takes and gives.
 #![tactic(auto, using(crate::proofs::MemberSteps::member_steps))]
 
-ghost use Rattle.std.specs.Prelude.{◌≡◌, None, Some, option_map};
+ghost use Rattle.std.specs.Prelude.{◌≡◌, None, Some, IfOk, option_map};
 ghost use Rattle.dm_ast.specs.Tree.{ty_view};
 ghost use Rattle.dm_output.specs.Views.{block_view, method_param_view, method_view};
 ghost use Rattle.dm_reread.specs.Next.{next};
@@ -12,9 +12,9 @@ ghost use Rattle.dm_read_heads.specs.Members as spec;
 ghost use Rattle.dm_read_heads.specs.Signatures.{inputs_view, signature_view, named_view};
 
 use dm_ast::Ty;
+use dm_gather::discard;
 use dm_input::join::{ended, joined};
 use dm_nodes::block::BlockNode;
-use dm_nodes::discard::discard;
 use dm_nodes::item::MethodNode;
 use dm_output::{ItemAttr, Method, MethodParam, Receiver};
 use dm_read::token::is_word;
@@ -23,6 +23,7 @@ use dm_read_leaves::ty::ty;
 use dm_read_places::front::{Keyword, Sign};
 use dm_read_places::place::Place;
 use dm_stream::{Delim, Error, Ident, Seq};
+use std::alloc::{AllocError, Global};
 
 /// What stands in a method's parentheses: its receiver, its parameter, both or none.
 #[derive(Drop)]
@@ -50,16 +51,17 @@ impl<'a> Signature<'a> {
     /// The method of this signature with this body.
     pub fn into_method(
         self,
+        alloc: Global,
         attrs: Seq<ItemAttr>,
         is_const: bool,
         name: Ident<'a>,
         body: BlockNode<'a>,
-    ) -> MethodNode<'a>
-        ensures { method_view result ≡ spec.method_of attrs is_const name.entry (signature_view self.entry) (block_view body.entry) }
+    ) -> Result<MethodNode<'a>, AllocError>
+        ensures { IfOk result (λ m. method_view m ≡ spec.method_of attrs is_const name.entry (signature_view self.entry) (block_view body.entry)) }
     {
         let Self { inputs, output } = self;
         let Inputs { receiver, param } = inputs;
-        MethodNode::new(Method {
+        let tree = Method {
             attrs,
             is_const,
             name,
@@ -67,7 +69,8 @@ impl<'a> Signature<'a> {
             param,
             output,
             body: body.into_tree(),
-        })
+        };
+        Ok(MethodNode::new(alloc, tree)?)
     }
 }
 

@@ -1,7 +1,7 @@
 //! The tokens of a head, as it is printed.
 #![tactic(auto, using(crate::proofs::TokenSteps::token_steps))]
 
-ghost use Rattle.std.specs.Prelude.{◌≡◌, OnOk, OnErr, true, map, option_map};
+ghost use Rattle.std.specs.Prelude.{◌≡◌, OnOk, true, map, option_map};
 ghost use Rattle.dm_stream.specs.Trees.{join};
 ghost use Rattle.dm_ast.specs.Tree.{path_view};
 ghost use Rattle.dm_ast.specs.Declarations.{param_view, predicate_view};

@@ -5,7 +5,6 @@ use Rattle.std.proofs.lemmas.Slice.Eq.{bytes_eq-Decides}
 use Rattle.std.specs.Str.{bytes_eq}
 use Rattle.dm_stream.specs.declared.tokens.Span.{Span}
 use Rattle.dm_stream.specs.declared.tokens.Delim.{Delim}
-use Rattle.dm_stream.specs.declared.tokens.LitKind.TheVariants as lit
 use Rattle.dm_stream.specs.declared.tokens.Token.{Token}
 use Rattle.dm_stream.specs.declared.tokens.Token.TheVariants as t
 use Rattle.dm_stream.specs.declared.tokens.Entry.{Entry}

@@ -1,9 +1,8 @@
 -- The value of a format's argument, where it is read before others, is one run of its own trees, to their end.
-use Rattle.std.proofs.Common.{◌≡◌, ℕ, zero, suc, ◌+◌, ◌≤◌, ◌<◌, Bool, true, false, Some, None, T, refl, sym, ap, ◌∙◌, subst, arith}
+use Rattle.std.proofs.Common.{◌≡◌, ℕ, zero, suc, ◌+◌, ◌≤◌, ◌<◌, Bool, true, false, Some, None, refl, sym, ap, ◌∙◌, subst, arith}
 use Rattle.dm_stream.specs.declared.tokens.Spacing.{Spacing}
-use Rattle.dm_stream.specs.declared.tokens.Spacing.TheVariants.{Joint, Alone}
+use Rattle.dm_stream.specs.declared.tokens.Spacing.TheVariants.{Joint}
 use Rattle.dm_stream.specs.declared.tokens.Token.{Token}
-use Rattle.dm_stream.specs.declared.tokens.Token.TheVariants as t
 use Rattle.dm_stream.specs.Trees.{Trees, no_trees, token, group, join, join-no_trees}
 use Rattle.dm_stream.specs.Cursors.{split_trees}
 use Rattle.dm_stream.specs.Sizes.{size}

@@ -1,5 +1,5 @@
 -- Names behind `::`, and qualified paths.
-use Rattle.std.proofs.Common.{◌≡◌, ℕ, ◌+◌, ◌&&◌, nat_eq, Bool, true, false, cond, Option, Some, None, refl, sym, ap, ◌∙◌, subst, arith}
+use Rattle.std.proofs.Common.{◌≡◌, ℕ, ◌+◌, Bool, true, false, cond, Option, Some, None, refl, sym, ap, ◌∙◌, subst, arith}
 use Rattle.std.proofs.lemmas.Grind.{common_steps}
 use Rattle.dm_stream.specs.declared.tokens.Ident.{Ident}
 use Rattle.dm_stream.specs.declared.tokens.Punct.{Punct}
@@ -7,16 +7,15 @@ use Rattle.dm_stream.specs.declared.tokens.Token.TheVariants as t
 use Rattle.dm_stream.specs.Trees.{Trees, no_trees, token, group}
 use Rattle.dm_stream.specs.Cursors.{first_punct, first_ident}
 use Rattle.dm_stream.specs.Sizes.{size}
-use Rattle.dm_expr.specs.Cuts.{Front, after, and_then, pair_at, split_at}
-use Rattle.dm_expr.proofs.Counting.{after-after}
-use Rattle.dm_ast.specs.Spelling.{is_joint, at_end}
+use Rattle.dm_expr.specs.Cuts.{after, and_then, pair_at, split_at}
+use Rattle.dm_ast.specs.Spelling.{at_end}
 use Rattle.dm_ast.specs.Tree.{TypeTree, type_tree, path, paren, tuple, slice, array, reference, pointer, bare_fn, trait_object, impl_trait, infer, never, macro_type, no_self, some_self, MaybeSelf, PathTree}
 use Rattle.dm_ast.specs.TypeTokens.{type_trees}
 use Rattle.dm_output.specs.Tokens.{path_expr_trees}
 use Rattle.dm_reread.specs.Leaves.{Answer}
 use Rattle.dm_reread.specs.Reading.{then, provided, whole}
 use Rattle.dm_reread.specs.TypeLeaves.{read_type}
-use Rattle.dm_reread.specs.PathLeaves.{names_at, path_at, qualified_in, read_qualified}
+use Rattle.dm_reread.specs.PathLeaves.{names_at, path_at, qualified_in}
 use Rattle.dm_reread.specs.ExactLeaves.{passed, has_entries, exactly, exact_qualified}
 use Rattle.dm_read.proofs.Seeing.{punct_front, ident_front}
 use Rattle.dm_read_leaves.specs.Leaves.{is_separated, unranged_type, cut_type, exact_cut}

@@ -1,5 +1,5 @@
 -- Types read by the reader of declarations.
-use Rattle.std.proofs.Common.{◌≡◌, ℕ, Some, None, Ok, Err, refl, sym, ap, ◌∙◌}
+use Rattle.std.proofs.Common.{◌≡◌, ℕ, Some, None, Ok, Err, sym, ap, ◌∙◌}
 use Rattle.std.proofs.lemmas.Grind.{common_steps}
 use Rattle.dm_stream.specs.declared.error.Refusal.{Refusal}
 use Rattle.dm_stream.specs.Trees.{Trees}
@@ -9,7 +9,6 @@ use Rattle.dm_read_paths.specs.WholeReaders.{whole_type}
 use Rattle.dm_reread.specs.TypeLeaves.{answer_of, read_type}
 use Rattle.dm_reread.specs.ExactLeaves.{exactly}
 use Rattle.dm_reread.proofs.FreeDeclarations.{type_free}
-use Rattle.dm_read_exact.proofs.ExactSteps.{exact_refuses}
 
 pub type_read : (limit : ℕ) (ts us : Trees) (x : TypeTree) → whole_type (record { level = 0; limit = limit }) ts ≡ Ok (x, us) →
     read_type ts ≡ Some (x, us)

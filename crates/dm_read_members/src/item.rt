@@ -1,7 +1,7 @@
 //! Implementations.
 #![tactic(auto, using(crate::proofs::ItemSteps::item_steps))]
 
-ghost use Rattle.std.specs.Prelude.{◌≡◌, map};
+ghost use Rattle.std.specs.Prelude.{◌≡◌, IfOk, map};
 ghost use Rattle.dm_output.specs.Views.{assoc_view, item_view};
 ghost use Rattle.dm_reread.specs.Next.{next};
 ghost use Rattle.dm_reread.specs.Items as plain;
@@ -25,6 +25,7 @@ use dm_read_places::front::Keyword;
 use dm_read_places::list::{Rule, Turn, gathered};
 use dm_read_places::place::Place;
 use dm_stream::{Delim, Error, Seq};
+use std::alloc::{AllocError, Global};
 
 type Members<'a> = (AssocTypes<'a>, MethodNodes<'a>);
 
@@ -37,11 +38,15 @@ fn all_assocs<'a>(place: &mut Place<'_, 'a>) -> Result<AssocTypes<'a>, Error>
 }
 
 /// The parts as one.
-fn item_of<'a>(attrs: Seq<ItemAttr>, parts: (Head<'a>, Members<'a>)) -> ItemNode<'a>
-    ensures { item_view result ≡ spec.made_item attrs (unmarked_view parts.entry) }
+fn item_of<'a>(
+    alloc: Global,
+    attrs: Seq<ItemAttr>,
+    parts: (Head<'a>, Members<'a>),
+) -> Result<ItemNode<'a>, AllocError>
+    ensures { IfOk result (λ i. item_view i ≡ spec.made_item attrs (unmarked_view parts.entry)) }
 {
     let (head, (assocs, methods)) = parts;
-    head.into_item(attrs, assocs, methods)
+    Ok(head.into_item(alloc, attrs, assocs, methods)?)
 }
 
 /// Implementations, to the end of the trees. Refuses where none stand there, or anything else does.
@@ -138,7 +143,7 @@ impl<F: Copy + for<'t, 'b> Fn(&mut Place<'t, 'b>, Wanted) -> Result<ExprNode<'b>
     {
         let found = attrs(place)?;
         let (found, parts) = joined(found, self.unmarked(place))?;
-        Ok(item_of(found, parts))
+        Ok(item_of(place.alloc(), found, parts)?)
     }
 
     /// Implementations, to the end, in at most so many turns.

@@ -1,7 +1,7 @@
 //! Methods.
 #![tactic(auto, using(crate::proofs::MethodSteps::method_steps))]
 
-ghost use Rattle.std.specs.Prelude.{◌≡◌, map};
+ghost use Rattle.std.specs.Prelude.{◌≡◌, IfOk, map};
 ghost use Rattle.dm_output.specs.Views.{block_view, method_view};
 ghost use Rattle.dm_reread.specs.Next.{next};
 ghost use Rattle.dm_reread.specs.Items as plain;
@@ -28,6 +28,7 @@ use dm_read_places::front::Keyword;
 use dm_read_places::list::{Rule, Turn, gathered};
 use dm_read_places::place::Place;
 use dm_stream::{Delim, Error, Ident, Seq};
+use std::alloc::{AllocError, Global};
 
 /// What methods and implementations are read by.
 #[derive(Clone, Copy)]
@@ -52,11 +53,15 @@ fn const_fn(place: &mut Place<'_, '_>) -> Result<bool, Error>
 type Behind<'a> = ((Ident<'a>, Signature<'a>), BlockNode<'a>);
 
 /// The parts as one.
-fn method_of<'a>(attrs: Seq<ItemAttr>, parts: (bool, Behind<'a>)) -> MethodNode<'a>
-    ensures { method_view result ≡ spec.made_method attrs (unnamed_view parts.entry) }
+fn method_of<'a>(
+    alloc: Global,
+    attrs: Seq<ItemAttr>,
+    parts: (bool, Behind<'a>),
+) -> Result<MethodNode<'a>, AllocError>
+    ensures { IfOk result (λ m. method_view m ≡ spec.made_method attrs (unnamed_view parts.entry)) }
 {
     let (is_const, ((name, signature), body)) = parts;
-    signature.into_method(attrs, is_const, name, body)
+    Ok(signature.into_method(alloc, attrs, is_const, name, body)?)
 }
 
 /// Methods, to the end.
@@ -168,7 +173,7 @@ impl<F: Copy + for<'t, 'b> Fn(&mut Place<'t, 'b>, Wanted) -> Result<ExprNode<'b>
     {
         let found = attrs(place)?;
         let (found, parts) = joined(found, self.unnamed(place))?;
-        Ok(method_of(found, parts))
+        Ok(method_of(place.alloc(), found, parts)?)
     }
 
     /// Methods, to the end, in at most so many turns.

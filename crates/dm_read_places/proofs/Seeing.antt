@@ -19,7 +19,7 @@ use Rattle.dm_read_places.specs.declared.front.Keyword.{Keyword}
 use Rattle.dm_read_places.specs.declared.front.Keyword.TheVariants as keyword
 use Rattle.dm_read_places.specs.declared.front.Kind.{Kind}
 use Rattle.dm_read_places.specs.declared.front.Kind.TheVariants as kinds
-use Rattle.dm_reread.specs.Next.{Word, of_path, Next, ended, oror, andand, equals, differs, star, amp, dot, asks, bangs, plus, less, hash, bar, comma, colon, semicolon, assigns, leads, arrow, colons, dots, in_parens, in_braces, in_brackets, literal, a_name, a_word, other, word_next, alone_next, pair_next, last_next, second_next, joint_next, punct_next, token_next, group_next, next}
+use Rattle.dm_reread.specs.Next.{Word, of_path, Next, ended, in_parens, in_braces, in_brackets, literal, a_name, a_word, other, word_next, alone_next, pair_next, last_next, joint_next, punct_next, group_next, next}
 use Rattle.dm_reread.specs.Next as words
 use Rattle.dm_read_places.specs.Fronts.{number, sign_next, same_sign, is_sign, is_any_sign, keyword_word, word_of, is_path_kind, same_keyword, is_keyword, is_name_next, is_literal_next, is_group_next}
 

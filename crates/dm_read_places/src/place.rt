@@ -1,7 +1,7 @@
 //! What rules read from: a place in a list of trees, and the memory for what is read.
 #![tactic(auto, using(crate::proofs::Seeing::place_steps))]
 
-ghost use Rattle.std.specs.Prelude.{◌≡◌, false, MatchOption, MatchResult};
+ghost use Rattle.std.specs.Prelude.{◌≡◌, false, MatchOption};
 ghost use Rattle.dm_stream.specs.Cursors.{left, sound};
 ghost use Rattle.dm_ast.specs.Spelling as spelling;
 ghost use Rattle.dm_reread.specs.Next.{next, a_name, literal, group_next};

@@ -1,5 +1,5 @@
 -- Statements that hold no expressions, as the plain reader reads them.
-use Rattle.std.specs.Prelude.{ℕ, Option, Some, None}
+use Rattle.std.specs.Prelude.{ℕ, Option, Some}
 use Rattle.dm_stream.specs.declared.tokens.Ident.{Ident}
 use Rattle.dm_stream.specs.declared.tokens.Literal.{Literal}
 use Rattle.dm_stream.specs.Trees.{Trees}

@@ -2,7 +2,7 @@
 #![tactic(auto, using(crate::proofs::StatementSteps::statement_steps))]
 
 ghost use Rattle.std.specs.Prelude.{◌≡◌, option_map};
-ghost use Rattle.dm_ast.specs.Tree.{ty_view, path_view};
+ghost use Rattle.dm_ast.specs.Tree.{ty_view};
 ghost use Rattle.dm_output.specs.Views.{stmt_view, opaque_view};
 ghost use Rattle.dm_reread.specs.Next.{next};
 ghost use Rattle.dm_reread.specs.Reading as plain;
@@ -25,7 +25,8 @@ pub fn check<'a>(place: &mut Place<'_, 'a>) -> Result<StmtNode<'a>, Error>
     ensures { Reads stmt_view spec.check_of place.old result place.new }
 {
     place.colon()?;
-    Ok(check_of(ty(place)?))
+    let found = ty(place)?;
+    Ok(check_of(place.alloc(), found)?)
 }
 
 /// `as _`
@@ -42,7 +43,7 @@ fn import<'a>(fuel: usize, place: &mut Place<'_, 'a>) -> Result<StmtNode<'a>, Er
 {
     let found = path(fuel, place)?;
     let found = ended(found, as_wild(place))?;
-    Ok(import_of(found))
+    Ok(import_of(place.alloc(), found)?)
 }
 
 /// `0`
@@ -105,7 +106,7 @@ fn constant<'a>(place: &mut Place<'_, 'a>) -> Result<StmtNode<'a>, Error>
 {
     let name = place.declared()?;
     let (name, behind) = joined(name, typed(place))?;
-    Ok(const_of(name, behind))
+    Ok(const_of(place.alloc(), name, behind)?)
 }
 
 /// An import and a semicolon, behind `use`. Refused where they don't stand there. `fuel` is more than the number of the path's segments.

@@ -1,5 +1,5 @@
 -- What leaves read of the tokens of their own, they read just so.
-use Rattle.std.proofs.Common.{◌≡◌, ℕ, ◌+◌, ◌-◌, Bool, true, false, ◌&&◌, nat_eq, List, [], ◌∷◌, ◌++◌, length, take, Option, Some, None, T, refl, sym, ap, ◌∙◌, arith}
+use Rattle.std.proofs.Common.{◌≡◌, ℕ, ◌+◌, ◌-◌, Bool, true, false, ◌&&◌, nat_eq, List, [], ◌∷◌, ◌++◌, length, take, Option, Some, T, refl, ap, ◌∙◌, arith}
 use Rattle.std.specs.Str.{bytes_eq}
 use Rattle.std.proofs.lemmas.Slice.Eq.{bytes_eq-Decides}
 use Rattle.std.proofs.lemmas.Bool.{eq-eqb}
@@ -27,7 +27,7 @@ use Rattle.dm_reread.specs.Items.{HeadTree, between_trees}
 use Rattle.dm_reread.specs.ItemGrammar.{ends_head}
 use Rattle.dm_reread.specs.TypeLeaves.{read_type, IsType}
 use Rattle.dm_reread.specs.PathLeaves.{read_qualified, IsQualified}
-use Rattle.dm_reread.specs.RunLeaves.{read_run, is_closed, IsRun}
+use Rattle.dm_reread.specs.RunLeaves.{is_closed, IsRun}
 use Rattle.dm_reread.specs.HeadLeaves.{are_plain, plain_head, IsHead}
 use Rattle.dm_reread.specs.ExactLeaves.{passed, has_entries, exactly, exact_type, exact_qualified, exact_head, closed_run}
 use Rattle.dm_reread.proofs.TypeLeaf.{type_back}

@@ -10,7 +10,7 @@ use Rattle.dm_output.specs.declared.pattern.Binding.TheVariants as binding
 use Rattle.dm_output.specs.declared.expr.Member.TheVariants as m
 use Rattle.dm_output.specs.Output.{FmtArgTree, PatternTree, wild, bind, str_pattern, path_pattern, tuple_pattern, named_pattern, pair_pattern, PatternTrees, no_patterns, pattern_then, NamedPatterns, no_named, named_then, ExprTree, return_expr, or_expr, and_expr, equal, unequal, ref_opaque, ref_expr, deref, member, method_call, map_expr, map_err, question, path_expr, call, build, build_named, paren, tuple, opaque_call, str_expr, bool, match_expr, unsafe_expr, write_expr, format_args, ExprTrees, no_exprs, expr_then, NamedExprs, no_named_exprs, named_expr_then, MaybeExpr, no_expr, some_expr, ArmTrees, no_arms, arm_then, ArmBodyTree, block_body, expr_body, StmtTree, let_stmt, check_stmt, import_stmt, do_stmt, const_stmt, StmtTrees, no_stmts, stmt_then, BlockTree, block}
 use Rattle.dm_output.specs.Tokens as k
-use Rattle.dm_output.specs.Tokens.{expr_trees, each_expr, ended, each_named_expr, maybe_trees, arms_trees, guard_trees, body_trees, stmt_trees, stmts_trees, inside_trees, pattern_trees, each_pattern, each_named, path_expr_trees, alias_trees, fmt_trees, base_trees}
+use Rattle.dm_output.specs.Tokens.{expr_trees, each_expr, ended, each_named_expr, maybe_trees, arms_trees, guard_trees, body_trees, stmt_trees, stmts_trees, inside_trees, pattern_trees, each_pattern, each_named, path_expr_trees, alias_trees}
 use Rattle.dm_reread.specs.Leaves.{LeafGrammar}
 use Rattle.dm_reread.specs.Grammar.{Level, at_or, at_and, at_cmp, ArePlain, IsPlainPath, IsPath, IsExpr, Each, IsPattern, ArePatterns, AreNamedPatterns, EachNamed, IsMaybe, AreArms, IsBody, IsStmt, AreStmts, IsBlock}
 use Rattle.dm_reread.specs.Need.{need, needs, segments_need, path_need, any_path_need, fmt_args_need, named_need, maybe_need, arms_need, body_need, stmt_need, stmts_need, block_need, pattern_need, patterns_need, named_patterns_need}

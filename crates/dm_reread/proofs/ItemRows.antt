@@ -10,7 +10,7 @@ use Rattle.dm_ast.specs.Tree.{TypeTree}
 use Rattle.dm_ast.specs.TypeTokens.{given, name, type_trees}
 use Rattle.dm_output.specs.Output.{AssocTree, ParamOfMethod, MethodTree, ItemTree}
 use Rattle.dm_output.specs.Tokens as k
-use Rattle.dm_output.specs.Tokens.{in_turn, attr_inside, attr_trees, assoc_trees, method_trees, head_trees, item_trees, signature_trees, block_trees, inside_trees, inputs_trees, output_trees, method_param_trees, receiver_trees, private_bounds, dead_code, deprecated, unreachable_code, non_upper_case_globals, unused_unit, automatically_derived, track_caller}
+use Rattle.dm_output.specs.Tokens.{in_turn, attr_inside, attr_trees, assoc_trees, method_trees, head_trees, item_trees, signature_trees, block_trees, inside_trees, inputs_trees, output_trees, method_param_trees, private_bounds, dead_code, deprecated, unreachable_code, non_upper_case_globals, unused_unit, automatically_derived, track_caller}
 use Rattle.dm_output.specs.declared.item.ItemAttr.{ItemAttr}
 use Rattle.dm_output.specs.declared.item.ItemAttr.TheVariants as attr
 use Rattle.dm_output.specs.declared.item.Receiver.{Receiver}

@@ -12,7 +12,7 @@ use Rattle.dm_ast.specs.Tree.{TypeTree, MaybeSelf, no_self, some_self, PathTree,
 use Rattle.dm_ast.specs.TypeTokens.{name, spaced, path_trees}
 use Rattle.dm_output.specs.Output.{FmtArgTree, FmtTree, ExprTree, write_expr, format_args, ExprTrees, no_exprs, expr_then}
 use Rattle.dm_output.specs.Tokens as k
-use Rattle.dm_output.specs.Tokens.{expr_trees, each_expr, ended, path_expr_trees, alias_trees, fmt_arg_trees, fmt_trees}
+use Rattle.dm_output.specs.Tokens.{expr_trees, each_expr, ended, path_expr_trees, alias_trees, fmt_trees}
 use Rattle.dm_reread.specs.Next.{a_name, next}
 use Rattle.dm_reread.specs.Leaves.{LeafGrammar, Leaves, ends_qualified, ends_run, LeafLaws}
 use Rattle.dm_reread.specs.Reading.{Readers, segment_from, more_segments, plain_path, path_base, after_path, read_base, more_args, read_args, is_alone, alias_of, read_fmt_arg, more_fmt_args, read_fmt, pattern_path, read_pattern}

@@ -1,5 +1,5 @@
 -- Leaves that read just what is printed: what is read has the tokens that were passed, ranges aside.
-use Rattle.std.specs.Prelude.{ℕ, ◌-◌, Bool, List, length, take, Option, Some}
+use Rattle.std.specs.Prelude.{◌-◌, Bool, List, length, take, Option, Some}
 use Rattle.dm_stream.specs.declared.tokens.Entry.{Entry}
 use Rattle.dm_stream.specs.Trees.{Trees, flatten}
 use Rattle.dm_ast.specs.Tree.{TypeTree, MaybeSelf, PathTree}

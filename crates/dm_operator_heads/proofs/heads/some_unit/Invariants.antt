@@ -1,4 +1,4 @@
-use Rattle.std.proofs.Common.{◌≡◌, ◌++◌, map, drop}
+use Rattle.std.proofs.Common.{◌≡◌, map, drop}
 use Rattle.dm_ast.specs.Declarations.{variant_view}
 use Rattle.dm_output.specs.Values.{case_of_variant}
 use Rattle.dm_operators.specs.Meaning as meaning

@@ -1,5 +1,6 @@
 -- One part alone.
-use Rattle.std.proofs.Common.{◌≡◌, ◌∙◌, length, map, Some, sym, ap, arith}
+use Rattle.std.proofs.Common.{◌≡◌, ◌∙◌, ◌++◌, length, map, Some, sym, ap, arith}
+use Rattle.std.specs.Option.{option_to_list}
 use Rattle.std.proofs.lemmas.Bool.Decides.{nat_tests}
 use Rattle.dm_output.specs.Output.{exprs_of}
 use Rattle.dm_output.specs.Views.{expr_view}
@@ -7,9 +8,10 @@ use Rattle.dm_read_exprs.specs.Rows.{tuple_only}
 use Rattle.dm_read_exprs.proofs.TupleSteps.{one_part}
 use Rattle.dm_read_exprs.proofs.base.tuple_or_paren.Goals as goal
 
-pub returns : goal.returns
-returns c =
+pub returns-in-Ok-Some : goal.returns-in-Ok-Some
+returns-in-Ok-Some c =
     let one : length c.args.parts ≡ 1 = let e = c.if-len-ne1.false in let f = c.len.ensures in grind (arith, nat_tests) in
+    let taken = c.in-Ok-Some.ensures.taken ∙ ap (λ o. c.pop.new.self ++ option_to_list o) c.in-Ok-Some.field-0-is in
     ap (λ b. tuple_only b (exprs_of (map expr_view c.args.parts))) c.if-last.false ∙
-    one_part c.args.parts c.pop.new.self c.in-Some.only one c.in-Some.ensures.taken ∙
-    ap Some (sym c.in_ok-paren_of-in-Some.ensures)
+    one_part c.args.parts c.pop.new.self c.in-Ok-Some.only one taken ∙
+    ap Some (sym c.in_ok-paren_of-in-Ok-Some.ensures)

@@ -1,5 +1,5 @@
 -- What the input reads is read wherever the list ends.
-use Rattle.std.proofs.Common.{◌≡◌, Some, Err, sym, ap, ◌∙◌, subst}
+use Rattle.std.proofs.Common.{Some, Err, sym, ap, ◌∙◌, subst}
 use Rattle.dm_stream.specs.Cursors.{left, end_of}
 use Rattle.dm_stream.specs.Trees.{Trees}
 use Rattle.dm_read.specs.DeclarationReaders as decl
