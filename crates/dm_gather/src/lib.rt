@@ -1,4 +1,4 @@
-//! Parts put together: in lists, in front of others, and in boxes; and let go.
+//! Parts put together, in lists and in front of others; and let go.
 #![tactic(auto)]
 
 mod list;
@@ -7,4 +7,4 @@ mod node;
 mod tests;
 
 pub use list::Gathers;
-pub use node::{discard, fronted, two_boxes};
+pub use node::{discard, fronted};

@@ -16,18 +16,5 @@ pub fn fronted<T: Drop>(alloc: Global, first: T, others: Seq<T>) -> Result<Seq<T
     Ok(all)
 }
 
-/// Two parts in boxes.
-pub fn two_boxes<T: Drop>(
-    alloc: Global,
-    first: T,
-    second: T,
-) -> Result<(Box<T>, Box<T>), AllocError>
-    ensures { IfOk result (λ r. (r.0.value ≡ first) × (r.1.value ≡ second)) }
-{
-    let first = Box::new(alloc, first)?;
-    let second = Box::new(alloc, second)?;
-    Ok((first, second))
-}
-
 /// Drops a part.
 pub fn discard<T: Drop>(_part: T) {}

@@ -1,6 +1,6 @@
 //! Each call once.
 
-use crate::{Gathers, discard, fronted, two_boxes};
+use crate::{Gathers, discard, fronted};
 use dm_stream::Seq;
 use std::alloc::{AllocError, Global};
 
@@ -29,9 +29,7 @@ fn puts_in_front(rt: HostRuntime) -> Result<(), AllocError> {
 }
 
 #[test]
-fn boxes(rt: HostRuntime) -> Result<(), AllocError> {
-    let (first, second) = two_boxes(rt.alloc(), 3_u8, 5)?;
-    assert!(rt; *first == 3 && *second == 5);
-    discard(first);
+fn lets_go(rt: HostRuntime) -> Result<(), AllocError> {
+    discard(gathered(rt.alloc(), &[3])?);
     Ok(())
 }

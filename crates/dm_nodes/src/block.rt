@@ -44,7 +44,7 @@ impl<'a> BodyNode<'a> {
     }
 
     /// Its tree.
-    pub(crate) fn into_tree(self) -> ArmBody<'a>
+    pub fn into_tree(self) -> ArmBody<'a>
         ensures { result ≡ self.entry }
     {
         let Self { tree } = self;
@@ -85,7 +85,7 @@ impl<'a> ArmNode<'a> {
     }
 
     /// Its tree.
-    fn into_tree(self) -> Arm<'a>
+    pub fn into_tree(self) -> Arm<'a>
         ensures { result ≡ self.entry }
     {
         let Self { tree } = self;
@@ -174,7 +174,7 @@ impl<'a> StmtNode<'a> {
     }
 
     /// Its tree.
-    fn into_tree(self) -> Stmt<'a>
+    pub fn into_tree(self) -> Stmt<'a>
         ensures { result ≡ self.entry }
     {
         let Self { tree } = self;

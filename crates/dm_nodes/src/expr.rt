@@ -53,7 +53,7 @@ impl<'a> ExprNode<'a> {
     }
 
     /// Its tree.
-    pub(crate) fn into_tree(self) -> Expr<'a>
+    pub fn into_tree(self) -> Expr<'a>
         ensures { result ≡ self.entry }
     {
         Box::into_inner(self.into_box())
@@ -178,7 +178,7 @@ impl<'a> FieldNode<'a> {
     }
 
     /// Its tree.
-    fn into_tree(self) -> NamedExpr<'a>
+    pub fn into_tree(self) -> NamedExpr<'a>
         ensures { result ≡ self.entry }
     {
         let Self { tree } = self;

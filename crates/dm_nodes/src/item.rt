@@ -44,7 +44,7 @@ impl<'a> MethodNode<'a> {
     }
 
     /// Its tree.
-    fn into_tree(self) -> Method<'a>
+    pub fn into_tree(self) -> Method<'a>
         ensures { result ≡ self.entry }
     {
         let Self { tree } = self;
@@ -133,7 +133,7 @@ impl<'a> ItemNode<'a> {
     }
 
     /// Its tree.
-    fn into_tree(self) -> Item<'a>
+    pub fn into_tree(self) -> Item<'a>
         ensures { result ≡ self.entry }
     {
         let Self { tree } = self;

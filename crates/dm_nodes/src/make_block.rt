@@ -10,8 +10,9 @@ ghost use Rattle.dm_nodes.specs.Boxes.{last_view, IsBoxed};
 use crate::block::{ArmNode, BlockNode, BodyNode, StmtNode, StmtNodes};
 use crate::expr::{ExprNode, FieldNode};
 use dm_ast::{Opaque, Path, Ty};
-use dm_output::{Arm, ArmBody, Block, Expr, NamedExpr, Pattern, Stmt};
-use dm_stream::{Ident, Literal, Seq};
+use dm_output::{Arm, ArmBody, Block, Expr, NamedExpr, Stmt};
+use dm_pattern_nodes::node::PatternNodes;
+use dm_stream::{Ident, Literal};
 use std::alloc::{AllocError, Global};
 
 /// `x: a`
@@ -39,7 +40,7 @@ fn maybe_tree<'a>(node: Option<ExprNode<'a>>) -> Option<Expr<'a>>
 /// An arm.
 pub fn arm_of<'a>(
     alloc: Global,
-    patterns: Seq<Pattern<'a>>,
+    patterns: PatternNodes<'a>,
     behind: (Option<ExprNode<'a>>, BodyNode<'a>),
 ) -> Result<ArmNode<'a>, AllocError>
     ensures { IfOk result (λ a. arm_view a ≡ record { patterns = tree.patterns_of (map pattern_view patterns.entry); guard = tree.maybe_expr (option_map expr_view behind.entry.0); body = body_view behind.entry.1 }) }
@@ -48,7 +49,7 @@ pub fn arm_of<'a>(
     let guard = maybe_tree(guard);
     let body = body.into_tree();
     let tree = Arm {
-        patterns,
+        patterns: patterns.into_trees(),
         guard,
         body,
     };

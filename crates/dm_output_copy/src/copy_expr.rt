@@ -1,117 +1,51 @@
-//! Copies of expressions, statements, blocks and arms. Copies of the parts of a node are in boxes: a box is cheap to hand on.
+//! Copies of expressions, statements, blocks and arms, as nodes.
 
-ghost use Rattle.std.specs.Prelude.{◌≡◌, IfOk, map};
+ghost use Rattle.std.specs.Prelude.{IfOk, ◌≡◌, map, option_map};
 ghost use Rattle.dm_output.specs.Views.{expr_view, named_expr_view, stmt_view, block_view, arm_view, body_view};
 
 use crate::clone_emitted::CloneEmitted;
+use crate::copy_parts::{constant, field_of, method_call};
 use crate::copy_pattern::copy_patterns;
-use crate::expr_nodes::{
-    block_body, constant, do_stmt, expr_body, field_of, guarded, let_stmt, method_call, open_block,
-    plain, value_block,
+use crate::node::{made, made_of_two, with_part};
+use dm_copy::{CloneIn, both};
+use dm_gather::Gathers;
+use dm_nodes::block::{ArmNode, ArmNodes, BlockNode, BodyNode, StmtNode, StmtNodes};
+use dm_nodes::expr::{ExprNode, ExprNodes, FieldNodes};
+use dm_nodes::make_block::{
+    arm_of, block_body, block_of, check_of, do_of, expr_body, import_of, let_of,
 };
-use crate::node::{added, node_of, node_of_three, node_of_two, unboxed};
-use dm_copy::{CloneIn, boxed};
+use dm_nodes::make_expr::{
+    and_of, bool_of, build_of, built, call_of, deref_of, equal_of, format_args_of, map_err_of,
+    map_of, match_of, member_of, opaque_call, or_of, paren_of, path_expr, question_of, ref_of,
+    ref_opaque, return_of, str_of, tuple_of, unequal_of, unsafe_of, write_of,
+};
 use dm_output::{Arm, ArmBody, Block, Expr, NamedExpr, Stmt};
-use dm_stream::Seq;
 use std::alloc::{AllocError, Global};
 
-impl<'a> CloneEmitted for Expr<'a> {
-    ghost use Rattle.dm_output.specs.Output.{ExprTree};
-
-    ghost Shape = { ExprTree };
-
-    ghost shape = { expr_view };
-
-    fn clone_in(&self, alloc: Global) -> Result<Self, AllocError> {
-        unboxed(copy_expr(self, alloc))
-    }
-}
-
-impl<'a> CloneEmitted for NamedExpr<'a> {
-    ghost use Rattle.dm_stream.specs.declared.tokens.Ident.{Ident};
-    ghost use Rattle.dm_output.specs.Output.{ExprTree};
-
-    ghost Shape = { Ident × ExprTree };
-
-    ghost shape = { named_expr_view };
-
-    fn clone_in(&self, alloc: Global) -> Result<Self, AllocError> {
-        unboxed(field_of(self, alloc, copy_expr(&self.value, alloc)))
-    }
-}
-
-impl<'a> CloneEmitted for Block<'a> {
-    ghost use Rattle.dm_output.specs.Output.{BlockTree};
-
-    ghost Shape = { BlockTree };
-
-    ghost shape = { block_view };
-
-    fn clone_in(&self, alloc: Global) -> Result<Self, AllocError> {
-        unboxed(copy_block(self, alloc))
-    }
-}
-
-impl<'a> CloneEmitted for Stmt<'a> {
-    ghost use Rattle.dm_output.specs.Output.{StmtTree};
-
-    ghost Shape = { StmtTree };
-
-    ghost shape = { stmt_view };
-
-    fn clone_in(&self, alloc: Global) -> Result<Self, AllocError> {
-        unboxed(copy_stmt(self, alloc))
-    }
-}
-
-impl<'a> CloneEmitted for Arm<'a> {
-    ghost use Rattle.dm_output.specs.Output.{ArmTree};
-
-    ghost Shape = { ArmTree };
-
-    ghost shape = { arm_view };
-
-    fn clone_in(&self, alloc: Global) -> Result<Self, AllocError> {
-        unboxed(copy_arm(self, alloc))
-    }
-}
-
-impl<'a> CloneEmitted for ArmBody<'a> {
-    ghost use Rattle.dm_output.specs.Output.{ArmBodyTree};
-
-    ghost Shape = { ArmBodyTree };
-
-    ghost shape = { body_view };
-
-    fn clone_in(&self, alloc: Global) -> Result<Self, AllocError> {
-        unboxed(copy_body(self, alloc))
-    }
-}
-
 #[cycle(copy_expr)]
-fn copy_expr<'a>(expr: &Expr<'a>, alloc: Global) -> Result<Box<Expr<'a>>, AllocError>
-    ensures { IfOk result (λ r. expr_view r.value ≡ expr_view expr.now) }
+pub(crate) fn copy_expr<'a>(expr: &Expr<'a>, alloc: Global) -> Result<ExprNode<'a>, AllocError>
+    ensures { IfOk result (λ r. expr_view r ≡ expr_view expr.now) }
 {
     match expr {
-        Expr::Return(inner) => node_of(alloc, copy_expr(inner, alloc), Expr::Return),
-        Expr::Or(all) => node_of(alloc, copy_exprs(all.as_slice(), alloc), Expr::Or),
-        Expr::And(all) => node_of(alloc, copy_exprs(all.as_slice(), alloc), Expr::And),
+        Expr::Return(inner) => made(alloc, copy_expr(inner, alloc), return_of),
+        Expr::Or(all) => made(alloc, copy_exprs(all.as_slice(), alloc), or_of),
+        Expr::And(all) => made(alloc, copy_exprs(all.as_slice(), alloc), and_of),
         Expr::Equal(left, right) => {
             let left = copy_expr(left, alloc);
-            node_of_two(alloc, left, copy_expr(right, alloc), Expr::Equal)
+            made_of_two(alloc, left, copy_expr(right, alloc), equal_of)
         }
         Expr::Unequal(left, right) => {
             let left = copy_expr(left, alloc);
-            node_of_two(alloc, left, copy_expr(right, alloc), Expr::Unequal)
+            made_of_two(alloc, left, copy_expr(right, alloc), unequal_of)
         }
-        Expr::RefOpaque(tokens) => node_of(alloc, tokens.clone_in(alloc), Expr::RefOpaque),
+        Expr::RefOpaque(tokens) => made(alloc, tokens.clone_in(alloc), ref_opaque),
         Expr::Ref(is_mut, inner) => {
-            node_of_two(alloc, Ok(*is_mut), copy_expr(inner, alloc), Expr::Ref)
+            made_of_two(alloc, Ok(*is_mut), copy_expr(inner, alloc), ref_of)
         }
-        Expr::Deref(inner) => node_of(alloc, copy_expr(inner, alloc), Expr::Deref),
+        Expr::Deref(inner) => made(alloc, copy_expr(inner, alloc), deref_of),
         Expr::Member(inner, member) => {
             let inner = copy_expr(inner, alloc);
-            node_of_two(alloc, inner, member.clone_in(alloc), Expr::Member)
+            made_of_two(alloc, inner, member.clone_in(alloc), member_of)
         }
         Expr::MethodCall(inner, name, all) => {
             let receiver = copy_expr(inner, alloc);
@@ -120,146 +54,152 @@ fn copy_expr<'a>(expr: &Expr<'a>, alloc: Global) -> Result<Box<Expr<'a>>, AllocE
         }
         Expr::Map(option, value) => {
             let option = copy_expr(option, alloc);
-            node_of_two(alloc, option, copy_expr(value, alloc), Expr::Map)
+            made_of_two(alloc, option, copy_expr(value, alloc), map_of)
         }
         Expr::MapErr(inner, tokens) => {
             let inner = copy_expr(inner, alloc);
-            node_of_two(alloc, inner, tokens.clone_in(alloc), Expr::MapErr)
+            made_of_two(alloc, inner, tokens.clone_in(alloc), map_err_of)
         }
-        Expr::Question(inner) => node_of(alloc, copy_expr(inner, alloc), Expr::Question),
-        Expr::Path(path) => node_of(alloc, path.clone_in(alloc), Expr::Path),
+        Expr::Question(inner) => made(alloc, copy_expr(inner, alloc), question_of),
+        Expr::Path(path) => made(alloc, path.clone_in(alloc), path_expr),
         Expr::Call(path, all) => {
             let all = copy_exprs(all.as_slice(), alloc);
-            node_of_two(alloc, path.clone_in(alloc), all, Expr::Call)
+            made_of_two(alloc, path.clone_in(alloc), all, call_of)
         }
         Expr::Build(path, all) => {
             let all = copy_exprs(all.as_slice(), alloc);
-            node_of_two(alloc, path.clone_in(alloc), all, Expr::Build)
+            made_of_two(alloc, path.clone_in(alloc), all, build_of)
         }
         Expr::BuildNamed(path, all) => {
             let all = copy_fields(all.as_slice(), alloc);
-            node_of_two(alloc, path.clone_in(alloc), all, Expr::BuildNamed)
+            made_of_two(alloc, path.clone_in(alloc), all, built)
         }
-        Expr::Paren(inner) => node_of(alloc, copy_expr(inner, alloc), Expr::Paren),
-        Expr::Tuple(all) => node_of(alloc, copy_exprs(all.as_slice(), alloc), Expr::Tuple),
+        Expr::Paren(inner) => made(alloc, copy_expr(inner, alloc), paren_of),
+        Expr::Tuple(all) => made(alloc, copy_exprs(all.as_slice(), alloc), tuple_of),
         Expr::OpaqueCall(tokens, inner) => {
             let inner = copy_expr(inner, alloc);
-            node_of_two(alloc, tokens.clone_in(alloc), inner, Expr::OpaqueCall)
+            made_of_two(alloc, tokens.clone_in(alloc), inner, opaque_call)
         }
-        Expr::Str(text) => node_of(alloc, text.clone_in(alloc), Expr::Str),
-        Expr::Bool(value) => boxed(alloc, Ok(Expr::Bool(*value))),
+        Expr::Str(text) => made(alloc, text.clone_in(alloc), str_of),
+        Expr::Bool(value) => bool_of(alloc, *value),
         Expr::Match(subject, all) => {
             let subject = copy_expr(subject, alloc);
-            node_of_two(
-                alloc,
-                subject,
-                copy_arms(all.as_slice(), alloc),
-                Expr::Match,
-            )
+            made_of_two(alloc, subject, copy_arms(all.as_slice(), alloc), match_of)
         }
-        Expr::Unsafe(inner) => node_of(alloc, copy_expr(inner, alloc), Expr::Unsafe),
+        Expr::Unsafe(inner) => made(alloc, copy_expr(inner, alloc), unsafe_of),
         Expr::Write(name, format) => {
-            node_of_two(
-                alloc,
-                name.clone_in(alloc),
-                format.clone_in(alloc),
-                Expr::Write,
-            )
+            let name = name.clone_in(alloc);
+            made_of_two(alloc, name, format.clone_in(alloc), write_of)
         }
-        Expr::FormatArgs(format) => node_of(alloc, format.clone_in(alloc), Expr::FormatArgs),
+        Expr::FormatArgs(format) => made(alloc, format.clone_in(alloc), format_args_of),
     }
 }
 
 #[cycle(copy_expr)]
-fn copy_exprs<'a>(all: &[Expr<'a>], alloc: Global) -> Result<Seq<Expr<'a>>, AllocError>
+fn copy_exprs<'a>(all: &[Expr<'a>], alloc: Global) -> Result<ExprNodes<'a>, AllocError>
     ensures { IfOk result (λ r. map expr_view r ≡ map expr_view all.now) }
 {
-    let mut found = Seq::new(alloc);
+    let mut found: ExprNodes<'a> = Gathers::none(alloc);
     for expr in all {
-        found = added(found, copy_expr(expr, alloc))?;
+        found = with_part(found, copy_expr(expr, alloc))?;
     }
     Ok(found)
 }
 
 #[cycle(copy_expr)]
-fn copy_fields<'a>(all: &[NamedExpr<'a>], alloc: Global) -> Result<Seq<NamedExpr<'a>>, AllocError>
+fn copy_fields<'a>(all: &[NamedExpr<'a>], alloc: Global) -> Result<FieldNodes<'a>, AllocError>
     ensures { IfOk result (λ r. map named_expr_view r ≡ map named_expr_view all.now) }
 {
-    let mut found = Seq::new(alloc);
+    let mut found: FieldNodes<'a> = Gathers::none(alloc);
     for field in all {
         let value = copy_expr(&field.value, alloc);
-        found = added(found, field_of(field, alloc, value))?;
+        found = with_part(found, field_of(field, alloc, value))?;
     }
     Ok(found)
 }
 
 #[cycle(copy_expr)]
-fn copy_block<'a>(block: &Block<'a>, alloc: Global) -> Result<Box<Block<'a>>, AllocError>
-    ensures { IfOk result (λ r. block_view r.value ≡ block_view block.now) }
+fn copy_maybe<'a>(
+    expr: &Option<Expr<'a>>,
+    alloc: Global,
+) -> Result<Option<ExprNode<'a>>, AllocError>
+    ensures { IfOk result (λ r. option_map expr_view r ≡ option_map expr_view expr.now) }
 {
-    let stmts = copy_stmts(block.stmts.as_slice(), alloc);
-    match &block.last {
-        None => node_of(alloc, stmts, open_block),
-        Some(last) => node_of_two(alloc, stmts, copy_expr(last, alloc), value_block),
+    match expr {
+        None => Ok(None),
+        Some(expr) => Ok(Some(copy_expr(expr, alloc)?)),
     }
 }
 
 #[cycle(copy_expr)]
-fn copy_stmts<'a>(all: &[Stmt<'a>], alloc: Global) -> Result<Seq<Stmt<'a>>, AllocError>
+pub(crate) fn copy_block<'a>(block: &Block<'a>, alloc: Global) -> Result<BlockNode<'a>, AllocError>
+    ensures { IfOk result (λ r. block_view r ≡ block_view block.now) }
+{
+    let stmts = copy_stmts(block.stmts.as_slice(), alloc)?;
+    match &block.last {
+        None => Ok(block_of(stmts, None)),
+        Some(last) => Ok(block_of(stmts, Some(copy_expr(last, alloc)?))),
+    }
+}
+
+#[cycle(copy_expr)]
+fn copy_stmts<'a>(all: &[Stmt<'a>], alloc: Global) -> Result<StmtNodes<'a>, AllocError>
     ensures { IfOk result (λ r. map stmt_view r ≡ map stmt_view all.now) }
 {
-    let mut found = Seq::new(alloc);
+    let mut found: StmtNodes<'a> = Gathers::none(alloc);
     for stmt in all {
-        found = added(found, copy_stmt(stmt, alloc))?;
+        found = with_part(found, copy_stmt(stmt, alloc))?;
     }
     Ok(found)
 }
 
 #[cycle(copy_expr)]
-fn copy_stmt<'a>(stmt: &Stmt<'a>, alloc: Global) -> Result<Box<Stmt<'a>>, AllocError>
-    ensures { IfOk result (λ r. stmt_view r.value ≡ stmt_view stmt.now) }
+pub(crate) fn copy_stmt<'a>(stmt: &Stmt<'a>, alloc: Global) -> Result<StmtNode<'a>, AllocError>
+    ensures { IfOk result (λ r. stmt_view r ≡ stmt_view stmt.now) }
 {
     match stmt {
         Stmt::Let(name, value) => {
             let value = copy_expr(value, alloc);
-            node_of_two(alloc, name.clone_in(alloc), value, let_stmt)
+            made_of_two(alloc, name.clone_in(alloc), value, let_of)
         }
-        Stmt::Check(ty) => node_of(alloc, ty.clone_in(alloc), Stmt::Check),
-        Stmt::Import(path) => node_of(alloc, path.clone_in(alloc), Stmt::Import),
-        Stmt::Expr(value) => node_of(alloc, copy_expr(value, alloc), do_stmt),
+        Stmt::Check(ty) => made(alloc, ty.clone_in(alloc), check_of),
+        Stmt::Import(path) => made(alloc, path.clone_in(alloc), import_of),
+        Stmt::Expr(value) => made(alloc, copy_expr(value, alloc), do_of),
         Stmt::Const(name, ty, base, number) => constant(ty, name, base, number, alloc),
     }
 }
 
 #[cycle(copy_expr)]
-fn copy_arms<'a>(all: &[Arm<'a>], alloc: Global) -> Result<Seq<Arm<'a>>, AllocError>
+fn copy_arms<'a>(all: &[Arm<'a>], alloc: Global) -> Result<ArmNodes<'a>, AllocError>
     ensures { IfOk result (λ r. map arm_view r ≡ map arm_view all.now) }
 {
-    let mut found = Seq::new(alloc);
+    let mut found: ArmNodes<'a> = Gathers::none(alloc);
     for arm in all {
-        found = added(found, copy_arm(arm, alloc))?;
+        found = with_part(found, copy_arm(arm, alloc))?;
     }
     Ok(found)
 }
 
 #[cycle(copy_expr)]
-fn copy_arm<'a>(arm: &Arm<'a>, alloc: Global) -> Result<Box<Arm<'a>>, AllocError>
-    ensures { IfOk result (λ r. arm_view r.value ≡ arm_view arm.now) }
+pub(crate) fn copy_arm<'a>(arm: &Arm<'a>, alloc: Global) -> Result<ArmNode<'a>, AllocError>
+    ensures { IfOk result (λ r. arm_view r ≡ arm_view arm.now) }
 {
     let body = copy_body(&arm.body, alloc);
-    let patterns = copy_patterns(arm.patterns.as_slice(), alloc);
-    match &arm.guard {
-        None => node_of_two(alloc, patterns, body, plain),
-        Some(guard) => node_of_three(alloc, patterns, copy_expr(guard, alloc), body, guarded),
-    }
+    let behind = both(copy_maybe(&arm.guard, alloc), body);
+    made_of_two(
+        alloc,
+        copy_patterns(arm.patterns.as_slice(), alloc),
+        behind,
+        arm_of,
+    )
 }
 
 #[cycle(copy_expr)]
-fn copy_body<'a>(body: &ArmBody<'a>, alloc: Global) -> Result<Box<ArmBody<'a>>, AllocError>
-    ensures { IfOk result (λ r. body_view r.value ≡ body_view body.now) }
+pub(crate) fn copy_body<'a>(body: &ArmBody<'a>, alloc: Global) -> Result<BodyNode<'a>, AllocError>
+    ensures { IfOk result (λ r. body_view r ≡ body_view body.now) }
 {
     match body {
-        ArmBody::Block(block) => node_of(alloc, copy_block(block, alloc), block_body),
-        ArmBody::Expr(value) => node_of(alloc, copy_expr(value, alloc), expr_body),
+        ArmBody::Block(block) => made(alloc, copy_block(block, alloc), block_body),
+        ArmBody::Expr(value) => made(alloc, copy_expr(value, alloc), expr_body),
     }
 }

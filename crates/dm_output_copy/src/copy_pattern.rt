@@ -1,14 +1,18 @@
-//! Copies of patterns.
+//! Copies of patterns, as nodes.
 
 ghost use Rattle.std.specs.Prelude.{◌≡◌, IfOk, map};
 ghost use Rattle.dm_output.specs.declared.pattern.Pattern.TheViews.{out-NamedPattern};
 ghost use Rattle.dm_output.specs.Views.{pattern_view, named_view};
 
 use crate::clone_emitted::CloneEmitted;
-use crate::node::{added, node_of, node_of_three, node_of_two, unboxed};
-use dm_copy::{CloneIn, boxed};
+use crate::node::{made, made_of_two, with_part};
+use dm_copy::{CloneIn, both};
+use dm_gather::Gathers;
 use dm_output::{NamedPattern, Pattern};
-use dm_stream::{Ident, Seq};
+use dm_pattern_nodes::make::{
+    bind, named_part, named_pattern, pair_of, path_of, str_pattern, tuple_pattern, wild,
+};
+use dm_pattern_nodes::node::{NamedNode, NamedNodes, PatternNode, PatternNodes};
 use std::alloc::{AllocError, Global};
 
 impl<'a> CloneEmitted for Pattern<'a> {
@@ -19,7 +23,10 @@ impl<'a> CloneEmitted for Pattern<'a> {
     ghost shape = { pattern_view };
 
     fn clone_in(&self, alloc: Global) -> Result<Self, AllocError> {
-        unboxed(copy_pattern(self, alloc))
+        match copy_pattern(self, alloc) {
+            Ok(node) => Ok(node.into_tree()),
+            Err(error) => Err(error),
+        }
     }
 }
 
@@ -32,32 +39,33 @@ impl<'a> CloneEmitted for NamedPattern<'a> {
     ghost shape = { named_view };
 
     fn clone_in(&self, alloc: Global) -> Result<Self, AllocError> {
-        unboxed(field_of(self, alloc, copy_pattern(&self.pattern, alloc)))
+        match field_of(self, alloc, copy_pattern(&self.pattern, alloc)) {
+            Ok(node) => Ok(node.into_tree()),
+            Err(error) => Err(error),
+        }
     }
 }
 
 #[cycle(copy_pattern)]
-fn copy_pattern<'a>(pattern: &Pattern<'a>, alloc: Global) -> Result<Box<Pattern<'a>>, AllocError>
-    ensures { IfOk result (λ r. pattern_view r.value ≡ pattern_view pattern.now) }
+fn copy_pattern<'a>(pattern: &Pattern<'a>, alloc: Global) -> Result<PatternNode<'a>, AllocError>
+    ensures { IfOk result (λ r. pattern_view r ≡ pattern_view pattern.now) }
 {
     match pattern {
-        Pattern::Wild => boxed(alloc, Ok(Pattern::Wild)),
-        Pattern::Bind(how, name) => {
-            node_of_two(alloc, Ok(*how), name.clone_in(alloc), Pattern::Bind)
-        }
-        Pattern::Str(text) => node_of(alloc, text.clone_in(alloc), Pattern::Str),
-        Pattern::Path(path) => node_of(alloc, path.clone_in(alloc), Pattern::Path),
+        Pattern::Wild => wild(alloc),
+        Pattern::Bind(how, name) => made_of_two(alloc, Ok(*how), name.clone_in(alloc), bind),
+        Pattern::Str(text) => made(alloc, text.clone_in(alloc), str_pattern),
+        Pattern::Path(path) => made(alloc, path.clone_in(alloc), path_of),
         Pattern::Tuple(path, all) => {
             let all = copy_patterns(all.as_slice(), alloc);
-            node_of_two(alloc, path.clone_in(alloc), all, Pattern::Tuple)
+            made_of_two(alloc, path.clone_in(alloc), all, tuple_pattern)
         }
         Pattern::Named(path, all, rest) => {
-            let all = copy_fields(all.as_slice(), alloc);
-            node_of_three(alloc, path.clone_in(alloc), all, Ok(*rest), Pattern::Named)
+            let fields = both(copy_fields(all.as_slice(), alloc), Ok(*rest));
+            made_of_two(alloc, path.clone_in(alloc), fields, named_pattern)
         }
         Pattern::Pair(left, right) => {
             let left = copy_pattern(left, alloc);
-            node_of_two(alloc, left, copy_pattern(right, alloc), Pattern::Pair)
+            made_of_two(alloc, left, copy_pattern(right, alloc), pair_of)
         }
     }
 }
@@ -66,27 +74,24 @@ fn copy_pattern<'a>(pattern: &Pattern<'a>, alloc: Global) -> Result<Box<Pattern<
 pub(crate) fn copy_patterns<'a>(
     all: &[Pattern<'a>],
     alloc: Global,
-) -> Result<Seq<Pattern<'a>>, AllocError>
+) -> Result<PatternNodes<'a>, AllocError>
     ensures { IfOk result (λ r. map pattern_view r ≡ map pattern_view all.now) }
 {
-    let mut found = Seq::new(alloc);
+    let mut found: PatternNodes<'a> = Gathers::none(alloc);
     for pattern in all {
-        found = added(found, copy_pattern(pattern, alloc))?;
+        found = with_part(found, copy_pattern(pattern, alloc))?;
     }
     Ok(found)
 }
 
 #[cycle(copy_pattern)]
-fn copy_fields<'a>(
-    all: &[NamedPattern<'a>],
-    alloc: Global,
-) -> Result<Seq<NamedPattern<'a>>, AllocError>
+fn copy_fields<'a>(all: &[NamedPattern<'a>], alloc: Global) -> Result<NamedNodes<'a>, AllocError>
     ensures { IfOk result (λ r. map named_view r ≡ map named_view all.now) }
 {
-    let mut found = Seq::new(alloc);
+    let mut found: NamedNodes<'a> = Gathers::none(alloc);
     for field in all {
         let pattern = copy_pattern(&field.pattern, alloc);
-        found = added(found, field_of(field, alloc, pattern))?;
+        found = with_part(found, field_of(field, alloc, pattern))?;
     }
     Ok(found)
 }
@@ -95,19 +100,10 @@ fn copy_fields<'a>(
 fn field_of<'a>(
     field: &NamedPattern<'a>,
     alloc: Global,
-    pattern: Result<Box<Pattern<'a>>, AllocError>,
-) -> Result<Box<NamedPattern<'a>>, AllocError>
-    requires { IfOk pattern (λ p. pattern_view p.value ≡ pattern_view (out-NamedPattern field.now).pattern) }
-    ensures { IfOk result (λ r. named_view r.value ≡ named_view field.now) }
+    pattern: Result<PatternNode<'a>, AllocError>,
+) -> Result<NamedNode<'a>, AllocError>
+    requires { IfOk pattern (λ p. pattern_view p ≡ pattern_view (out-NamedPattern field.now).pattern) }
+    ensures { IfOk result (λ r. named_view r ≡ named_view field.now) }
 {
-    node_of_two(alloc, field.name.clone_in(alloc), pattern, named)
-}
-
-fn named<'a>(name: Ident<'a>, pattern: Box<Pattern<'a>>) -> NamedPattern<'a>
-    ensures { named_view result ≡ (name.entry, pattern_view pattern.entry.value) }
-{
-    NamedPattern {
-        name,
-        pattern: Box::into_inner(pattern),
-    }
+    made_of_two(alloc, field.name.clone_in(alloc), pattern, named_part)
 }

@@ -4,12 +4,13 @@
 //! their proofs.
 #![tactic(auto)]
 
+mod bare;
 mod clone_emitted;
 mod copy_expr;
 mod copy_item;
 mod copy_leaf;
+mod copy_parts;
 mod copy_pattern;
-mod expr_nodes;
 mod node;
 
 pub use clone_emitted::CloneEmitted;

@@ -82,7 +82,7 @@ impl<F: Copy + for<'t, 'b> Fn(&mut Place<'t, 'b>, Wanted) -> Result<ExprNode<'b>
     {
         let found = arm_patterns(place, self.parts.fuel, self.parts.room)?;
         let (found, behind) = joined(found, self.behind_patterns(place))?;
-        Ok(arm_of(place.alloc(), found.into_trees(), behind)?)
+        Ok(arm_of(place.alloc(), found, behind)?)
     }
 
     /// An arm, or the end of a list of them, with fuel for what is in it.

@@ -2,4 +2,3 @@ pub mod PatternTurns
 pub mod PatternNests
 pub mod PatternRows
 pub mod ArmPatterns
-pub mod Codes

@@ -3,5 +3,5 @@
 
 pub mod arm;
 pub mod nested;
+mod path_pattern;
 pub mod pattern;
-mod pattern_nodes;

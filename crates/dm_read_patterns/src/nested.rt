@@ -6,7 +6,7 @@ ghost use Rattle.dm_read_places.specs.Reads.{Reads};
 ghost use Rattle.dm_read_places.specs.Turns.{rows};
 
 use crate::pattern::Patterns;
-use dm_output::Pattern;
+use dm_pattern_nodes::node::PatternNode;
 use dm_read_places::place::Place;
 use dm_stream::Error;
 
@@ -16,7 +16,7 @@ pub fn pattern<'a>(
     place: &mut Place<'_, 'a>,
     fuel: usize,
     room: usize,
-) -> Result<Pattern<'a>, Error>
+) -> Result<PatternNode<'a>, Error>
     ensures { Reads pattern_view (rows fuel).pattern place.old result place.new }
 {
     if room == 0 {

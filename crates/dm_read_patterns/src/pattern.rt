@@ -12,19 +12,20 @@ ghost use Rattle.dm_read_patterns.specs.PatternNests.{PatternNests};
 ghost use Rattle.dm_read_patterns.specs.PatternRows as spec;
 ghost use Rattle.dm_read_places.specs.Turns.{rows};
 
-use crate::pattern_nodes::{
-    bind, named_part, named_pattern, pair_of, path_pattern, str_pattern, tuple_pattern, wild,
-};
+use crate::path_pattern::path_pattern;
 use dm_ast::Path;
-use dm_gather::two_boxes;
 use dm_input::join::{ended, joined};
-use dm_output::{Binding, NamedPattern, Pattern};
+use dm_output::Binding;
+use dm_pattern_nodes::make::{
+    bind, named_part, named_pattern, pair_of, str_pattern, tuple_pattern, wild,
+};
+use dm_pattern_nodes::node::{NamedNode, NamedNodes, PatternNode, PatternNodes};
 use dm_read_places::expect::is_str;
 use dm_read_places::front::{Keyword, Sign};
-use dm_read_places::list::{Rule, Turn, repeated};
+use dm_read_places::list::{Rule, Turn, gathered};
 use dm_read_places::path::path;
 use dm_read_places::place::Place;
-use dm_stream::{Delim, Error, Literal, Seq};
+use dm_stream::{Delim, Error, Literal};
 
 /// The rules of patterns.
 #[derive(Clone, Copy)]
@@ -39,10 +40,10 @@ pub struct Patterns<F> {
 
 impl<
     'a,
-    F: Copy + for<'t> Fn(&mut Place<'t, 'a>, usize, usize) -> Result<Pattern<'a>, Error>,
+    F: Copy + for<'t> Fn(&mut Place<'t, 'a>, usize, usize) -> Result<PatternNode<'a>, Error>,
 > Patterns<F> {
     /// A pattern in a pattern.
-    pub fn inner(&self, place: &mut Place<'_, 'a>) -> Result<Pattern<'a>, Error>
+    pub fn inner(&self, place: &mut Place<'_, 'a>) -> Result<PatternNode<'a>, Error>
         requires { PatternNests self.now.room (F.pre self.now.pattern) (F.post self.now.pattern) }
         ensures { Reads pattern_view (rows self.now.fuel).pattern place.old result place.new }
     {
@@ -61,7 +62,7 @@ impl<
     }
 
     /// A pattern, and a comma behind it.
-    fn before_comma(&self, place: &mut Place<'_, 'a>) -> Result<Pattern<'a>, Error>
+    fn before_comma(&self, place: &mut Place<'_, 'a>) -> Result<PatternNode<'a>, Error>
         requires { PatternNests self.now.room (F.pre self.now.pattern) (F.post self.now.pattern) }
         ensures { Reads pattern_view (spec.before_comma self.now.fuel) place.old result place.new }
     {
@@ -70,7 +71,7 @@ impl<
     }
 
     /// A field's pattern behind its name, and a comma.
-    fn behind_colon(&self, place: &mut Place<'_, 'a>) -> Result<Pattern<'a>, Error>
+    fn behind_colon(&self, place: &mut Place<'_, 'a>) -> Result<PatternNode<'a>, Error>
         requires { PatternNests self.now.room (F.pre self.now.pattern) (F.post self.now.pattern) }
         ensures { Reads pattern_view (spec.behind_colon self.now.fuel) place.old result place.new }
     {
@@ -79,59 +80,63 @@ impl<
     }
 
     /// A field with its pattern and a comma.
-    fn field(&self, place: &mut Place<'_, 'a>) -> Result<NamedPattern<'a>, Error>
+    fn field(&self, place: &mut Place<'_, 'a>) -> Result<NamedNode<'a>, Error>
         requires { PatternNests self.now.room (F.pre self.now.pattern) (F.post self.now.pattern) }
         ensures { Reads named_view (spec.field self.now.fuel) place.old result place.new }
     {
         let name = place.declared()?;
         let (name, found) = joined(name, self.behind_colon(place))?;
-        Ok(named_part(name, found))
+        Ok(named_part(place.alloc(), name, found)?)
     }
 
     /// Patterns with a comma behind each, to the end.
-    fn all(&self, place: &mut Place<'_, 'a>) -> Result<Seq<Pattern<'a>>, Error>
+    fn all(&self, place: &mut Place<'_, 'a>) -> Result<PatternNodes<'a>, Error>
         requires { PatternNests self.now.room (F.pre self.now.pattern) (F.post self.now.pattern) }
         ensures { ReadsWhole (λ v. patterns_of (map pattern_view v)) (rows self.now.fuel).patterns place.old result }
     {
-        let (found, _) = repeated(&PatternRule { rules: self }, self.fuel, place)?;
+        let (found, _) = gathered(&PatternRule { rules: self }, self.fuel, place)?;
         Ok(found)
     }
 
     /// Fields with their patterns, to the end, and whether `..` stands there.
-    fn fields(&self, place: &mut Place<'_, 'a>) -> Result<(Seq<NamedPattern<'a>>, bool), Error>
+    fn fields(&self, place: &mut Place<'_, 'a>) -> Result<(NamedNodes<'a>, bool), Error>
         requires { PatternNests self.now.room (F.pre self.now.pattern) (F.post self.now.pattern) }
         ensures { ReadsWhole (λ v. (named_of (map named_view v.0), v.1)) (rows self.now.fuel).named_patterns place.old result }
     {
-        repeated(&FieldRule { rules: self }, self.fuel, place)
+        gathered(&FieldRule { rules: self }, self.fuel, place)
     }
 
     /// The patterns behind the first, with `|` before each.
-    pub fn alternatives(&self, place: &mut Place<'_, 'a>) -> Result<Seq<Pattern<'a>>, Error>
+    pub fn alternatives(&self, place: &mut Place<'_, 'a>) -> Result<PatternNodes<'a>, Error>
         requires { PatternNests self.now.room (F.pre self.now.pattern) (F.post self.now.pattern) }
         ensures { Reads (λ v. patterns_of (map pattern_view v)) (rows self.now.fuel).bars place.old result place.new }
     {
-        let (found, _) = repeated(&BarRule { rules: self }, self.fuel, place)?;
+        let (found, _) = gathered(&BarRule { rules: self }, self.fuel, place)?;
         Ok(found)
     }
 
     /// A pattern by the path that it begins with.
-    fn behind_path(&self, found: Path<'a>, place: &mut Place<'_, 'a>) -> Result<Pattern<'a>, Error>
+    fn behind_path(
+        &self,
+        found: Path<'a>,
+        place: &mut Place<'_, 'a>,
+    ) -> Result<PatternNode<'a>, Error>
         requires { PatternNests self.now.room (F.pre self.now.pattern) (F.post self.now.pattern) }
         ensures { Reads pattern_view (λ ts. plain.after_pattern_path (rows self.now.fuel) (path_view found.entry) ts (next ts)) place.old result place.new }
     {
         if let Some(mut inside) = place.group(Delim::Paren) {
             let (found, parts) = joined(found, self.all(&mut inside))?;
-            return Ok(tuple_pattern(found, parts));
+            return Ok(tuple_pattern(place.alloc(), found, parts)?);
         }
         if let Some(mut inside) = place.group(Delim::Brace) {
             let (found, parts) = joined(found, self.fields(&mut inside))?;
-            return Ok(named_pattern(found, parts));
+            return Ok(named_pattern(place.alloc(), found, parts)?);
         }
         Ok(path_pattern(place.alloc(), found)?)
     }
 
     /// A pattern that begins with a path.
-    fn with_path(&self, place: &mut Place<'_, 'a>) -> Result<Pattern<'a>, Error>
+    fn with_path(&self, place: &mut Place<'_, 'a>) -> Result<PatternNode<'a>, Error>
         requires { PatternNests self.now.room (F.pre self.now.pattern) (F.post self.now.pattern) }
         ensures { Reads pattern_view (λ ts. plain.pattern_path (rows self.now.fuel) (next ts)) place.old result place.new }
     {
@@ -140,7 +145,7 @@ impl<
     }
 
     /// A comma, and the last pattern.
-    fn last(&self, place: &mut Place<'_, 'a>) -> Result<Pattern<'a>, Error>
+    fn last(&self, place: &mut Place<'_, 'a>) -> Result<PatternNode<'a>, Error>
         requires { PatternNests self.now.room (F.pre self.now.pattern) (F.post self.now.pattern) }
         ensures { ReadsWhole pattern_view (spec.last self.now.fuel) place.old result }
     {
@@ -150,23 +155,22 @@ impl<
     }
 
     /// Two patterns with a comma between.
-    fn pair(&self, place: &mut Place<'_, 'a>) -> Result<Pattern<'a>, Error>
+    fn pair(&self, place: &mut Place<'_, 'a>) -> Result<PatternNode<'a>, Error>
         requires { PatternNests self.now.room (F.pre self.now.pattern) (F.post self.now.pattern) }
         ensures { ReadsWhole pattern_view (spec.pair self.now.fuel) place.old result }
     {
         let first = self.inner(place)?;
         let (first, second) = joined(first, self.last(place))?;
-        let (first, second) = two_boxes(place.alloc(), first, second)?;
-        Ok(pair_of(first, second))
+        Ok(pair_of(place.alloc(), first, second)?)
     }
 
     /// A pattern.
-    pub fn row(&self, place: &mut Place<'_, 'a>) -> Result<Pattern<'a>, Error>
+    pub fn row(&self, place: &mut Place<'_, 'a>) -> Result<PatternNode<'a>, Error>
         requires { PatternNests self.now.room (F.pre self.now.pattern) (F.post self.now.pattern) }
         ensures { Reads pattern_view (λ ts. plain.read_pattern (rows self.now.fuel) (next ts)) place.old result place.new }
     {
         if place.take_keyword(Keyword::Wild) {
-            return Ok(wild());
+            return Ok(wild(place.alloc())?);
         }
         if place.take_keyword(Keyword::Ref) {
             return referred(place);
@@ -190,14 +194,14 @@ struct PatternRule<'g, F> {
 impl<
     'g,
     'a,
-    F: Copy + for<'t> Fn(&mut Place<'t, 'a>, usize, usize) -> Result<Pattern<'a>, Error>,
+    F: Copy + for<'t> Fn(&mut Place<'t, 'a>, usize, usize) -> Result<PatternNode<'a>, Error>,
 > Rule<'a> for PatternRule<'g, F> {
     ghost use Rattle.dm_output.specs.Output.{PatternTree};
     ghost use Rattle.dm_output.specs.Views.{pattern_view};
     ghost use Rattle.dm_read_patterns.specs.PatternNests.{PatternNests};
     ghost use Rattle.dm_read_patterns.specs.PatternTurns.{pattern_turn};
 
-    type Part = Pattern<'a>;
+    type Part = PatternNode<'a>;
 
     type Last = ();
 
@@ -213,7 +217,11 @@ impl<
 
     ghost reader = { λ r. pattern_turn };
 
-    fn turn(&self, fuel: usize, place: &mut Place<'_, 'a>) -> Result<Turn<Pattern<'a>, ()>, Error> {
+    fn turn(
+        &self,
+        fuel: usize,
+        place: &mut Place<'_, 'a>,
+    ) -> Result<Turn<PatternNode<'a>, ()>, Error> {
         if place.at_end() {
             return Ok(Turn::End(()));
         }
@@ -230,7 +238,7 @@ struct FieldRule<'g, F> {
 impl<
     'g,
     'a,
-    F: Copy + for<'t> Fn(&mut Place<'t, 'a>, usize, usize) -> Result<Pattern<'a>, Error>,
+    F: Copy + for<'t> Fn(&mut Place<'t, 'a>, usize, usize) -> Result<PatternNode<'a>, Error>,
 > Rule<'a> for FieldRule<'g, F> {
     ghost use Rattle.std.specs.Prelude.{Bool};
     ghost use Rattle.dm_stream.specs.declared.tokens.Ident.{Ident};
@@ -239,7 +247,7 @@ impl<
     ghost use Rattle.dm_read_patterns.specs.PatternNests.{PatternNests};
     ghost use Rattle.dm_read_patterns.specs.PatternTurns.{named_pattern_turn};
 
-    type Part = NamedPattern<'a>;
+    type Part = NamedNode<'a>;
 
     type Last = bool;
 
@@ -259,7 +267,7 @@ impl<
         &self,
         fuel: usize,
         place: &mut Place<'_, 'a>,
-    ) -> Result<Turn<NamedPattern<'a>, bool>, Error> {
+    ) -> Result<Turn<NamedNode<'a>, bool>, Error> {
         if place.at_end() {
             return Ok(Turn::End(false));
         }
@@ -280,14 +288,14 @@ struct BarRule<'g, F> {
 impl<
     'g,
     'a,
-    F: Copy + for<'t> Fn(&mut Place<'t, 'a>, usize, usize) -> Result<Pattern<'a>, Error>,
+    F: Copy + for<'t> Fn(&mut Place<'t, 'a>, usize, usize) -> Result<PatternNode<'a>, Error>,
 > Rule<'a> for BarRule<'g, F> {
     ghost use Rattle.dm_output.specs.Output.{PatternTree};
     ghost use Rattle.dm_output.specs.Views.{pattern_view};
     ghost use Rattle.dm_read_patterns.specs.PatternNests.{PatternNests};
     ghost use Rattle.dm_read_patterns.specs.PatternTurns.{bar_turn};
 
-    type Part = Pattern<'a>;
+    type Part = PatternNode<'a>;
 
     type Last = ();
 
@@ -303,7 +311,11 @@ impl<
 
     ghost reader = { λ r. bar_turn };
 
-    fn turn(&self, fuel: usize, place: &mut Place<'_, 'a>) -> Result<Turn<Pattern<'a>, ()>, Error> {
+    fn turn(
+        &self,
+        fuel: usize,
+        place: &mut Place<'_, 'a>,
+    ) -> Result<Turn<PatternNode<'a>, ()>, Error> {
         if !place.take(Sign::Bar) {
             return Ok(Turn::End(()));
         }
@@ -312,15 +324,15 @@ impl<
 }
 
 /// A name that is bound.
-fn bound<'a>(how: Binding, place: &mut Place<'_, 'a>) -> Result<Pattern<'a>, Error>
+fn bound<'a>(how: Binding, place: &mut Place<'_, 'a>) -> Result<PatternNode<'a>, Error>
     ensures { Reads pattern_view (λ ts. plain.bind_name how (next ts)) place.old result place.new }
 {
     let name = place.declared()?;
-    Ok(bind(how, name))
+    Ok(bind(place.alloc(), how, name)?)
 }
 
 /// What stands behind `ref`.
-fn referred<'a>(place: &mut Place<'_, 'a>) -> Result<Pattern<'a>, Error>
+fn referred<'a>(place: &mut Place<'_, 'a>) -> Result<PatternNode<'a>, Error>
     ensures { Reads pattern_view (λ ts. plain.ref_from (next ts)) place.old result place.new }
 {
     if place.take_keyword(Keyword::Mut) {
@@ -330,11 +342,12 @@ fn referred<'a>(place: &mut Place<'_, 'a>) -> Result<Pattern<'a>, Error>
 }
 
 /// A string.
-fn text<'a>(found: &Literal<'a>, place: &Place<'_, 'a>) -> Result<Pattern<'a>, Error>
+fn text<'a>(found: &Literal<'a>, place: &Place<'_, 'a>) -> Result<PatternNode<'a>, Error>
     ensures { ReadsWhole pattern_view spec.text found.now result }
 {
     if !is_str(found.kind) {
         return Err(place.refused());
     }
-    Ok(str_pattern(found.clone_in(place.alloc())?))
+    let found = found.clone_in(place.alloc())?;
+    Ok(str_pattern(place.alloc(), found)?)
 }

@@ -1,5 +1,6 @@
 use native.Mathlib.Omega.{arith}
-use Rattle.dm_output.proofs.View.{view_Expr-Return, view_Expr-Or, view_Expr-And, view_Expr-Equal, view_Expr-Unequal, view_Expr-RefOpaque, view_Expr-Ref, view_Expr-Deref, view_Expr-Member, view_Expr-MethodCall, view_Expr-Map, view_Expr-MapErr, view_Expr-Question, view_Expr-Path, view_Expr-Call, view_Expr-Build, view_Expr-BuildNamed, view_Expr-Paren, view_Expr-Tuple, view_Expr-OpaqueCall, view_Expr-Str, view_Expr-Bool, view_Expr-Match, view_Expr-Unsafe, view_Expr-Write, view_Expr-FormatArgs, view_Stmt-Let, view_Stmt-Check, view_Stmt-Import, view_Stmt-Expr, view_Stmt-Const, view_ArmBody-Block, view_ArmBody-Expr, view-Block, view-Arm}
+use Rattle.dm_output.proofs.View.{view_Expr-Return, view_Expr-Or, view_Expr-And, view_Expr-Equal, view_Expr-Unequal, view_Expr-RefOpaque, view_Expr-Ref, view_Expr-Deref, view_Expr-Member, view_Expr-Map, view_Expr-MapErr, view_Expr-Question, view_Expr-Path, view_Expr-Call, view_Expr-Build, view_Expr-BuildNamed, view_Expr-Paren, view_Expr-Tuple, view_Expr-OpaqueCall, view_Expr-Str, view_Expr-Bool, view_Expr-Match, view_Expr-Unsafe, view_Expr-Write, view_Expr-FormatArgs, view_Stmt-Let, view_Stmt-Check, view_Stmt-Import, view_Stmt-Expr, view_Stmt-Const, view_ArmBody-Block, view_ArmBody-Expr, view-Block, view-Arm}
+use Rattle.dm_output_copy.proofs.CallCopies.{call_shown}
 use Rattle.dm_output_copy.proofs.copy_expr.+copy_expr.Goals as goal
 
 pub copy_expr-returns-in-Return : goal.copy_expr-returns-in-Return
@@ -30,7 +31,8 @@ pub copy_expr-returns-in-Member : goal.copy_expr-returns-in-Member
 copy_expr-returns-in-Member t c = grind (arith, view_Expr-Member)
 
 pub copy_expr-returns-in-MethodCall : goal.copy_expr-returns-in-MethodCall
-copy_expr-returns-in-MethodCall t c = grind (arith, view_Expr-MethodCall)
+copy_expr-returns-in-MethodCall t c =
+    call_shown c.method_call.result c.args.expr.now _ _ _ c.in-MethodCall.is c.method_call.ensures
 
 pub copy_expr-returns-in-Map : goal.copy_expr-returns-in-Map
 copy_expr-returns-in-Map t c = grind (arith, view_Expr-Map)
@@ -104,11 +106,8 @@ copy_body-returns-in-Expr t c = grind (arith, view_ArmBody-Expr)
 pub copy_block-returns-in-None : goal.copy_block-returns-in-None
 copy_block-returns-in-None t c = grind (arith, view-Block)
 
-pub copy_block-returns-in-Some : goal.copy_block-returns-in-Some
-copy_block-returns-in-Some t c = grind (arith, view-Block)
+pub copy_block-returns-in_ok-copy_expr-in-Some : goal.copy_block-returns-in_ok-copy_expr-in-Some
+copy_block-returns-in_ok-copy_expr-in-Some t c = grind (arith, view-Block)
 
-pub copy_arm-returns-in-None : goal.copy_arm-returns-in-None
-copy_arm-returns-in-None t c = grind (arith, view-Arm)
-
-pub copy_arm-returns-in-Some : goal.copy_arm-returns-in-Some
-copy_arm-returns-in-Some t c = grind (arith, view-Arm)
+pub copy_arm-returns : goal.copy_arm-returns
+copy_arm-returns t c = grind (arith, view-Arm)

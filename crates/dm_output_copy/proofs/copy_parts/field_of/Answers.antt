@@ -1,6 +1,6 @@
 use native.Mathlib.Omega.{arith}
 use Rattle.dm_output.proofs.View.{view-NamedExpr}
-use Rattle.dm_output_copy.proofs.expr_nodes.field_of.Goals as goal
+use Rattle.dm_output_copy.proofs.copy_parts.field_of.Goals as goal
 
 pub returns : goal.returns
 returns c = grind (arith, view-NamedExpr)

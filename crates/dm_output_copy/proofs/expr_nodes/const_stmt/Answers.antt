@@ -1,6 +1,0 @@
-use native.Mathlib.Omega.{arith}
-use Rattle.dm_output.proofs.View.{view_Stmt-Const}
-use Rattle.dm_output_copy.proofs.expr_nodes.const_stmt.Goals as goal
-
-pub returns : goal.returns
-returns c = grind (arith, view_Stmt-Const)

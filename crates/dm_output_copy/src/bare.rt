@@ -1,0 +1,104 @@
+//! Copies of expressions, statements, blocks and arms, out of their nodes.
+
+use crate::clone_emitted::CloneEmitted;
+use crate::copy_expr::{copy_arm, copy_block, copy_body, copy_expr, copy_stmt};
+use crate::copy_parts::field_of;
+use dm_output::{Arm, ArmBody, Block, Expr, NamedExpr, Stmt};
+use std::alloc::{AllocError, Global};
+
+impl<'a> CloneEmitted for Expr<'a> {
+    ghost use Rattle.dm_output.specs.Output.{ExprTree};
+    ghost use Rattle.dm_output.specs.Views.{expr_view};
+
+    ghost Shape = { ExprTree };
+
+    ghost shape = { expr_view };
+
+    fn clone_in(&self, alloc: Global) -> Result<Self, AllocError> {
+        match copy_expr(self, alloc) {
+            Ok(node) => Ok(node.into_tree()),
+            Err(error) => Err(error),
+        }
+    }
+}
+
+impl<'a> CloneEmitted for NamedExpr<'a> {
+    ghost use Rattle.dm_stream.specs.declared.tokens.Ident.{Ident};
+    ghost use Rattle.dm_output.specs.Output.{ExprTree};
+    ghost use Rattle.dm_output.specs.Views.{named_expr_view};
+
+    ghost Shape = { Ident × ExprTree };
+
+    ghost shape = { named_expr_view };
+
+    fn clone_in(&self, alloc: Global) -> Result<Self, AllocError> {
+        match field_of(self, alloc, copy_expr(&self.value, alloc)) {
+            Ok(node) => Ok(node.into_tree()),
+            Err(error) => Err(error),
+        }
+    }
+}
+
+impl<'a> CloneEmitted for Block<'a> {
+    ghost use Rattle.dm_output.specs.Output.{BlockTree};
+    ghost use Rattle.dm_output.specs.Views.{block_view};
+
+    ghost Shape = { BlockTree };
+
+    ghost shape = { block_view };
+
+    fn clone_in(&self, alloc: Global) -> Result<Self, AllocError> {
+        match copy_block(self, alloc) {
+            Ok(node) => Ok(node.into_tree()),
+            Err(error) => Err(error),
+        }
+    }
+}
+
+impl<'a> CloneEmitted for Stmt<'a> {
+    ghost use Rattle.dm_output.specs.Output.{StmtTree};
+    ghost use Rattle.dm_output.specs.Views.{stmt_view};
+
+    ghost Shape = { StmtTree };
+
+    ghost shape = { stmt_view };
+
+    fn clone_in(&self, alloc: Global) -> Result<Self, AllocError> {
+        match copy_stmt(self, alloc) {
+            Ok(node) => Ok(node.into_tree()),
+            Err(error) => Err(error),
+        }
+    }
+}
+
+impl<'a> CloneEmitted for Arm<'a> {
+    ghost use Rattle.dm_output.specs.Output.{ArmTree};
+    ghost use Rattle.dm_output.specs.Views.{arm_view};
+
+    ghost Shape = { ArmTree };
+
+    ghost shape = { arm_view };
+
+    fn clone_in(&self, alloc: Global) -> Result<Self, AllocError> {
+        match copy_arm(self, alloc) {
+            Ok(node) => Ok(node.into_tree()),
+            Err(error) => Err(error),
+        }
+    }
+}
+
+impl<'a> CloneEmitted for ArmBody<'a> {
+    ghost use Rattle.dm_output.specs.Output.{ArmBodyTree};
+    ghost use Rattle.dm_output.specs.Views.{body_view};
+
+    ghost Shape = { ArmBodyTree };
+
+    ghost shape = { body_view };
+
+    fn clone_in(&self, alloc: Global) -> Result<Self, AllocError> {
+        match copy_body(self, alloc) {
+            Ok(node) => Ok(node.into_tree()),
+            Err(error) => Err(error),
+        }
+    }
+}
