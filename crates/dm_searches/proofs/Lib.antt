@@ -3,3 +3,4 @@ pub mod Entries
 pub mod Lent
 mod Rows
 pub mod Segments
+pub mod Steps

@@ -1,4 +1,5 @@
 pub mod Grouped
+pub mod PartPasses
 pub mod PartSteps
 pub mod Passes
 pub mod TypePasses

@@ -1,5 +1,5 @@
 -- How the functions that follow types go on: one equation for each part of more than two steps.
-use Rattle.std.proofs.Common.{◌≡◌, ℕ, suc, ◌+◌, ◌-◌, ◌<◌, ◌≤◌, List, [], ◌∷◌, ◌++◌, map, drop, length, get_or, Bool, true, false, cond, Some, option_map, Result, Ok, Err, sym, ap, ◌∙◌, append_assoc, add-one}
+use Rattle.std.proofs.Common.{◌≡◌, ℕ, suc, ◌+◌, ◌-◌, ◌<◌, ◌≤◌, List, [], ◌∷◌, ◌++◌, map, drop, length, get_or, Bool, true, false, cond, Some, None, option_map, Result, Ok, Err, sym, ap, ◌∙◌, append_assoc, add-one}
 use Rattle.std.specs.Prelude.{IsErrAnd}
 use Rattle.std.proofs.Math.Seq.{drop-cons}
 use Rattle.std.specs.declared.boxed.Box.{Box}
@@ -124,6 +124,30 @@ fn_fails k f items es e1 e2 s r a h i j q =
     (pass_stops (params_in (k + 1) (out-BareFn f).inputs.items (out-BareFn f).inputs.trailing)
     (output_levels (k + 1) (k + 1) (maybe_type (option_map ty_view (out-BareFn f).output))) e2 s
     (ap (λ l. pass (params_in (k + 1) l (out-BareFn f).inputs.trailing) e2) (sym a) ∙ j)) q)))
+
+pub fn_front_fails : (k : ℕ) (f : BareFn) (es : List Entry) (s : Span) (r : Result (Bor (List Entry)) Span) → pass (front k f) es ≡ Err s →
+    IsErrAnd r (λ d. d ≡ s) → Passes (fn_levels k (fn_view f)) es r
+fn_front_fails k f es s r h q =
+    passes_equal _ _ es r (fn_shown k f)
+    (passes_failed (front k f ++ ((k ∷ []) ++ behind_fn k f)) es s r (pass_stops (front k f) ((k ∷ []) ++ behind_fn k f) es s h) q)
+
+pub fn_word_fails : (k : ℕ) (f : BareFn) (es e1 : List Entry) (s : Span) (r : Result (Bor (List Entry)) Span) → pass (front k f) es ≡ Ok e1 →
+    pass (k ∷ []) e1 ≡ Err s → IsErrAnd r (λ d. d ≡ s) → Passes (fn_levels k (fn_view f)) es r
+fn_word_fails k f es e1 s r h i q =
+    passes_equal _ _ es r (fn_shown k f)
+    (passes_next (front k f) ((k ∷ []) ++ behind_fn k f) es e1 r h
+    (passes_failed ((k ∷ []) ++ behind_fn k f) e1 s r (pass_stops (k ∷ []) (behind_fn k f) e1 s i) q))
+
+-- without an output
+pub fn_alone : (k : ℕ) (f : BareFn) (items : List FnArg) (es e1 e2 e3 : List Entry) → items ≡ (out-BareFn f).inputs.items →
+    (out-BareFn f).output ≡ None → pass (front k f) es ≡ Ok e1 → pass (k ∷ []) e1 ≡ Ok e2 →
+    pass (params_in (k + 1) items (out-BareFn f).inputs.trailing) e2 ≡ Ok e3 → pass (fn_levels k (fn_view f)) es ≡ Ok e3
+fn_alone k f items es e1 e2 e3 a o h i j =
+    ap (λ l. pass l es) (fn_shown k f) ∙ pass_next (front k f) ((k ∷ []) ++ behind_fn k f) es e1 h ∙ pass_next (k ∷ []) (behind_fn k f) e1 e2 i ∙
+    pass_next (params_in (k + 1) (out-BareFn f).inputs.items (out-BareFn f).inputs.trailing)
+    (output_levels (k + 1) (k + 1) (maybe_type (option_map ty_view (out-BareFn f).output))) e2 e3
+    (ap (λ l. pass (params_in (k + 1) l (out-BareFn f).inputs.trailing) e2) (sym a) ∙ j) ∙
+    ap (λ q. pass (output_levels (k + 1) (k + 1) (maybe_type (option_map ty_view q))) e3) o
 
 -- ---- qualified paths
 
