@@ -1,5 +1,5 @@
 -- Steps of the loops that look for a name that is declared again among those that were seen.
-use Rattle.std.proofs.Common.{◌≡◌, ℕ, suc, ◌+◌, ◌<◌, Bool, true, false, ◌||◌, List, [], ◌∷◌, ◌++◌, length, get_or, map, take, drop, Option, None, refl, sym, ap, ◌∙◌, add-one}
+use Rattle.std.proofs.Common.{◌≡◌, ℕ, suc, ◌+◌, ◌<◌, Bool, true, false, ◌||◌, List, [], ◌∷◌, ◌++◌, length, get_or, map, take, drop, Option, Some, None, refl, sym, ap, ◌∙◌, add-one}
 use Rattle.std.proofs.lemmas.List.{map-append}
 use Rattle.std.proofs.lemmas.List.Folds.{list_any-append}
 use Rattle.std.proofs.Math.Seq.{take-suc, drop-cons}
@@ -8,9 +8,9 @@ use Rattle.std.specs.Option.{option_or}
 use Rattle.std.specs.Str.{bytes_eq}
 use Rattle.dm_stream.specs.declared.tokens.Span.{Span}
 use Rattle.dm_stream.specs.declared.tokens.Ident.{Ident}
-use Rattle.dm_ast.specs.Declarations.{ParamTree, lifetime_param, type_param, const_param}
-use Rattle.dm_repeats.specs.Repeats.{repeats, place_if, is_lifetime_called, is_type_called, param_again}
-use Rattle.dm_names.specs.SeenNames.{param_seen}
+use Rattle.dm_ast.specs.Declarations.{FieldTree, ParamTree, lifetime_param, type_param, const_param}
+use Rattle.dm_repeats.specs.Repeats.{repeats, place_if, is_field_called, label_again, is_lifetime_called, is_type_called, param_again}
+use Rattle.dm_names.specs.SeenNames.{label_seen, param_seen}
 
 -- ---- one item more
 
@@ -58,6 +58,13 @@ module _ {A B : Type 0} (view : B → A) (all : List B) (i : ℕ) (x : B) (h : i
   seen_more_or other test before after b a =
       a ∙ ap (λ t. test (view x) || t) b ∙ or_first other (test (view x)) (list_any test (map view (take i all))) ∙
       ap (λ t. other || t) (sym (list_any-append test (map view (take i all)) (view x ∷ [])) ∙ ap (list_any test) (sym items_more))
+
+-- ---- fields
+
+pub label_seen_is : (before : List ℕ → Bool) (earlier : List FieldTree) (o : Option Ident) →
+    ((q : List ℕ) → before q ≡ list_any (is_field_called q) earlier) → label_seen before o ≡ label_again earlier o
+label_seen_is before earlier None h = refl
+label_seen_is before earlier (Some i) h = ap (λ b. place_if b i.span) (h i.name)
 
 -- ---- parameters
 

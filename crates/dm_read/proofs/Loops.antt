@@ -1,12 +1,13 @@
 -- One turn of the loops that read lists, in the form that the program's loops have.
-use Rattle.std.proofs.Common.{◌≡◌, ℕ, suc, ◌+◌, ◌-◌, ◌<◌, ◌≤◌, Bool, true, false, if◌then◌else◌, List, [], ◌∷◌, ◌++◌, map, Ok, Err, ap, ◌∙◌, arith}
+use Rattle.std.proofs.Common.{◌≡◌, ℕ, suc, ◌+◌, ◌-◌, ◌<◌, ◌≤◌, Bool, true, false, if◌then◌else◌, List, [], ◌∷◌, ◌++◌, map, Ok, Err, sym, ap, ◌∙◌, arith}
 use Rattle.std.proofs.lemmas.List.{map-append}
 use Rattle.std.specs.Prelude.{Result, IsErrAnd}
 use Rattle.dm_stream.specs.declared.error.Error.{Error}
 use Rattle.dm_stream.specs.declared.error.Error.TheVariants as error
 use Rattle.dm_stream.specs.declared.error.Refusal.{Refusal}
+use Rattle.dm_stream.specs.declared.error.Kind.TheVariants.{Syntax}
 use Rattle.dm_stream.specs.declared.cursor.Cursor.{Cursor}
-use Rattle.dm_stream.specs.Cursors.{end_of}
+use Rattle.dm_stream.specs.Cursors.{left, end_of, front_span}
 use Rattle.dm_stream.specs.Trees.{Trees}
 use Rattle.dm_ast.specs.Spelling.{Where, sees}
 use Rattle.dm_ast.specs.Readers.{Outcome, Parser, and_then, mapped, refuse, read_punct, list_from, repeat_from, place, Reads, Passes}
@@ -33,6 +34,16 @@ pub reads_passed : {A B X Y : Type 0} (view : X → A) (seen : Y → B) (whole :
 reads_passed view seen whole o e p f (Ok x) h = absurd h
 reads_passed view seen whole o error.NoMemory p f (Err d) h = rw h tt
 reads_passed view seen whole o (error.Refused r) p f (Err d) h = rw h (f r p)
+
+-- where memory fails, nothing is said
+pub no_memory : {A X : Type 0} (view : X → A) (whole : Outcome A) (res : Result (X × Cursor) Error) → IsErrAnd res (λ d. d ≡ error.NoMemory) → Reads view whole res
+no_memory view whole (Ok x) h = absurd h
+no_memory view whole (Err d) h = rw h tt
+
+-- a refusal behind the last turn
+pub refused_there : {A X : Type 0} (view : X → A) (whole : Outcome A) (n : ℕ) (c d : Cursor) (e : Error) → whole ≡ refuse (place n c) (left d) → end_of d ≡ end_of c →
+    e ≡ error.Refused (record { kind = Syntax; span = front_span (left d) (end_of d) }) → Reads view whole (Err e)
+refused_there view whole n c d e s same is = rw is (s ∙ ap (λ l. Err (record { kind = Syntax; span = front_span (left d) l })) (sym same))
 
 -- the second of two parts is refused
 pub and_refused : {A B C : Type 0} (f : A × B → C) (o : Outcome A) (q : Parser B) (a : A) (mid : Trees) (r : Refusal) → o ≡ Ok (pair a mid) → q mid ≡ Err r →
