@@ -1,3 +1,1 @@
-pub mod Needing
 pub mod CoveringLaws
-pub mod Grown

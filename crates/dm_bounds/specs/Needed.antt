@@ -10,7 +10,7 @@ use Rattle.dm_operands.specs.Marked.{MarkedField, MarkedCase, marked}
 use Rattle.dm_searches.specs.Parameters.{Parameters, looked_for, declared_in}
 use Rattle.dm_searches.specs.Mentions.{mentions}
 use Rattle.dm_searches.specs.Inside.{inside}
-use Rattle.dm_bounds.specs.declared.needed.Sought.{Sought}
+use Rattle.dm_bounds.specs.declared.sought.Sought.{Sought}
 
 -- ---- the predicate of a type and a trait. A `for` at the type's front is the predicate's, since so these tokens are read.
 

@@ -1,5 +1,7 @@
-//! The predicates that an implementation adds to the declared ones.
+//! What the types of fields are searched for, so that an implementation asks a trait of those that need it; and the predicates that it
+//! adds to the declared ones, as definitions and laws.
 #![tactic(auto)]
 
-pub mod needed;
-mod predicate;
+mod sought;
+
+pub use sought::Sought;

@@ -1,7 +1,9 @@
-//! Answers a table of declarations on standard input, as `dm_rows` reads it. The head of a row is a trait's name and its text a
-//! declaration; below it stands what the trait derives, or the refusal's line.
+//! Answers a table on standard input, as `dm_rows` reads it. The head of a row is a trait's name and its text a declaration: below it stands
+//! what the trait derives, or the refusal's line. Or the head is a part of the output language, and the answer is whether the text is read
+//! whole as that part.
 #![tactic(auto)]
 
+mod parts;
 mod told;
 
 ghost use Rattle.std.specs.Prelude.{IfOk, Result, String, string_bytes};
@@ -13,6 +15,7 @@ ghost use Rattle.dm_derive_rows.specs.Told.{Tells};
 use dm_printed::derive_printed;
 use dm_rows::{Answers, answered};
 use dm_stream::Error;
+use parts::{part_named, read_whole};
 use std::alloc::{AllocError, Global};
 use std::io;
 use told::told;
@@ -29,7 +32,10 @@ struct DeriveRows;
 
 impl Answers for DeriveRows {
     fn answer(alloc: Global, head: &str, text: &str) -> Result<String, Error> {
-        Ok(derived(alloc, head, text)?)
+        match part_named(head) {
+            Some(part) => read_whole(alloc, part, text),
+            None => Ok(derived(alloc, head, text)?),
+        }
     }
 }
 

@@ -4,7 +4,7 @@ use dm_derive::derive_text;
 use dm_expansion::{Expansion, print_items};
 use dm_nodes::item::ItemNodes;
 use dm_output_copy::CloneEmitted;
-use dm_stream::{Error, Text};
+use dm_stream::Error;
 use std::alloc::{AllocError, Global};
 
 /// A trait and a declaration.
@@ -25,37 +25,36 @@ const ROWS: &[Row] = &[
     ("Not", "enum E { A(u8), B }"),
 ];
 
-/// Implementations as nodes, with their text.
-type Made<'a> = (ItemNodes<'a>, Text<'a>);
-
-/// An expansion whose trees are private, so that what holds it proves no drop of theirs.
-fn held(made: Expansion<'_>) -> Made<'_> {
-    let Expansion { items, text } = made;
-    (ItemNodes::new(items), text)
-}
-
-/// What is derived, and a copy of it.
-fn derived(alloc: Global, row: Row) -> Result<(Made<'static>, Made<'static>), Error> {
-    let made = derive_text(alloc, row.0, row.1)?;
-    match made.clone_in(alloc) {
-        Ok(copy) => Ok((held(made), held(copy))),
-        Err(AllocError) => {
-            let _ = held(made);
-            Err(Error::NoMemory)
-        }
-    }
+/// Lets an expansion go, as nodes, whose drop is proved where they are made.
+fn let_go(made: Expansion<'_>) {
+    let Expansion { items, text: _text } = made;
+    let _items = ItemNodes::new(items);
 }
 
 /// Whether implementations are printed as their text.
-fn is_of_text(alloc: Global, made: &Made<'_>) -> Result<bool, AllocError> {
-    let printed = print_items(alloc, made.0.as_slice())?;
-    Ok(printed.as_str() == made.1.as_str())
+fn is_of_text(alloc: Global, made: &Expansion<'_>) -> Result<bool, AllocError> {
+    let printed = print_items(alloc, made.items.as_slice())?;
+    Ok(printed.as_str() == made.text.as_str())
+}
+
+/// Whether a copy of them is.
+fn is_copied(alloc: Global, made: &Expansion<'_>) -> Result<bool, AllocError> {
+    let copy = made.clone_in(alloc)?;
+    let printed = is_of_text(alloc, &copy);
+    let_go(copy);
+    printed
+}
+
+fn both_are(alloc: Global, made: &Expansion<'_>) -> Result<bool, AllocError> {
+    Ok(is_of_text(alloc, made)? && is_copied(alloc, made)?)
 }
 
 /// Whether what is derived, and a copy of it, are printed as their text.
 fn are_of_text(alloc: Global, row: Row) -> Result<bool, Error> {
-    let (made, copy) = derived(alloc, row)?;
-    Ok(is_of_text(alloc, &made)? && is_of_text(alloc, &copy)?)
+    let made = derive_text(alloc, row.0, row.1)?;
+    let printed = both_are(alloc, &made);
+    let_go(made);
+    Ok(printed?)
 }
 
 /// The first row of which this isn't so.

@@ -57,7 +57,8 @@ use Rattle.dm_derived_laws.proofs.WordsAlone.{InnerAlone, ArgumentsAlone, words_
 use Rattle.dm_derived_laws.proofs.DeclaredInner.{needed_declared_inner}
 use Rattle.dm_operators.specs.Operators.{Form, structural, scalar, unary, Operator}
 use Rattle.dm_operators.specs.Attributes.{skips, cases_for, form_in}
-use Rattle.dm_operators.specs.Predicates.{angled, right_type, right_param, right_argument, implemented, asked, asking, right_copies, copies_right, copied, needed_in}
+use Rattle.dm_bounds.specs.RightSide.{right_type, right_param, right_copies}
+use Rattle.dm_operators.specs.Predicates.{angled, right_argument, implemented, asked, asking, copies_right, copied, needed_in}
 use Rattle.dm_operators.specs.Heads.{item_params}
 use Rattle.dm_operators.specs.Implementations.{item_with}
 use Rattle.dm_partial_eq.specs.Heads.{partial_eq_path}

@@ -40,7 +40,7 @@ use Rattle.dm_head_laws.proofs.DeclaredParts.{declared_params, implementor_alone
 use Rattle.dm_operators.specs.Operators.{Form, structural, scalar, unary, Operator}
 use Rattle.dm_operators.specs.Attributes.{form_in}
 use Rattle.dm_operators.specs.Meaning.{has_unit}
-use Rattle.dm_operators.specs.Predicates.{right_type}
+use Rattle.dm_bounds.specs.RightSide.{right_type}
 use Rattle.dm_operators.specs.Heads.{result_of, binary_output, unary_output, output_type, assocs, own_output, returned, method_param, method_output}
 use Rattle.dm_partial_eq.specs.Emitted.{method_with}
 

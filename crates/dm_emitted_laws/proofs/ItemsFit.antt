@@ -44,7 +44,8 @@ use Rattle.dm_partial_eq.specs.Emitted as emitted
 use Rattle.dm_operators.specs.Operators as ops
 use Rattle.dm_operators.specs.Operators.{Operator, IsOperator}
 use Rattle.dm_operators.specs.Attributes.{skips, cases_for, form_in}
-use Rattle.dm_operators.specs.Predicates.{angled, trait_with, right_type, right_param, output_argument, implemented, asking, right_copies, copies_right, copied, needed}
+use Rattle.dm_bounds.specs.RightSide.{right_type, right_param, right_copies}
+use Rattle.dm_operators.specs.Predicates.{angled, trait_with, output_argument, implemented, asking, copies_right, copied, needed}
 use Rattle.dm_operators.specs.Meaning.{has_unit}
 use Rattle.dm_operators.specs.Heads.{result_of, binary_output, output_type, method_attrs, method_param, own_output, returned, item_attrs, item_params, item_predicates}
 use Rattle.dm_operators.specs.Implementations.{method_of, item_of}

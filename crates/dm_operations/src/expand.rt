@@ -13,18 +13,17 @@ ghost use Rattle.dm_operations.specs.Expanded as spec;
 
 use crate::printing::printed_item;
 use dm_ast::DeriveInput;
-use dm_operators::operator::Operator;
+use dm_operators::operator::{Implemented, Operator};
 use dm_operators::places::{Plan, plan_for};
-use dm_operators::predicates::Implemented;
 use dm_stream::Error;
 use std::alloc::{AllocError, Global};
 
 /// The text of the implementation by a plan.
-fn written<'a>(
+fn written<'x, 'a>(
     alloc: Global,
     operator: &Operator,
-    input: &DeriveInput<'a>,
-    plan: &Plan<'_, 'a>,
+    input: &'x DeriveInput<'a>,
+    plan: &Plan<'x, 'a>,
 ) -> Result<String, AllocError>
     requires is_operator { IsOperator (operator_view operator.now) }
     requires readable { IsReadable (declaration_view input.now) }

@@ -3,9 +3,7 @@
 
 ghost use Rattle.std.specs.Prelude.{◌≡◌, [], ◌∷◌, map, Some, OnOk, IfOk, string_bytes};
 ghost use Rattle.dm_stream.specs.declared.tokens.Delim.TheVariants.{Paren};
-ghost use Rattle.dm_stream.specs.Layout.{nowhere};
 ghost use Rattle.dm_ast.specs.Declarations.{declaration_view};
-ghost use Rattle.dm_ast.specs.TypeTokens.{type_trees, path_trees};
 ghost use Rattle.dm_output.specs.Output.{last_expr, no_expr};
 ghost use Rattle.dm_output.specs.Tokens as tokens;
 ghost use Rattle.dm_print_types.specs.Laying.{lay};
@@ -13,20 +11,17 @@ ghost use Rattle.dm_operands.specs.CaseViews.{case_view};
 ghost use Rattle.dm_operators.specs.Operators as ops;
 ghost use Rattle.dm_operators.specs.Heads as heads;
 ghost use Rattle.dm_operators.specs.Implementations as spec;
-ghost use Rattle.dm_operators.specs.Predicates as traits;
 ghost use Rattle.dm_operators.specs.Table.{form_view, operator_view};
 ghost use Rattle.dm_operations.specs.Items as items;
 
 use dm_ast::DeriveInput;
 use dm_layout::Layout;
 use dm_operands::cases::CaseRef;
-use dm_operator_heads::{assocs, item_params, returned};
+use dm_operator_heads::{implemented_trait, output_type, params, predicates, returned_type};
 use dm_operator_prints::body;
-use dm_operators::operator::{Form, Operator};
-use dm_operators::predicates::{Implemented, all_predicates, trait_path};
+use dm_operators::operator::{Form, Implemented, Operator};
 use dm_print_types::token::{close, fixed, joint, open, word};
 use dm_sides::heads::declared_type;
-use dm_sides::made::{made_assocs, made_params, made_path, made_predicates, made_type};
 use dm_stream::Delim;
 use std::alloc::{AllocError, Global};
 
@@ -58,70 +53,22 @@ fn item_start(out: &mut Layout, form: Form) -> Result<(), AllocError>
     }
 }
 
-/// Adds the parameters, in `<..>` where there are some.
-fn params<'a>(
-    alloc: Global,
-    out: &mut Layout,
-    implemented: &Implemented,
-    input: &DeriveInput<'a>,
-) -> Result<(), AllocError>
-    ensures { OnOk result (out.new ≡ lay out.old (tokens.params_trees (heads.item_params (form_view implemented.now.form) (operator_view implemented.now.operator) (declaration_view input.now)))) }
-{
-    made_params(item_params(alloc, implemented, input), alloc, out)
-}
-
-/// Adds the path of the trait that is implemented.
-fn implemented_trait(
-    alloc: Global,
-    out: &mut Layout,
-    implemented: &Implemented,
-) -> Result<(), AllocError>
-    ensures { OnOk result (out.new ≡ lay out.old (path_trees nowhere (traits.implemented (form_view implemented.now.form) (operator_view implemented.now.operator)))) }
-{
-    made_path(trait_path(alloc, implemented), alloc, out)
-}
-
-/// Adds the predicates, behind `where` where there are some.
-fn predicates<'a>(
-    alloc: Global,
-    out: &mut Layout,
-    implemented: &Implemented,
-    input: &DeriveInput<'a>,
-    cases: &[CaseRef<'_, 'a>],
-) -> Result<(), AllocError>
-    ensures { OnOk result (out.new ≡ lay out.old (tokens.where_trees (items.predicates_in (form_view implemented.now.form) (operator_view implemented.now.operator) (declaration_view input.now) (map case_view cases.now)))) }
-{
-    made_predicates(all_predicates(alloc, implemented, input, cases), alloc, out)
-}
-
 /// Adds what stands in front of the implementation's brace.
-fn item_head<'a>(
+fn item_head<'x, 'a>(
     alloc: Global,
     out: &mut Layout,
     implemented: &Implemented,
-    input: &DeriveInput<'a>,
-    cases: &[CaseRef<'_, 'a>],
+    input: &'x DeriveInput<'a>,
+    cases: &[CaseRef<'x, 'a>],
 ) -> Result<(), AllocError>
     ensures { OnOk result (out.new ≡ lay out.old (tokens.head_trees (items.item_with (form_view implemented.now.form) (operator_view implemented.now.operator) (declaration_view input.now) (map case_view cases.now) [] []))) }
 {
     item_start(out, implemented.form)?;
-    params(alloc, out, implemented, input)?;
-    implemented_trait(alloc, out, implemented)?;
+    params(alloc, out, input, implemented)?;
+    implemented_trait(out, implemented)?;
     word(out, "for")?;
     declared_type(alloc, out, input)?;
-    predicates(alloc, out, implemented, input, cases)
-}
-
-/// Adds `type Output = ..`, where it is there.
-fn output_type<'a>(
-    alloc: Global,
-    out: &mut Layout,
-    implemented: &Implemented,
-    input: &DeriveInput<'a>,
-) -> Result<(), AllocError>
-    ensures { OnOk result (out.new ≡ lay out.old (tokens.in_turn (map tokens.assoc_trees (heads.assocs (form_view implemented.now.form) (operator_view implemented.now.operator) (declaration_view input.now))))) }
-{
-    made_assocs(assocs(alloc, implemented, input), alloc, out)
+    predicates(cases, input, implemented, alloc, out)
 }
 
 /// Adds the attributes of the method, and `fn`.
@@ -164,18 +111,6 @@ fn operands(out: &mut Layout, implemented: &Implemented) -> Result<(), AllocErro
     receiver(out, &implemented.operator)?;
     right_side(out, implemented.form)?;
     close(out, Delim::Paren)
-}
-
-/// Adds the type that a method which doesn't assign returns.
-fn returned_type<'a>(
-    alloc: Global,
-    out: &mut Layout,
-    form: Form,
-    input: &DeriveInput<'a>,
-) -> Result<(), AllocError>
-    ensures { OnOk result (out.new ≡ lay out.old (type_trees (heads.returned (form_view form) (declaration_view input.now)))) }
-{
-    made_type(returned(alloc, form, input), alloc, out)
 }
 
 /// Adds `->` and what the method returns, where it doesn't assign.
@@ -224,28 +159,28 @@ fn method<'a>(
     close(out, Delim::Brace)
 }
 
-fn item<'a>(
+fn item<'x, 'a>(
     alloc: Global,
     out: &mut Layout,
     implemented: &Implemented,
-    input: &DeriveInput<'a>,
-    cases: &[CaseRef<'_, 'a>],
+    input: &'x DeriveInput<'a>,
+    cases: &[CaseRef<'x, 'a>],
 ) -> Result<(), AllocError>
     ensures { OnOk result (out.new ≡ lay out.old (tokens.item_trees (items.item_for (form_view implemented.now.form) (operator_view implemented.now.operator) (declaration_view input.now) (map case_view cases.now)))) }
 {
     item_head(alloc, out, implemented, input, cases)?;
     open(out, Delim::Brace)?;
-    output_type(alloc, out, implemented, input)?;
+    output_type(alloc, out, input, implemented)?;
     method(alloc, out, implemented, input, cases)?;
     close(out, Delim::Brace)
 }
 
 /// The text of the implementation.
-pub(crate) fn printed_item<'a>(
+pub(crate) fn printed_item<'x, 'a>(
     alloc: Global,
     implemented: &Implemented,
-    input: &DeriveInput<'a>,
-    cases: &[CaseRef<'_, 'a>],
+    input: &'x DeriveInput<'a>,
+    cases: &[CaseRef<'x, 'a>],
 ) -> Result<String, AllocError>
     ensures { IfOk result (λ s. string_bytes s ≡ tokens.printed (items.item_for (form_view implemented.now.form) (operator_view implemented.now.operator) (declaration_view input.now) (map case_view cases.now) ∷ [])) }
 {

@@ -1,49 +1,60 @@
--- Steps that the builders of parameters and types take.
-use Rattle.std.proofs.Common.{◌≡◌, List, [], ◌∷◌, ◌++◌, map, filter, Bool, true, false, cond, None, refl, sym, ap, ◌∙◌}
+-- What parts of heads are laid out as.
+use Rattle.std.proofs.Common.{◌≡◌, List, [], ◌∷◌, codes, sym, ap, ◌∙◌}
 use Rattle.std.proofs.lemmas.List.{map-append}
-use Rattle.dm_stream.specs.declared.tokens.Ident.{Ident}
-use Rattle.dm_ast.specs.Tree.{BoundTree}
-use Rattle.dm_ast.specs.Declarations.{ParamTree, lifetime_param, type_param, const_param, GenericsTree}
-use Rattle.dm_ast.specs.Implementors.{is_lifetime, is_other, bare}
-use Rattle.dm_generics.specs.Additions.{bounded, all_bounded}
-use Rattle.dm_generics.specs.Split.{impl_params}
-use Rattle.dm_generics.proofs.Builders.{bound_steps}
+use Rattle.dm_stream.specs.Layout.{Laid, nowhere}
+use Rattle.dm_stream.specs.Trees.{Trees, no_trees, join}
+use Rattle.dm_ast.specs.Tree.{TypeTree, ArgumentTree, type_arg}
+use Rattle.dm_ast.specs.Implementors.{plain_path}
+use Rattle.dm_ast.specs.TypeTokens.{type_trees, path_trees, arguments_trees}
+use Rattle.dm_output.specs.Tokens.{punct, comma, semicolon, assoc_trees}
+use Rattle.dm_print_types.specs.Laying.{lay, fix}
+use Rattle.dm_print_types.proofs.Laying.{lay-join, print_steps}
+use Rattle.dm_generics.specs.Words.{words}
+use Rattle.dm_generics.proofs.Builders.{segments_of_plain}
+use Rattle.dm_bounds.specs.RightSide.{right_type}
+use Rattle.dm_operators.specs.Operators.{Operator}
+use Rattle.dm_operators.specs.Predicates.{trait_with, angled}
+use Rattle.dm_operators.specs.Heads.{result_of}
+use Rattle.dm_operator_heads.specs.Outputs.{output_given, named}
 
--- ---- bounds that are added to parameters
+-- what stands last in two lists, and a token behind both
+last-laid : (s : Laid) (t p : Trees) → lay (lay s t) p ≡ lay s (join (join (join t no_trees) no_trees) p)
+last-laid s t p =
+    sym (lay-join s (join (join t no_trees) no_trees) p ∙
+    ap (λ (l : Laid). lay l p) (lay-join s (join t no_trees) no_trees ∙ lay-join s t no_trees))
 
-filter-mapped : {A : Type 0} (k : A → Bool) (f : A → A) → ((x : A) → k (f x) ≡ k x) → (xs : List A) → filter k (map f xs) ≡ map f (filter k xs)
-filter-mapped k f same [] = refl
-filter-mapped {A} k f same (x ∷ xs) =
-    ap (λ b. cond b (f x ∷ filter k (map f xs)) (filter k (map f xs))) (same x) ∙
-    ap (λ ys. cond (k x) (f x ∷ ys) ys) (filter-mapped k f same xs) ∙
-    elim (k x) as (λ b. cond b (f x ∷ map f (filter k xs)) (map f (filter k xs)) ≡ map f (cond b (x ∷ filter k xs) (filter k xs)))
-    [ true ↦ refl | false ↦ refl ]
+-- the trait's name, and its arguments
+pub trait-laid : (s : Laid) (o : Operator) (gs : List ArgumentTree) →
+    lay (lay s (path_trees nowhere (trait_with o []))) (arguments_trees nowhere (angled gs)) ≡ lay s (path_trees nowhere (trait_with o gs))
+trait-laid s o gs = sym (lay-join (lay s (path_trees nowhere (trait_with o []))) (arguments_trees nowhere (angled gs)) no_trees)
 
-module _ (bound : Ident → BoundTree) where
-  same-lifetime : (p : ParamTree) → is_lifetime (bounded bound p) ≡ is_lifetime p
-  same-lifetime (lifetime_param attrs l bounds) = refl
-  same-lifetime (type_param attrs i bounds default) = refl
-  same-lifetime (const_param attrs i t default) = refl
+pub output-laid : (s : Laid) (t : TypeTree) →
+    lay (lay (fix s (codes "< Output =")) (type_trees t)) (punct 62) ≡
+    lay s (arguments_trees nowhere (angled (output_given t ∷ [])))
+output-laid s t = last-laid (fix s (codes "< Output =")) (type_trees t) (punct 62)
 
-  same-other : (p : ParamTree) → is_other (bounded bound p) ≡ is_other p
-  same-other (lifetime_param attrs l bounds) = refl
-  same-other (type_param attrs i bounds default) = refl
-  same-other (const_param attrs i t default) = refl
+pub both-laid : (s : Laid) (t : TypeTree) →
+    lay (lay (fix s (codes "< __derive_more_Rhs , Output =")) (type_trees t)) (punct 62) ≡
+    lay s (arguments_trees nowhere (angled (type_arg right_type ∷ output_given t ∷ [])))
+both-laid s t = last-laid (fix s (codes "< __derive_more_Rhs , Output =")) (type_trees t) (punct 62)
 
-  bare-bounded : (ps : List ParamTree) → map bare (map (bounded bound) ps) ≡ map (bounded bound) (map bare ps)
-  bare-bounded [] = refl
-  bare-bounded (lifetime_param attrs l bounds ∷ ps) = ap (λ qs. lifetime_param [] l bounds ∷ qs) (bare-bounded ps)
-  bare-bounded (type_param attrs i bounds default ∷ ps) = ap (λ qs. bounded bound (type_param [] i bounds None) ∷ qs) (bare-bounded ps)
-  bare-bounded (const_param attrs i t default ∷ ps) = ap (λ qs. const_param [] i t None ∷ qs) (bare-bounded ps)
+-- a type in a `Result`
+pub result-laid : (s : Laid) (t : TypeTree) →
+    fix (lay (fix s (codes "derive_more :: core :: result :: Result <")) (type_trees t)) (codes ", derive_more :: UnitError >") ≡
+    lay s (type_trees (result_of t (codes "derive_more" ∷ codes "UnitError" ∷ [])))
+result-laid s t =
+    let front : Laid = fix s (codes "derive_more :: core :: result :: Result <") in
+    let error : Trees = path_trees nowhere (plain_path (words (codes "derive_more" ∷ codes "UnitError" ∷ []))) in
+    let more : Trees = join comma (join error no_trees) in
+    sym (lay-join front (join (join (join (type_trees t) more) no_trees) (punct 62)) no_trees ∙
+    lay-join front (join (join (type_trees t) more) no_trees) (punct 62) ∙
+    ap (λ (l : Laid). lay l (punct 62)) (lay-join front (join (type_trees t) more) no_trees ∙ lay-join front (type_trees t) more))
 
-  -- those of an implementation are bounded, whether before or after they are chosen
-  pub bounded-params : (g : GenericsTree) → impl_params (all_bounded bound g) ≡ map (bounded bound) (impl_params g)
-  bounded-params g =
-      let ps : List ParamTree = g.params.items in
-      ap (λ qs. map bare qs ++ map bare (filter is_other (map (bounded bound) ps))) (filter-mapped is_lifetime (bounded bound) same-lifetime ps) ∙
-      ap (λ qs. map bare (map (bounded bound) (filter is_lifetime ps)) ++ map bare qs) (filter-mapped is_other (bounded bound) same-other ps) ∙
-      ap (λ qs. qs ++ map bare (map (bounded bound) (filter is_other ps))) (bare-bounded (filter is_lifetime ps)) ∙
-      ap (λ qs. map (bounded bound) (map bare (filter is_lifetime ps)) ++ qs) (bare-bounded (filter is_other ps)) ∙
-      sym (map-append (bounded bound) (map bare (filter is_lifetime ps)) (map bare (filter is_other ps)))
+-- `type Output = T;`
+pub named-laid : (s : Laid) (t : TypeTree) →
+    lay (lay (fix s (codes "type Output =")) (type_trees t)) semicolon ≡ lay s (join (assoc_trees (named t)) no_trees)
+named-laid s t =
+    let front : Laid = fix s (codes "type Output =") in
+    sym (lay-join front (join (type_trees t) semicolon) no_trees ∙ lay-join front (type_trees t) semicolon)
 
-pub ruleset head_steps = (bound_steps, map-append, bounded-params)
+pub ruleset head_steps = (print_steps, map-append, segments_of_plain)

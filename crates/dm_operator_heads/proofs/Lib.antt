@@ -1,1 +1,1 @@
-pub mod HeadSteps
+mod HeadSteps

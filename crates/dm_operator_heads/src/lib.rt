@@ -1,6 +1,10 @@
-//! The parameters and types that stand in operators' implementations.
+//! The heads of operators' implementations, as text: no tree of them is made.
 #![tactic(auto)]
 
 mod heads;
+mod needed;
+mod outputs;
 
-pub use heads::{assocs, item_params, returned};
+pub use heads::{implemented_trait, params};
+pub use needed::{all_predicates, predicates};
+pub use outputs::{output_type, returned_type};

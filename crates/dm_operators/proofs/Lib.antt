@@ -16,4 +16,3 @@ pub mod ValidLaws
 pub mod MeaningLaws
 mod WalkLaws
 mod PlanLaws
-mod TraitSteps

@@ -13,10 +13,11 @@ use Rattle.dm_output.specs.declared.item.Receiver.TheVariants as receiver
 use Rattle.dm_generics.specs.Words.{word, words, plain_segments, self_type}
 use Rattle.dm_generics.specs.Bounds.{op_output}
 use Rattle.dm_generics.specs.Additions.{bounded}
+use Rattle.dm_bounds.specs.RightSide.{right_type, right_param}
 use Rattle.dm_operators.specs.Operators.{Form, structural, scalar, unary, Operator}
 use Rattle.dm_operators.specs.Attributes.{form_in}
 use Rattle.dm_operators.specs.Meaning.{has_unit, Gives}
-use Rattle.dm_operators.specs.Predicates.{right_type, right_param, implemented, needed}
+use Rattle.dm_operators.specs.Predicates.{implemented, needed}
 
 -- ---- types
 

@@ -1,15 +1,13 @@
 -- The traits that an implementation names, and the predicates that it adds to the declared ones, so that the operation of each kept field
 -- may be called.
-use Rattle.std.specs.Prelude.{List, [], ◌∷◌, ◌++◌, Bool, false, cond, ◌||◌, None, codes}
+use Rattle.std.specs.Prelude.{List, [], ◌∷◌, ◌++◌, Bool, false, cond, ◌||◌, codes}
 use Rattle.dm_ast.specs.Tree.{TypeTree, PathTree, path_tree, segment, segments_of, ArgumentsTree, absent, angle, ArgumentTree, type_arg, assoc_type, arguments_of, arguments_absent}
-use Rattle.dm_ast.specs.Declarations.{ParamTree, type_param, PredicateTree, type_predicate, Declaration}
-use Rattle.dm_ast.specs.Implementors.{name_type}
+use Rattle.dm_ast.specs.Declarations.{PredicateTree, Declaration}
 use Rattle.dm_generics.specs.Words.{word, plain_segments}
-use Rattle.dm_generics.specs.Lists.{separated}
-use Rattle.dm_generics.specs.Bounds.{marker}
 use Rattle.dm_operands.specs.Marked.{MarkedField, MarkedCase}
 use Rattle.dm_operands.specs.Kept.{keeps_some}
 use Rattle.dm_bounds.specs.Needed.{Wanted, is_free, needs, Asking, added_by, added_in_by, needed_by}
+use Rattle.dm_bounds.specs.RightSide.{right_type, right_copies}
 use Rattle.dm_operators.specs.Operators.{Form, structural, scalar, unary, Operator}
 use Rattle.dm_operators.specs.Attributes.{cases_for, form_in}
 
@@ -25,14 +23,6 @@ abbrev pub trait_with : Operator → List ArgumentTree → PathTree
 trait_with o gs =
     path_tree false (segments_of (plain_segments (codes "derive_more" ∷ codes "core" ∷ codes "ops" ∷ []) ++
     segment (word o.trait_name) (angled gs) ∷ []))
-
--- the parameter that stands for the right side's type
-abbrev pub right_type : TypeTree
-right_type = name_type (word (codes "__derive_more_Rhs"))
-
--- that parameter as it is declared
-abbrev pub right_param : ParamTree
-right_param = type_param [] (word (codes "__derive_more_Rhs")) None None
 
 -- `__derive_more_Rhs`, where any right side is taken
 abbrev pub right_argument : Form → List ArgumentTree
@@ -82,10 +72,6 @@ keeps_several (f ∷ fs) = cond f.left_out (keeps_several fs) (keeps_some fs)
 abbrev pub some_several : List MarkedCase → Bool
 some_several [] = false
 some_several (c ∷ cs) = keeps_several c.fields || some_several cs
-
--- `__derive_more_Rhs: derive_more::core::marker::Copy`
-abbrev pub right_copies : PredicateTree
-right_copies = type_predicate None right_type (separated (marker false (codes "Copy") ∷ []))
 
 -- whether any right side is copied, since several fields take it
 abbrev pub copies_right : Form → List MarkedCase → Bool

@@ -5,6 +5,5 @@
 mod laws;
 pub mod operator;
 pub mod places;
-pub mod predicates;
 
 pub use laws::operators_are_given;

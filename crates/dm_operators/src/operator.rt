@@ -27,6 +27,13 @@ pub struct Operator {
     pub assigning: bool,
 }
 
+/// An operator, and what stands right of self in its implementation.
+#[derive(Clone, Copy)]
+pub struct Implemented {
+    pub form: Form,
+    pub operator: Operator,
+}
+
 /// The twenty-two of them, those alike side by side.
 pub const OPERATORS: [Operator; 22] = [
     Operator {

@@ -1,7 +1,7 @@
 //! The walk over the places of a declaration that an operator looks at: it gives the cases that it works on, or the first refusal.
 #![tactic(auto, using(crate::proofs::WalkLaws::walk_steps))]
 
-ghost use Rattle.std.specs.Prelude.{◌≡◌, [], ◌∷◌, map, false, None};
+ghost use Rattle.std.specs.Prelude.{◌≡◌, [], ◌∷◌, map, false, None, ◌&&◌, ◌||◌};
 ghost use Rattle.dm_stream.specs.declared.error.Error.TheVariants.{Refused};
 ghost use Rattle.dm_ast.specs.Declarations.{declaration_view, variant_view, fields_view};
 ghost use Rattle.dm_output.specs.Values as values;
@@ -216,6 +216,23 @@ fn part_cases<'x, 'a>(
     }
 }
 
+/// Refuses the declaration at its word where its shape is wrong.
+fn refuse_shape(input: &DeriveInput<'_>, wrong: bool) -> Result<(), Error>
+    ensures { IsWalked (spec.wrong_if wrong (declaration_view input.now)) (λ _. Unit {0}) result }
+{
+    if wrong {
+        return Err(refused(Kind::WrongShape, word_of(input)));
+    }
+    Ok(())
+}
+
+/// Whether the operator changes an enum in its place.
+fn assigns_enum(operator: &Operator, input: &DeriveInput<'_>) -> bool
+    ensures { result ≡ (operator.now.assigning && values.is_enum (declaration_view input.now)) }
+{
+    operator.assigning && is_enum(input)
+}
+
 /// With a value of the same type on the right.
 fn structural_cases<'x, 'a>(
     alloc: Global,
@@ -225,14 +242,18 @@ fn structural_cases<'x, 'a>(
     ensures { IsWalked (plans.structural_refusal (operator_view operator.now) (declaration_view input.now))
         (λ x. plans.AreOpened (skipped_under operator.now.method.now) (values.cases (declaration_view input.now)) x.items) result }
 {
-    if is_union(input) || operator.assigning && is_enum(input) {
-        return Err(refused(Kind::WrongShape, word_of(input)));
-    }
+    refuse_shape(input, is_union(input) || assigns_enum(operator, input))?;
     refuse_skip(alloc, input.attrs.as_slice(), operator.method)?;
-    if is_unit_struct(input) {
-        return Err(refused(Kind::WrongShape, word_of(input)));
-    }
+    refuse_shape(input, is_unit_struct(input))?;
     part_cases(alloc, operator, input)
+}
+
+/// Whether no operator with any value on the right is there for a declaration of this shape.
+fn has_no_form(operator: &Operator, input: &DeriveInput<'_>) -> bool
+    ensures { result ≡ (spec.is_union (declaration_view input.now).shape || (spec.is_unit_struct (declaration_view input.now).shape ||
+        (operator.now.assigning && values.is_enum (declaration_view input.now)))) }
+{
+    is_union(input) || is_unit_struct(input) || assigns_enum(operator, input)
 }
 
 /// What stands right of self, any value or one of the same type, as the type's attributes say.
@@ -240,15 +261,11 @@ fn scalar_form(alloc: Global, operator: &Operator, input: &DeriveInput<'_>) -> R
     ensures { IsWalked (plans.type_refusal (operator_view operator.now) (declaration_view input.now))
         (λ f. form_view f ≡ form_by ops.scalar (forwards (operator_view operator.now) input.now.attrs)) result }
 {
-    if is_union(input) || is_unit_struct(input) || operator.assigning && is_enum(input) {
-        return Err(refused(Kind::WrongShape, word_of(input)));
-    }
+    refuse_shape(input, has_no_form(operator, input))?;
     if is_forwarded_under(alloc, input.attrs.as_slice(), operator.method)? {
         return Ok(Form::Structural);
     }
-    if is_enum(input) {
-        return Err(refused(Kind::WrongShape, word_of(input)));
-    }
+    refuse_shape(input, is_enum(input))?;
     Ok(Form::Scalar)
 }
 
@@ -335,9 +352,7 @@ fn unary_cases<'x, 'a>(
     ensures { IsWalked (plans.unary_refusal (declaration_view input.now))
         (λ x. plans.AreOpened keeps_all (values.cases (declaration_view input.now)) x.items) result }
 {
-    if is_union(input) || is_unit_struct(input) {
-        return Err(refused(Kind::WrongShape, word_of(input)));
-    }
+    refuse_shape(input, is_union(input) || is_unit_struct(input))?;
     whole_cases(alloc, input)
 }
 

@@ -14,10 +14,10 @@ use dm_operands::cases::CaseRef;
 use dm_stream::Error;
 use std::alloc::{AllocError, Global};
 
-fn printed<'a>(
+fn printed<'x, 'a>(
     alloc: Global,
-    input: &DeriveInput<'a>,
-    cases: &[CaseRef<'_, 'a>],
+    input: &'x DeriveInput<'a>,
+    cases: &[CaseRef<'x, 'a>],
 ) -> Result<String, AllocError>
     requires readable { IsReadable (declaration_view input.now) }
     requires cases { AreCases (declaration_view input.now) cases.now }

@@ -1,8 +1,9 @@
 //! The predicates of the implementation, as text.
-#![tactic(auto, using(dm_generics::proofs::Builders::builder_steps))]
+#![tactic(auto, using(dm_print_types::proofs::Laying::print_steps))]
 
-ghost use Rattle.std.specs.Prelude.{◌≡◌, map, IfOk, OnOk};
-ghost use Rattle.dm_ast.specs.Tree.{path_view};
+ghost use Rattle.std.specs.Prelude.{◌≡◌, map, OnOk};
+ghost use Rattle.dm_stream.specs.Layout.{nowhere};
+ghost use Rattle.dm_ast.specs.TypeTokens.{path_trees};
 ghost use Rattle.dm_ast.specs.Declarations.{declaration_view};
 ghost use Rattle.dm_output.specs.Tokens as tokens;
 ghost use Rattle.dm_print_types.specs.Laying.{lay};
@@ -11,18 +12,20 @@ ghost use Rattle.dm_partial_eq.specs.Heads.{partial_eq_path};
 ghost use Rattle.dm_partial_eq.specs.Emitted as spec;
 ghost use Rattle.dm_operands.specs.CaseViews.{case_view};
 
-use dm_ast::{DeriveInput, Path, Ty};
-use dm_bounds::needed::{Asks, Sought, needs, with_needed};
-use dm_generics::names::path_of;
+use dm_ast::{DeriveInput, Ty};
+use dm_bounds::Sought;
 use dm_layout::Layout;
 use dm_operands::cases::CaseRef;
-use dm_sides::made::made_predicates;
+use dm_print_types::token::fixed;
+use dm_where_clauses::needed::{Asks, needs, with_needed};
+use dm_where_clauses::printing::clause;
 use std::alloc::{AllocError, Global};
 
-fn trait_path<'a>(alloc: Global) -> Result<Path<'a>, AllocError>
-    ensures { IfOk result (λ p. path_view p ≡ partial_eq_path) }
+/// Adds the trait's path.
+pub(crate) fn trait_path(out: &mut Layout) -> Result<(), AllocError>
+    ensures { OnOk result (out.new ≡ lay out.old (path_trees nowhere partial_eq_path)) }
 {
-    path_of(alloc, &["derive_more", "core", "cmp", "PartialEq"])
+    fixed(out, "derive_more :: core :: cmp :: PartialEq")
 }
 
 /// The trait is asked of each type that needs it.
@@ -35,19 +38,20 @@ impl Asks for Compares {
         needs(sought, ty)
     }
 
-    fn path<'a>(&self, _ty: &Ty<'a>, alloc: Global) -> Result<Path<'a>, AllocError> {
-        trait_path(alloc)
+    fn print_path(&self, _ty: &Ty<'_>, _alloc: Global, out: &mut Layout) -> Result<(), AllocError> {
+        trait_path(out)
     }
 }
 
 /// Adds the declared predicates, and behind them those that the kept fields need.
-pub(crate) fn predicates<'a>(
+pub(crate) fn predicates<'x, 'a>(
     alloc: Global,
     out: &mut Layout,
-    input: &DeriveInput<'a>,
-    cases: &[CaseRef<'_, 'a>],
+    input: &'x DeriveInput<'a>,
+    cases: &[CaseRef<'x, 'a>],
 ) -> Result<(), AllocError>
     ensures { OnOk result (out.new ≡ lay out.old (tokens.where_trees (spec.predicates_for (declaration_view input.now) (map case_view cases.now)))) }
 {
-    made_predicates(with_needed(cases, input, &Compares, alloc), alloc, out)
+    let all = with_needed(cases, input, &Compares, alloc)?;
+    clause(all.as_slice(), &Compares, alloc, out)
 }

@@ -143,11 +143,11 @@ fn methods<'a>(
     method(alloc, out, Comparing::Unequal, input, cases)
 }
 
-fn item<'a>(
+fn item<'x, 'a>(
     alloc: Global,
     out: &mut Layout,
-    input: &DeriveInput<'a>,
-    cases: &[CaseRef<'_, 'a>],
+    input: &'x DeriveInput<'a>,
+    cases: &[CaseRef<'x, 'a>],
 ) -> Result<(), AllocError>
     ensures { OnOk result (out.new ≡ lay out.old (tokens.item_trees (spec.item_for (declaration_view input.now) (map case_view cases.now)))) }
 {
@@ -158,10 +158,10 @@ fn item<'a>(
 }
 
 /// The text of the implementation.
-pub(crate) fn printed_item<'a>(
+pub(crate) fn printed_item<'x, 'a>(
     alloc: Global,
-    input: &DeriveInput<'a>,
-    cases: &[CaseRef<'_, 'a>],
+    input: &'x DeriveInput<'a>,
+    cases: &[CaseRef<'x, 'a>],
 ) -> Result<String, AllocError>
     ensures { IfOk result (λ s. string_bytes s ≡ tokens.printed (spec.item_for (declaration_view input.now) (map case_view cases.now) ∷ [])) }
 {

@@ -2,12 +2,12 @@
 use Rattle.std.proofs.Common.{◌≡◌, ℕ, List, [], ◌∷◌, ◌++◌, map, length, Result, Ok, Err, IfOk, sym, ap, subst, ◌∙◌, arith}
 use Rattle.std.specs.Prelude.{sum, IsOkAnd, MatchResult, String, string_bytes}
 use Rattle.std.specs.declared.alloc.Global.{Global}
+use Rattle.std.specs.declared.vec.Vec.{Vec}
 use Rattle.std.proofs.lemmas.List.{length-map}
 use Rattle.dm_stream.specs.declared.error.Error.{Error}
 use Rattle.dm_stream.specs.declared.error.Error.TheVariants.{NoMemory, Refused}
 use Rattle.dm_ast.specs.declared.decl.DeriveInput.{DeriveInput}
-use Rattle.dm_ast.specs.declared.decl.WherePredicate.{WherePredicate}
-use Rattle.dm_ast.specs.Declarations.{Declaration, PredicateTree, declaration_view, predicate_view}
+use Rattle.dm_ast.specs.Declarations.{Declaration, PredicateTree, declaration_view}
 use Rattle.dm_ast.specs.Implementors as declared
 use Rattle.dm_output.specs.Output.{ItemTree}
 use Rattle.dm_attr.specs.Answers.{IsWalked}
@@ -15,16 +15,20 @@ use Rattle.dm_generics.proofs.Builders.{builder_steps}
 use Rattle.dm_operands.specs.declared.cases.CaseRef.{CaseRef}
 use Rattle.dm_operands.specs.CaseViews.{case_view}
 use Rattle.dm_operands.specs.Places.{AreCases, IsMarking}
+use Rattle.dm_bounds.specs.Needed.{Asking, needing}
+use Rattle.dm_where_clauses.specs.declared.needed.Predicate.{Predicate}
+use Rattle.dm_where_clauses.specs.Shown.{shown}
 use Rattle.dm_operators.specs.declared.places.Plan.{Plan}
 use Rattle.dm_operators.specs.Operators.{Form, Operator}
 use Rattle.dm_operators.specs.Table.{form_view}
 use Rattle.dm_operators.specs.Attributes.{form_in}
-use Rattle.dm_operators.specs.Predicates.{needed_in}
+use Rattle.dm_operators.specs.Predicates.{asking, needed_in}
 use Rattle.dm_operators.specs.Heads.{item_predicates}
 use Rattle.dm_operators.specs.Plans.{IsPlan, IsPlanned}
 use Rattle.dm_operators.specs.Implementations.{item_of}
 use Rattle.dm_operators.specs.Refusals as operating
 use Rattle.dm_partial_eq.specs.Checks as comparing
+use Rattle.dm_partial_eq.specs.Heads.{partial_eq_path}
 use Rattle.dm_partial_eq.specs.Emitted.{item, predicates_for}
 use Rattle.dm_printed.specs.Traits.{Trait, emitted, refusal}
 use Rattle.dm_printed.specs.Answers.{TraitPrints}
@@ -34,15 +38,15 @@ use Rattle.dm_printed.proofs.Deriving.{not-read, not-given, derivable}
 
 -- ---- as many as are made are those that they stand for
 
-as-many : (n : ℕ) (made : List WherePredicate) (ps : List PredicateTree) → n ≡ length made → map predicate_view made ≡ ps → n ≡ length ps
-as-many n made ps count same = count ∙ sym (length-map made predicate_view) ∙ ap length same
+as-many : (a : Asking) (n : ℕ) (made : List Predicate) (ps : List PredicateTree) → n ≡ length made → map (shown a) made ≡ ps → n ≡ length ps
+as-many a n made ps count same = count ∙ sym (length-map made (shown a)) ∙ ap length same
 
-pub count-compared : {E : Type 0} (d : Declaration) (cs : List CaseRef) (made : Result (List WherePredicate) E) (n : ℕ) → AreCases d cs →
-    IfOk made (λ ps. map predicate_view ps ≡ predicates_for d (map case_view cs)) → IsOkAnd made (λ all. n ≡ length all) →
+pub count-compared : {E : Type 0} (d : Declaration) (cs : List CaseRef) (made : Result (Vec Predicate Global) E) (n : ℕ) → AreCases d cs →
+    IfOk made (λ ps. map (shown (needing partial_eq_path)) ps.items ≡ predicates_for d (map case_view cs)) → IsOkAnd made (λ all. n ≡ length all.items) →
     n ≡ length (item d).predicates
-count-compared d cs (Ok all) n are made count =
-    as-many n all (item d).predicates count (made ∙ ap (predicates_for d) are)
-count-compared d cs (Err e) n are made count = absurd count
+count-compared d cs (Ok all) n are shows count =
+    as-many (needing partial_eq_path) n all.items (item d).predicates count (shows ∙ ap (predicates_for d) are)
+count-compared d cs (Err e) n are shows count = absurd count
 
 -- the predicates by a plan are the implementation's
 planned : (o : Operator) (d : Declaration) (p : Plan) → IsPlan o d p →
@@ -51,12 +55,13 @@ planned o d p is =
     ap (λ (f : Form). declared.predicates_of d ++ needed_in f o d (map case_view p.cases.items)) is.form ∙
     ap (λ cs. declared.predicates_of d ++ needed_in (form_in o d) o d cs) is.cases
 
-pub count-operated : {E : Type 0} (o : Operator) (d : Declaration) (p : Plan) (made : Result (List WherePredicate) E) (n : ℕ) → IsPlan o d p →
-    IfOk made (λ ps. map predicate_view ps ≡ declared.predicates_of d ++ needed_in (form_view p.form) o d (map case_view p.cases.items)) →
-    IsOkAnd made (λ all. n ≡ length all) → n ≡ length (item_of o d).predicates
-count-operated o d p (Ok all) n is made count =
-    as-many n all (item_of o d).predicates count (made ∙ planned o d p is)
-count-operated o d p (Err e) n is made count = absurd count
+pub count-operated : {E : Type 0} (o : Operator) (d : Declaration) (p : Plan) (made : Result (Vec Predicate Global) E) (n : ℕ) → IsPlan o d p →
+    IfOk made (λ ps. map (shown (asking (form_view p.form) o)) ps.items ≡
+    declared.predicates_of d ++ needed_in (form_view p.form) o d (map case_view p.cases.items)) →
+    IsOkAnd made (λ all. n ≡ length all.items) → n ≡ length (item_of o d).predicates
+count-operated o d p (Ok all) n is shows count =
+    as-many (asking (form_view p.form) o) n all.items (item_of o d).predicates count (shows ∙ planned o d p is)
+count-operated o d p (Err e) n is shows count = absurd count
 
 -- what is refused is not counted
 pub uncompared : (d : Declaration) (e : Error) → IsMarking d (Err e) →

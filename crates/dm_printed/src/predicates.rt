@@ -1,10 +1,9 @@
 //! How many predicates an implementation has.
 #![tactic(auto, using(crate::proofs::Counting::counting_steps))]
 
-ghost use Rattle.std.specs.Prelude.{◌≡◌, Ok, Err, length, map, IfOk, IsOkAnd, MatchResult};
-ghost use Rattle.dm_ast.specs.Declarations.{declaration_view, predicate_view};
+ghost use Rattle.std.specs.Prelude.{◌≡◌, Ok, Err, length, IfOk, IsOkAnd, MatchResult};
+ghost use Rattle.dm_ast.specs.Declarations.{declaration_view};
 ghost use Rattle.dm_attr.specs.Answers.{IsWalked};
-ghost use Rattle.dm_operands.specs.CaseViews.{case_view};
 ghost use Rattle.dm_operands.specs.Readable.{IsReadable};
 ghost use Rattle.dm_partial_eq.specs.Checks as comparing;
 ghost use Rattle.dm_partial_eq.specs.Emitted as compared;
@@ -16,34 +15,22 @@ ghost use Rattle.dm_printed.specs.Answers.{IsDerived, trait_view};
 ghost use Rattle.dm_printed.specs.Counts.{TraitCounts};
 
 use crate::traits::{Trait, printed};
-use dm_ast::{DeriveInput, WherePredicate};
-use dm_bounds::needed::with_needed;
-use dm_operands::cases::CaseRef;
+use dm_ast::DeriveInput;
 use dm_operands::places::cases_of;
-use dm_operators::operator::Operator;
+use dm_operator_heads::all_predicates;
+use dm_operators::operator::{Implemented, Operator};
 use dm_operators::places::plan_for;
-use dm_operators::predicates::{Implemented, all_predicates};
 use dm_partial_eq::predicates::Compares;
-use dm_stream::{Error, Seq};
+use dm_stream::Error;
+use dm_where_clauses::needed::with_needed;
 use std::alloc::{AllocError, Global};
 
-/// The predicates of the implementation of `PartialEq` for these cases.
-fn compared_predicates<'a>(
-    alloc: Global,
-    input: &DeriveInput<'a>,
-    cases: &[CaseRef<'_, 'a>],
-) -> Result<Seq<WherePredicate<'a>>, AllocError>
-    ensures { IfOk result (λ ps. map predicate_view ps ≡ compared.predicates_for (declaration_view input.now) (map case_view cases.now)) }
-{
-    with_needed(cases, input, &Compares, alloc)
-}
-
 /// How many there are of what was made.
-fn number<T: Drop>(made: Result<Seq<T>, AllocError>) -> Result<usize, AllocError>
-    ensures { IfOk result (λ n. IsOkAnd made (λ all. n ≡ length all)) }
+fn number<T: Drop>(made: Result<Vec<T>, AllocError>) -> Result<usize, AllocError>
+    ensures { IfOk result (λ n. IsOkAnd made (λ all. n ≡ length all.items)) }
 {
     match made {
-        Ok(all) => Ok(all.len()),
+        Ok(all) => Ok(all.as_slice().len()),
         Err(error) => Err(error),
     }
 }
@@ -52,7 +39,7 @@ fn compared_count(alloc: Global, input: &DeriveInput<'_>) -> Result<usize, Error
     ensures { IsWalked (comparing.refusal (declaration_view input.now)) (λ n. n ≡ length (compared.item (declaration_view input.now)).predicates) result }
 {
     let cases = cases_of(alloc, input)?;
-    Ok(number(compared_predicates(alloc, input, cases.as_slice()))?)
+    Ok(number(with_needed(cases.as_slice(), input, &Compares, alloc))?)
 }
 
 fn operated_count(
@@ -69,7 +56,7 @@ fn operated_count(
         operator: *operator,
     };
     let cases = plan.cases.as_slice();
-    Ok(number(all_predicates(alloc, &implemented, input, cases))?)
+    Ok(number(all_predicates(cases, input, &implemented, alloc))?)
 }
 
 /// How many predicates the trait's implementation for a declaration has.

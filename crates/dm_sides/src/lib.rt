@@ -3,5 +3,6 @@
 #![tactic(auto)]
 
 pub mod heads;
-pub mod made;
+mod made;
+pub mod params;
 pub mod pattern;

@@ -37,11 +37,11 @@ fn trait_for(out: &mut Layout) -> Result<(), AllocError>
 }
 
 /// Adds what stands in front of the implementation's methods.
-pub(crate) fn item_head<'a>(
+pub(crate) fn item_head<'x, 'a>(
     alloc: Global,
     out: &mut Layout,
-    input: &DeriveInput<'a>,
-    cases: &[CaseRef<'_, 'a>],
+    input: &'x DeriveInput<'a>,
+    cases: &[CaseRef<'x, 'a>],
 ) -> Result<(), AllocError>
     ensures { OnOk result (out.new ≡ lay out.old (tokens.head_trees (spec.with_methods (declaration_view input.now) (map case_view cases.now) []))) }
 {

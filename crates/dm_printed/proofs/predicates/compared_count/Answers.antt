@@ -6,6 +6,6 @@ use Rattle.dm_printed.proofs.predicates.compared_count.Goals as goal
 pub returns : goal.returns
 returns c = (
   c.in_ok-cases.ensures.0,
-  count-compared (declaration_view c.args.input.now) c.in_ok-cases.cases.items c.compared_predicates.result c.in_ok-number.field-0
-      c.in_ok-cases.ensures.1 (rw c.as_slice.ensures.value at c.compared_predicates.ensures) c.in_ok-number.ensures,
+  count-compared (declaration_view c.args.input.now) c.in_ok-cases.cases.items c.with_needed.result c.in_ok-number.field-0 c.in_ok-cases.ensures.1
+      (rw c.as_slice.ensures.value at c.with_needed.ensures) c.in_ok-number.ensures,
 )

@@ -1,0 +1,162 @@
+//! Whether texts are read whole as parts of the output language.
+
+use dm_lexer::lex;
+use dm_read_arguments::sort::{Sort, Wanted};
+use dm_read_exprs::nested::{block, expr};
+use dm_read_formats::opaque::run;
+use dm_read_heads::assoc::assocs;
+use dm_read_heads::attr::attrs;
+use dm_read_heads::head::printed_head;
+use dm_read_heads::signature::named_signature;
+use dm_read_leaves::qualified::qualified;
+use dm_read_leaves::ty::ty;
+use dm_read_patterns::nested::pattern;
+use dm_read_places::path::path;
+use dm_read_places::place::Place;
+use dm_rows::named;
+use dm_stream::Error;
+use std::alloc::Global;
+
+/// What a text is read as.
+#[derive(Clone, Copy)]
+pub enum Part {
+    Expression,
+    /// The inside of a block.
+    Block,
+    Pattern,
+    Path,
+    Type,
+    Qualified,
+    /// The value of a format's argument.
+    Value,
+    /// Attributes in front.
+    Attrs,
+    /// What stands between `impl` and the brace.
+    Head,
+    /// Associated types.
+    Assocs,
+    /// A method's name, and what it takes and gives.
+    Signature,
+}
+
+/// More than the length of any list in a text, and than its depth.
+const FUEL: usize = 1_000;
+
+/// How deep texts may nest.
+const ROOM: usize = 100;
+
+/// A whole expression.
+const WANTED: Wanted = Wanted {
+    fuel: FUEL,
+    room: ROOM,
+    sort: Sort::Whole(true),
+};
+
+const PARTS: &[(&str, Part)] = &[
+    ("expression", Part::Expression),
+    ("block", Part::Block),
+    ("pattern", Part::Pattern),
+    ("path", Part::Path),
+    ("type", Part::Type),
+    ("qualified", Part::Qualified),
+    ("value", Part::Value),
+    ("attributes", Part::Attrs),
+    ("head", Part::Head),
+    ("associated", Part::Assocs),
+    ("signature", Part::Signature),
+];
+
+/// Whether it was read, and nothing is left. What was read is owned here alone, where its type is open, so that dropping it is cheap to
+/// prove.
+fn is_whole<T: Drop>(read: Result<T, Error>, at_end: bool) -> Result<bool, Error> {
+    match read {
+        Ok(_) => Ok(at_end),
+        Err(Error::Refused(_)) => Ok(false),
+        Err(Error::NoMemory) => Err(Error::NoMemory),
+    }
+}
+
+fn is_expression(place: &mut Place<'_, '_>) -> Result<bool, Error> {
+    let read = expr(place, WANTED);
+    is_whole(read, place.at_end())
+}
+
+/// A block's reader promises no place: it reads to the end.
+fn is_block(place: &mut Place<'_, '_>) -> Result<bool, Error> {
+    is_whole(block(place, FUEL, ROOM), true)
+}
+
+fn is_pattern(place: &mut Place<'_, '_>) -> Result<bool, Error> {
+    let read = pattern(place, FUEL, ROOM);
+    is_whole(read, place.at_end())
+}
+
+fn is_path(place: &mut Place<'_, '_>) -> Result<bool, Error> {
+    let read = path(FUEL, place);
+    is_whole(read, place.at_end())
+}
+
+fn is_type(place: &mut Place<'_, '_>) -> Result<bool, Error> {
+    let read = ty(place);
+    is_whole(read, place.at_end())
+}
+
+fn is_qualified(place: &mut Place<'_, '_>) -> Result<bool, Error> {
+    let read = qualified(place);
+    is_whole(read, place.at_end())
+}
+
+fn is_value(place: &mut Place<'_, '_>) -> Result<bool, Error> {
+    let read = run(place);
+    is_whole(read, place.at_end())
+}
+
+fn are_attrs(place: &mut Place<'_, '_>) -> Result<bool, Error> {
+    let read = attrs(place);
+    is_whole(read, place.at_end())
+}
+
+fn is_head(place: &mut Place<'_, '_>) -> Result<bool, Error> {
+    let read = printed_head(place);
+    is_whole(read, place.at_end())
+}
+
+fn are_assocs(place: &mut Place<'_, '_>) -> Result<bool, Error> {
+    let read = assocs(place, FUEL);
+    is_whole(read, place.at_end())
+}
+
+fn is_signature(place: &mut Place<'_, '_>) -> Result<bool, Error> {
+    let read = named_signature(place);
+    is_whole(read, place.at_end())
+}
+
+/// Whether what stands at a place is read whole.
+fn reads_whole(part: Part, place: &mut Place<'_, '_>) -> Result<bool, Error> {
+    match part {
+        Part::Expression => is_expression(place),
+        Part::Block => is_block(place),
+        Part::Pattern => is_pattern(place),
+        Part::Path => is_path(place),
+        Part::Type => is_type(place),
+        Part::Qualified => is_qualified(place),
+        Part::Value => is_value(place),
+        Part::Attrs => are_attrs(place),
+        Part::Head => is_head(place),
+        Part::Assocs => are_assocs(place),
+        Part::Signature => is_signature(place),
+    }
+}
+
+/// The part of this name.
+pub fn part_named(head: &str) -> Option<Part> {
+    named(PARTS, head)
+}
+
+/// Whether a text that is made of tokens is read whole, in words.
+pub fn read_whole(alloc: Global, part: Part, text: &str) -> Result<String, Error> {
+    let stream = lex(alloc, text)?;
+    let is_whole = reads_whole(part, &mut Place::new(alloc, stream.cursor()))?;
+    let told = if is_whole { "whole" } else { "not whole" };
+    Ok(String::from_str(alloc, told)?)
+}

@@ -1,8 +1,0 @@
-use Rattle.std.proofs.Common.{map}
-use Rattle.dm_ast.specs.Declarations.{param_view}
-use Rattle.dm_output.specs.Tokens.{params_trees}
-use Rattle.dm_sides.proofs.MadeLaws.{made-laid}
-use Rattle.dm_operations.proofs.printing.params.Goals as goal
-
-pub returns : goal.returns
-returns c = made-laid c.item_params.result c.made_params.result (map param_view) params_trees _ _ _ c.item_params.ensures c.made_params.ensures
