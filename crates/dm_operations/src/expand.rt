@@ -20,10 +20,10 @@ use std::alloc::{AllocError, Global};
 
 /// The text of the implementation by a plan.
 fn written<'x, 'a>(
-    alloc: Global,
-    operator: &Operator,
     input: &'x DeriveInput<'a>,
     plan: &Plan<'x, 'a>,
+    operator: &Operator,
+    alloc: Global,
 ) -> Result<String, AllocError>
     requires is_operator { IsOperator (operator_view operator.now) }
     requires readable { IsReadable (declaration_view input.now) }
@@ -36,7 +36,7 @@ fn written<'x, 'a>(
         form: plan.form,
         operator: *operator,
     };
-    printed_item(alloc, &implemented, input, plan.cases.as_slice())
+    printed_item(input, plan.cases.as_slice(), &implemented, alloc)
 }
 
 /// The text of the implementation of the operator for the declaration.
@@ -45,12 +45,12 @@ fn written<'x, 'a>(
 /// type parameter. Behind the declared predicates stands, for each field that isn't skipped, in order and with repeats, that its type has the
 /// operator, where it mentions a parameter, or for any right side of every type, and neither `Self` nor the declared type stands in it. The
 /// refusals are those of [plan_for].
-pub fn printed(alloc: Global, operator: &Operator, input: &DeriveInput<'_>) -> Result<String, Error>
+pub fn printed(input: &DeriveInput<'_>, operator: &Operator, alloc: Global) -> Result<String, Error>
     requires is_operator { IsOperator (operator_view operator.now) }
     requires readable { IsReadable (declaration_view input.now) }
     ensures printed { spec.IsPrinted (operator_view operator.now) (declaration_view input.now) result }
     ensures few { IfOk result (λ _. AreFew (operator_view operator.now) (declaration_view input.now)) }
 {
-    let plan = plan_for(alloc, operator, input)?;
-    Ok(written(alloc, operator, input, &plan)?)
+    let plan = plan_for(alloc, input, operator)?;
+    Ok(written(input, &plan, operator, alloc)?)
 }

@@ -43,7 +43,7 @@ fn unary_start(out: &mut Layout) -> Result<(), AllocError>
 }
 
 /// Adds the attributes of the implementation, and `impl`.
-fn item_start(out: &mut Layout, form: Form) -> Result<(), AllocError>
+fn item_start(form: Form, out: &mut Layout) -> Result<(), AllocError>
     ensures { OnOk result (out.new ≡ lay out.old (items.start_trees (form_view form))) }
 {
     match form {
@@ -55,24 +55,24 @@ fn item_start(out: &mut Layout, form: Form) -> Result<(), AllocError>
 
 /// Adds what stands in front of the implementation's brace.
 fn item_head<'x, 'a>(
-    alloc: Global,
-    out: &mut Layout,
-    implemented: &Implemented,
     input: &'x DeriveInput<'a>,
     cases: &[CaseRef<'x, 'a>],
+    implemented: &Implemented,
+    alloc: Global,
+    out: &mut Layout,
 ) -> Result<(), AllocError>
     ensures { OnOk result (out.new ≡ lay out.old (tokens.head_trees (items.item_with (form_view implemented.now.form) (operator_view implemented.now.operator) (declaration_view input.now) (map case_view cases.now) [] []))) }
 {
-    item_start(out, implemented.form)?;
-    params(alloc, out, input, implemented)?;
-    implemented_trait(out, implemented)?;
+    item_start(implemented.form, out)?;
+    params(input, implemented, alloc, out)?;
+    implemented_trait(implemented, out)?;
     word(out, "for")?;
-    declared_type(alloc, out, input)?;
-    predicates(cases, input, implemented, alloc, out)
+    declared_type(input, alloc, out)?;
+    predicates(input, cases, implemented, alloc, out)
 }
 
 /// Adds the attributes of the method, and `fn`.
-fn method_start(out: &mut Layout, form: Form) -> Result<(), AllocError>
+fn method_start(form: Form, out: &mut Layout) -> Result<(), AllocError>
     ensures { OnOk result (out.new ≡ lay out.old (items.method_start_trees (form_view form))) }
 {
     match form {
@@ -83,7 +83,7 @@ fn method_start(out: &mut Layout, form: Form) -> Result<(), AllocError>
 }
 
 /// Adds `&mut self`, or `self`.
-fn receiver(out: &mut Layout, operator: &Operator) -> Result<(), AllocError>
+fn receiver(operator: &Operator, out: &mut Layout) -> Result<(), AllocError>
     ensures { OnOk result (out.new ≡ lay out.old (tokens.receiver_trees (heads.receiver_of (operator_view operator.now)))) }
 {
     if operator.assigning {
@@ -93,7 +93,7 @@ fn receiver(out: &mut Layout, operator: &Operator) -> Result<(), AllocError>
 }
 
 /// Adds a comma and the right side, where there is one.
-fn right_side(out: &mut Layout, form: Form) -> Result<(), AllocError>
+fn right_side(form: Form, out: &mut Layout) -> Result<(), AllocError>
     ensures { OnOk result (out.new ≡ lay out.old (items.more_input (heads.method_param (form_view form)))) }
 {
     match form {
@@ -104,21 +104,21 @@ fn right_side(out: &mut Layout, form: Form) -> Result<(), AllocError>
 }
 
 /// Adds the operands in parentheses.
-fn operands(out: &mut Layout, implemented: &Implemented) -> Result<(), AllocError>
+fn operands(implemented: &Implemented, out: &mut Layout) -> Result<(), AllocError>
     ensures { OnOk result (out.new ≡ lay out.old (tokens.enclosed Paren (tokens.inputs_trees (Some (heads.receiver_of (operator_view implemented.now.operator))) (heads.method_param (form_view implemented.now.form))))) }
 {
     open(out, Delim::Paren)?;
-    receiver(out, &implemented.operator)?;
-    right_side(out, implemented.form)?;
+    receiver(&implemented.operator, out)?;
+    right_side(implemented.form, out)?;
     close(out, Delim::Paren)
 }
 
 /// Adds `->` and what the method returns, where it doesn't assign.
 fn output<'a>(
+    input: &DeriveInput<'a>,
+    implemented: &Implemented,
     alloc: Global,
     out: &mut Layout,
-    implemented: &Implemented,
-    input: &DeriveInput<'a>,
 ) -> Result<(), AllocError>
     ensures { OnOk result (out.new ≡ lay out.old (tokens.output_trees (heads.method_output (form_view implemented.now.form) (operator_view implemented.now.operator) (declaration_view input.now)))) }
 {
@@ -126,66 +126,66 @@ fn output<'a>(
         return Ok(());
     }
     joint(out, '-', '>')?;
-    returned_type(alloc, out, implemented.form, input)
+    returned_type(input, implemented.form, alloc, out)
 }
 
 /// Adds what stands in front of the method's body.
 fn method_head<'a>(
+    input: &DeriveInput<'a>,
+    implemented: &Implemented,
     alloc: Global,
     out: &mut Layout,
-    implemented: &Implemented,
-    input: &DeriveInput<'a>,
 ) -> Result<(), AllocError>
     ensures { OnOk result (out.new ≡ lay out.old (tokens.signature_trees (spec.method_with (form_view implemented.now.form) (operator_view implemented.now.operator) (declaration_view input.now) (last_expr no_expr)))) }
 {
-    method_start(out, implemented.form)?;
+    method_start(implemented.form, out)?;
     word(out, implemented.operator.method)?;
-    operands(out, implemented)?;
-    output(alloc, out, implemented, input)
+    operands(implemented, out)?;
+    output(input, implemented, alloc, out)
 }
 
 fn method<'a>(
-    alloc: Global,
-    out: &mut Layout,
-    implemented: &Implemented,
     input: &DeriveInput<'a>,
     cases: &[CaseRef<'_, 'a>],
+    implemented: &Implemented,
+    alloc: Global,
+    out: &mut Layout,
 ) -> Result<(), AllocError>
     ensures { OnOk result (out.new ≡ lay out.old (tokens.method_trees (spec.method_in (form_view implemented.now.form) (operator_view implemented.now.operator) (declaration_view input.now) (map case_view cases.now)))) }
 {
-    method_head(alloc, out, implemented, input)?;
+    method_head(input, implemented, alloc, out)?;
     open(out, Delim::Brace)?;
-    body(alloc, out, implemented, input, cases)?;
+    body(input, cases, implemented, alloc, out)?;
     close(out, Delim::Brace)
 }
 
 fn item<'x, 'a>(
-    alloc: Global,
-    out: &mut Layout,
-    implemented: &Implemented,
     input: &'x DeriveInput<'a>,
     cases: &[CaseRef<'x, 'a>],
+    implemented: &Implemented,
+    alloc: Global,
+    out: &mut Layout,
 ) -> Result<(), AllocError>
     ensures { OnOk result (out.new ≡ lay out.old (tokens.item_trees (items.item_for (form_view implemented.now.form) (operator_view implemented.now.operator) (declaration_view input.now) (map case_view cases.now)))) }
 {
-    item_head(alloc, out, implemented, input, cases)?;
+    item_head(input, cases, implemented, alloc, out)?;
     open(out, Delim::Brace)?;
-    output_type(alloc, out, input, implemented)?;
-    method(alloc, out, implemented, input, cases)?;
+    output_type(input, implemented, alloc, out)?;
+    method(input, cases, implemented, alloc, out)?;
     close(out, Delim::Brace)
 }
 
 /// The text of the implementation.
 pub(crate) fn printed_item<'x, 'a>(
-    alloc: Global,
-    implemented: &Implemented,
     input: &'x DeriveInput<'a>,
     cases: &[CaseRef<'x, 'a>],
+    implemented: &Implemented,
+    alloc: Global,
 ) -> Result<String, AllocError>
     ensures { IfOk result (λ s. string_bytes s ≡ tokens.printed (items.item_for (form_view implemented.now.form) (operator_view implemented.now.operator) (declaration_view input.now) (map case_view cases.now) ∷ [])) }
 {
     let mut out = Layout::new(alloc);
-    item(alloc, &mut out, implemented, input, cases)?;
+    item(input, cases, implemented, alloc, &mut out)?;
     out.line_end()?;
     Ok(out.into_string())
 }

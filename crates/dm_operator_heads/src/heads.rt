@@ -26,22 +26,22 @@ use std::alloc::{AllocError, Global};
 
 /// Adds the declared parameters, and what the form adds to them.
 pub fn params<'a>(
-    alloc: Global,
-    out: &mut Layout,
     input: &DeriveInput<'a>,
     implemented: &Implemented,
+    alloc: Global,
+    out: &mut Layout,
 ) -> Result<(), AllocError>
     ensures { OnOk result (out.new ≡ lay out.old (tokens.params_trees (spec.item_params (form_view implemented.now.form) (operator_view implemented.now.operator) (declaration_view input.now)))) }
 {
     match implemented.form {
-        Form::Structural => declared_params(alloc, out, input),
-        Form::Scalar => params_with(alloc, out, input, "__derive_more_Rhs"),
-        Form::Unary => bounded_params(alloc, out, input, implemented.operator.trait_name),
+        Form::Structural => declared_params(input, alloc, out),
+        Form::Scalar => params_with(input, "__derive_more_Rhs", alloc, out),
+        Form::Unary => bounded_params(input, implemented.operator.trait_name, alloc, out),
     }
 }
 
 /// Adds the trait's path but for its arguments.
-fn trait_name(out: &mut Layout, operator: &Operator) -> Result<(), AllocError>
+fn trait_name(operator: &Operator, out: &mut Layout) -> Result<(), AllocError>
     ensures { OnOk result (out.new ≡ lay out.old (path_trees nowhere (traits.trait_with (operator_view operator.now) []))) }
 {
     fixed(out, "derive_more :: core :: ops ::")?;
@@ -49,7 +49,7 @@ fn trait_name(out: &mut Layout, operator: &Operator) -> Result<(), AllocError>
 }
 
 /// Adds `<__derive_more_Rhs>`, where any right side is taken.
-fn right_argument(out: &mut Layout, form: Form) -> Result<(), AllocError>
+fn right_argument(form: Form, out: &mut Layout) -> Result<(), AllocError>
     ensures { OnOk result (out.new ≡ lay out.old (arguments_trees nowhere (traits.angled (traits.right_argument (form_view form))))) }
 {
     match form {
@@ -60,11 +60,11 @@ fn right_argument(out: &mut Layout, form: Form) -> Result<(), AllocError>
 }
 
 /// Adds the path of the trait that is implemented.
-pub fn implemented_trait(out: &mut Layout, implemented: &Implemented) -> Result<(), AllocError>
+pub fn implemented_trait(implemented: &Implemented, out: &mut Layout) -> Result<(), AllocError>
     ensures { OnOk result (out.new ≡ lay out.old (path_trees nowhere (traits.implemented (form_view implemented.now.form) (operator_view implemented.now.operator)))) }
 {
-    trait_name(out, &implemented.operator)?;
-    right_argument(out, implemented.form)
+    trait_name(&implemented.operator, out)?;
+    right_argument(implemented.form, out)
 }
 
 /// Adds `<Output = T>`.
@@ -141,6 +141,6 @@ pub(crate) fn asked_trait(
 ) -> Result<(), AllocError>
     ensures { OnOk result (out.new ≡ lay out.old (path_trees nowhere (traits.asked (form_view implemented.now.form) (operator_view implemented.now.operator) (ty_view of.now)))) }
 {
-    trait_name(out, &implemented.operator)?;
+    trait_name(&implemented.operator, out)?;
     asked_arguments(of, implemented, alloc, out)
 }

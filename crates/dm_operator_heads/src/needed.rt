@@ -72,7 +72,7 @@ fn some_several(cases: &[CaseRef<'_, '_>]) -> bool
 }
 
 /// Whether any right side is copied, since several fields take it.
-fn copies_right(form: Form, cases: &[CaseRef<'_, '_>]) -> bool
+fn copies_right(cases: &[CaseRef<'_, '_>], form: Form) -> bool
     ensures { result ≡ spec.copies_right (form_view form) (map case_view cases.now) }
 {
     match form {
@@ -85,8 +85,8 @@ fn copies_right(form: Form, cases: &[CaseRef<'_, '_>]) -> bool
 /// The declared predicates, behind them those that the kept fields need, and where several take any right side, that it is copied. It fails
 /// for want of memory alone.
 pub fn all_predicates<'x, 'a>(
-    cases: &[CaseRef<'x, 'a>],
     input: &'x DeriveInput<'a>,
+    cases: &[CaseRef<'x, 'a>],
     implemented: &Implemented,
     alloc: Global,
 ) -> Result<Vec<Predicate<'x, 'a>>, AllocError>
@@ -97,8 +97,8 @@ pub fn all_predicates<'x, 'a>(
     let operated = Operated {
         implemented: *implemented,
     };
-    let mut all = with_needed(cases, input, &operated, alloc)?;
-    if copies_right(implemented.form, cases) {
+    let mut all = with_needed(input, cases, &operated, alloc)?;
+    if copies_right(cases, implemented.form) {
         add(&mut all, Predicate::RightCopies)?;
     }
     Ok(all)
@@ -106,8 +106,8 @@ pub fn all_predicates<'x, 'a>(
 
 /// Adds them, behind `where` where there are some.
 pub fn predicates<'x, 'a>(
-    cases: &[CaseRef<'x, 'a>],
     input: &'x DeriveInput<'a>,
+    cases: &[CaseRef<'x, 'a>],
     implemented: &Implemented,
     alloc: Global,
     out: &mut Layout,
@@ -115,7 +115,7 @@ pub fn predicates<'x, 'a>(
     ensures { OnOk result (out.new ≡ lay out.old (tokens.where_trees (predicates_of (declaration_view input.now) ++
         spec.needed_in (form_view implemented.now.form) (operator_view implemented.now.operator) (declaration_view input.now) (map case_view cases.now)))) }
 {
-    let all = all_predicates(cases, input, implemented, alloc)?;
+    let all = all_predicates(input, cases, implemented, alloc)?;
     let operated = Operated {
         implemented: *implemented,
     };

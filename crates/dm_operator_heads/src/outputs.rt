@@ -44,22 +44,22 @@ fn has_unit(input: &DeriveInput<'_>) -> bool
 }
 
 /// Adds the `Result` that the operator of one value gives where it may fail.
-fn unary_result(alloc: Global, out: &mut Layout, input: &DeriveInput<'_>) -> Result<(), AllocError>
+fn unary_result(input: &DeriveInput<'_>, alloc: Global, out: &mut Layout) -> Result<(), AllocError>
     ensures { OnOk result (out.new ≡ lay out.old (type_trees (parts.unary_result (declaration_view input.now)))) }
 {
     fixed(out, "derive_more :: core :: result :: Result <")?;
-    declared_type(alloc, out, input)?;
+    declared_type(input, alloc, out)?;
     fixed(out, ", derive_more :: UnitError >")
 }
 
 /// Adds what the operator of one value gives.
-fn unary_output(alloc: Global, out: &mut Layout, input: &DeriveInput<'_>) -> Result<(), AllocError>
+fn unary_output(input: &DeriveInput<'_>, alloc: Global, out: &mut Layout) -> Result<(), AllocError>
     ensures { OnOk result (out.new ≡ lay out.old (type_trees (spec.unary_output (declaration_view input.now)))) }
 {
     if has_unit(input) {
-        return unary_result(alloc, out, input);
+        return unary_result(input, alloc, out);
     }
-    declared_type(alloc, out, input)
+    declared_type(input, alloc, out)
 }
 
 /// Adds `type Output = ..;` for two values that may be of different variants.
@@ -71,7 +71,7 @@ fn result_named(out: &mut Layout) -> Result<(), AllocError>
 }
 
 /// Adds `type Output = ..;` for the operator of two values, which may fail for those of an enum.
-fn binary_named(out: &mut Layout, is_enum: bool) -> Result<(), AllocError>
+fn binary_named(is_enum: bool, out: &mut Layout) -> Result<(), AllocError>
     ensures { OnOk result (out.new ≡ lay out.old (tokens.in_turn (map tokens.assoc_trees (parts.named (spec.binary_output is_enum) ∷ [])))) }
 {
     if is_enum {
@@ -81,20 +81,20 @@ fn binary_named(out: &mut Layout, is_enum: bool) -> Result<(), AllocError>
 }
 
 /// Adds `type Output = ..;` for the operator of one value.
-fn unary_named(alloc: Global, out: &mut Layout, input: &DeriveInput<'_>) -> Result<(), AllocError>
+fn unary_named(input: &DeriveInput<'_>, alloc: Global, out: &mut Layout) -> Result<(), AllocError>
     ensures { OnOk result (out.new ≡ lay out.old (tokens.in_turn (map tokens.assoc_trees (parts.named (spec.unary_output (declaration_view input.now)) ∷ [])))) }
 {
     fixed(out, "type Output =")?;
-    unary_output(alloc, out, input)?;
+    unary_output(input, alloc, out)?;
     punct(out, ';')
 }
 
 /// Adds `type Output = ..;`, which assigning traits do not have.
 pub fn output_type(
-    alloc: Global,
-    out: &mut Layout,
     input: &DeriveInput<'_>,
     implemented: &Implemented,
+    alloc: Global,
+    out: &mut Layout,
 ) -> Result<(), AllocError>
     ensures { OnOk result (out.new ≡ lay out.old (tokens.in_turn (map tokens.assoc_trees (spec.assocs (form_view implemented.now.form) (operator_view implemented.now.operator) (declaration_view input.now))))) }
 {
@@ -102,24 +102,24 @@ pub fn output_type(
         return Ok(());
     }
     match implemented.form {
-        Form::Structural => binary_named(out, is_enum(input)),
-        Form::Scalar => binary_named(out, false),
-        Form::Unary => unary_named(alloc, out, input),
+        Form::Structural => binary_named(is_enum(input), out),
+        Form::Scalar => binary_named(false, out),
+        Form::Unary => unary_named(input, alloc, out),
     }
 }
 
 /// Adds the type that a method which doesn't assign returns: that of one value writes it out.
 pub fn returned_type(
+    input: &DeriveInput<'_>,
+    form: Form,
     alloc: Global,
     out: &mut Layout,
-    form: Form,
-    input: &DeriveInput<'_>,
 ) -> Result<(), AllocError>
     ensures { OnOk result (out.new ≡ lay out.old (type_trees (spec.returned (form_view form) (declaration_view input.now)))) }
 {
     match form {
         Form::Structural => fixed(out, "Self :: Output"),
         Form::Scalar => fixed(out, "Self :: Output"),
-        Form::Unary => unary_output(alloc, out, input),
+        Form::Unary => unary_output(input, alloc, out),
     }
 }

@@ -28,8 +28,8 @@ use std::alloc::{AllocError, Global};
 
 /// The fields, none of which is left out.
 fn all_fields<'x, 'a>(
-    alloc: Global,
     fields: &[FieldRef<'x, 'a>],
+    alloc: Global,
 ) -> Result<Vec<FieldRef<'x, 'a>>, AllocError>
     ensures { IfOk result (λ fs. map field_ref_view fs.items ≡ map spec.keep (map field_ref_view fields.now)) }
 {
@@ -45,10 +45,10 @@ fn all_fields<'x, 'a>(
 }
 
 /// The case with all of its fields.
-fn whole_case<'x, 'a>(alloc: Global, case: &CaseRef<'x, 'a>) -> Result<CaseRef<'x, 'a>, AllocError>
+fn whole_case<'x, 'a>(case: &CaseRef<'x, 'a>, alloc: Global) -> Result<CaseRef<'x, 'a>, AllocError>
     ensures { IfOk result (λ c. case_view c ≡ spec.whole (case_view case.now)) }
 {
-    let fields = all_fields(alloc, case.fields.as_slice())?;
+    let fields = all_fields(case.fields.as_slice(), alloc)?;
     Ok(CaseRef {
         ident: case.ident,
         form: case.form,
@@ -59,67 +59,67 @@ fn whole_case<'x, 'a>(alloc: Global, case: &CaseRef<'x, 'a>) -> Result<CaseRef<'
 
 /// Adds the patterns of self and the right side.
 fn both_sides(
-    alloc: Global,
-    out: &mut Layout,
     input: &DeriveInput<'_>,
     case: &CaseRef<'_, '_>,
+    alloc: Global,
+    out: &mut Layout,
 ) -> Result<(), AllocError>
     ensures { OnOk result (out.new ≡ lay out.old (tokens.pattern_trees (spec.sides ops.structural (declaration_view input.now) (case_view case.now)))) }
 {
     open(out, Delim::Paren)?;
-    side(alloc, out, Operand::Mine, input, case)?;
+    side(input, case, Operand::Mine, alloc, out)?;
     punct(out, ',')?;
-    side(alloc, out, Operand::Right, input, case)?;
+    side(input, case, Operand::Right, alloc, out)?;
     close(out, Delim::Paren)
 }
 
 /// Adds the patterns of self and the right side, or of self alone.
 fn sides(
-    alloc: Global,
-    out: &mut Layout,
-    form: Form,
     input: &DeriveInput<'_>,
     case: &CaseRef<'_, '_>,
+    form: Form,
+    alloc: Global,
+    out: &mut Layout,
 ) -> Result<(), AllocError>
     ensures { OnOk result (out.new ≡ lay out.old (tokens.pattern_trees (spec.sides (form_view form) (declaration_view input.now) (case_view case.now)))) }
 {
     match form {
-        Form::Structural => both_sides(alloc, out, input, case),
-        Form::Scalar => side(alloc, out, Operand::Mine, input, case),
-        Form::Unary => side(alloc, out, Operand::Mine, input, case),
+        Form::Structural => both_sides(input, case, alloc, out),
+        Form::Scalar => side(input, case, Operand::Mine, alloc, out),
+        Form::Unary => side(input, case, Operand::Mine, alloc, out),
     }
 }
 
 /// Adds the pattern: a method that gives a value binds all fields, and an assigning one those that it changes.
 fn binary_pattern(
-    alloc: Global,
-    out: &mut Layout,
-    implemented: &Implemented,
     input: &DeriveInput<'_>,
     case: &CaseRef<'_, '_>,
+    implemented: &Implemented,
+    alloc: Global,
+    out: &mut Layout,
 ) -> Result<(), AllocError>
     ensures { OnOk result (out.new ≡ lay out.old (tokens.pattern_trees (spec.binary_pattern (form_view implemented.now.form) (operator_view implemented.now.operator) (declaration_view input.now) (case_view case.now)))) }
 {
     if implemented.operator.assigning {
-        return sides(alloc, out, implemented.form, input, case);
+        return sides(input, case, implemented.form, alloc, out);
     }
-    let whole = whole_case(alloc, case)?;
-    sides(alloc, out, implemented.form, input, &whole)
+    let whole = whole_case(case, alloc)?;
+    sides(input, &whole, implemented.form, alloc, out)
 }
 
 /// Adds the value of the case with the operation in its kept fields.
 fn value_given(
-    alloc: Global,
-    out: &mut Layout,
-    form: Form,
-    operator: &Operator,
     input: &DeriveInput<'_>,
     case: &CaseRef<'_, '_>,
+    operator: &Operator,
+    form: Form,
+    alloc: Global,
+    out: &mut Layout,
 ) -> Result<(), AllocError>
     ensures { OnOk result (out.new ≡ lay out.old (tokens.expr_trees (spec.value_given (form_view form) (operator_view operator.now) (declaration_view input.now) (case_view case.now)))) }
 {
-    case_path(out, input, case.ident)?;
-    value_fields(alloc, out, operator, Part::Binary(form), case)
+    case_path(input, case.ident, out)?;
+    value_fields(case, operator, Part::Binary(form), alloc, out)
 }
 
 pub(crate) fn is_unit_form(form: cases::Form) -> bool
@@ -134,141 +134,141 @@ pub(crate) fn is_unit_form(form: cases::Form) -> bool
 
 /// Adds the value inside `Ok (..)`, where it is wanted.
 fn value_in_ok(
+    input: &DeriveInput<'_>,
+    case: &CaseRef<'_, '_>,
+    operator: &Operator,
+    wanted: bool,
     alloc: Global,
     out: &mut Layout,
-    operator: &Operator,
-    input: &DeriveInput<'_>,
-    wanted: bool,
-    case: &CaseRef<'_, '_>,
 ) -> Result<(), AllocError>
     ensures { OnOk result (out.new ≡ lay out.old (tokens.expr_trees (spec.in_ok wanted (spec.value_given ops.structural (operator_view operator.now) (declaration_view input.now) (case_view case.now))))) }
 {
     if wanted {
         fixed(out, "derive_more :: core :: result :: Result :: Ok (")?;
-        value_given(alloc, out, Form::Structural, operator, input, case)?;
+        value_given(input, case, operator, Form::Structural, alloc, out)?;
         return close(out, Delim::Paren);
     }
-    value_given(alloc, out, Form::Structural, operator, input, case)
+    value_given(input, case, operator, Form::Structural, alloc, out)
 }
 
 /// Adds what two values give, where an enum gives a `Result`.
 fn structural_answer(
-    alloc: Global,
-    out: &mut Layout,
-    operator: &Operator,
     input: &DeriveInput<'_>,
     case: &CaseRef<'_, '_>,
+    operator: &Operator,
+    alloc: Global,
+    out: &mut Layout,
 ) -> Result<(), AllocError>
     ensures { OnOk result (out.new ≡ lay out.old (tokens.expr_trees (spec.answer_given ops.structural (operator_view operator.now) (declaration_view input.now) (case_view case.now)))) }
 {
     if is_unit_form(case.form) {
-        return binary_unit(alloc, out, operator);
+        return binary_unit(operator, alloc, out);
     }
-    value_in_ok(alloc, out, operator, input, is_enum(input), case)
+    value_in_ok(input, case, operator, is_enum(input), alloc, out)
 }
 
 fn answer_given(
-    alloc: Global,
-    out: &mut Layout,
-    implemented: &Implemented,
     input: &DeriveInput<'_>,
     case: &CaseRef<'_, '_>,
+    implemented: &Implemented,
+    alloc: Global,
+    out: &mut Layout,
 ) -> Result<(), AllocError>
     ensures { OnOk result (out.new ≡ lay out.old (tokens.expr_trees (spec.answer_given (form_view implemented.now.form) (operator_view implemented.now.operator) (declaration_view input.now) (case_view case.now)))) }
 {
     let operator = &implemented.operator;
     match implemented.form {
-        Form::Structural => structural_answer(alloc, out, operator, input, case),
-        Form::Scalar => value_given(alloc, out, Form::Scalar, operator, input, case),
-        Form::Unary => value_given(alloc, out, Form::Unary, operator, input, case),
+        Form::Structural => structural_answer(input, case, operator, alloc, out),
+        Form::Scalar => value_given(input, case, operator, Form::Scalar, alloc, out),
+        Form::Unary => value_given(input, case, operator, Form::Unary, alloc, out),
     }
 }
 
 /// Adds the call of a field that is kept, as a statement.
 fn call(
-    alloc: Global,
-    out: &mut Layout,
     implemented: &Implemented,
     n: usize,
     left_out: bool,
+    alloc: Global,
+    out: &mut Layout,
 ) -> Result<(), AllocError>
     ensures { OnOk result (out.new ≡ lay out.old (given (not left_out) (tokens.stmt_trees (do_stmt (spec.binary_call (form_view implemented.now.form) (operator_view implemented.now.operator) n))))) }
 {
     if left_out {
         return Ok(());
     }
-    binary_call(alloc, out, implemented.form, &implemented.operator, n)?;
+    binary_call(&implemented.operator, implemented.form, n, alloc, out)?;
     punct(out, ';')
 }
 
 /// Adds the calls of the kept fields.
 fn calls(
+    fields: &[FieldRef<'_, '_>],
+    implemented: &Implemented,
     alloc: Global,
     out: &mut Layout,
-    implemented: &Implemented,
-    fields: &[FieldRef<'_, '_>],
 ) -> Result<(), AllocError>
     ensures { OnOk result (out.new ≡ lay out.old (tokens.stmts_trees (stmts_of (spec.assigning_calls (form_view implemented.now.form) (operator_view implemented.now.operator) 0 (map field_ref_view fields.now))))) }
 {
     for (n, field) in fields.iter().enumerate() {
-        call(alloc, out, implemented, n, field.left_out)?;
+        call(implemented, n, field.left_out, alloc, out)?;
     }
     Ok(())
 }
 
 /// Adds the body of an arm: an assigning operator calls, another one gives a value.
 fn binary_given(
-    alloc: Global,
-    out: &mut Layout,
-    implemented: &Implemented,
     input: &DeriveInput<'_>,
     case: &CaseRef<'_, '_>,
+    implemented: &Implemented,
+    alloc: Global,
+    out: &mut Layout,
 ) -> Result<(), AllocError>
     ensures { OnOk result (out.new ≡ lay out.old (tokens.body_trees (spec.binary_given (form_view implemented.now.form) (operator_view implemented.now.operator) (declaration_view input.now) (case_view case.now)))) }
 {
     if implemented.operator.assigning {
         open(out, Delim::Brace)?;
-        calls(alloc, out, implemented, case.fields.as_slice())?;
+        calls(case.fields.as_slice(), implemented, alloc, out)?;
         return close(out, Delim::Brace);
     }
-    answer_given(alloc, out, implemented, input, case)
+    answer_given(input, case, implemented, alloc, out)
 }
 
 fn binary_arm(
-    alloc: Global,
-    out: &mut Layout,
-    implemented: &Implemented,
     input: &DeriveInput<'_>,
     case: &CaseRef<'_, '_>,
+    implemented: &Implemented,
+    alloc: Global,
+    out: &mut Layout,
 ) -> Result<(), AllocError>
     ensures { OnOk result (out.new ≡ lay out.old (tokens.arm_trees (spec.binary_arm (form_view implemented.now.form) (operator_view implemented.now.operator) (declaration_view input.now) (case_view case.now)))) }
 {
-    binary_pattern(alloc, out, implemented, input, case)?;
+    binary_pattern(input, case, implemented, alloc, out)?;
     joint(out, '=', '>')?;
-    binary_given(alloc, out, implemented, input, case)?;
+    binary_given(input, case, implemented, alloc, out)?;
     punct(out, ',')
 }
 
 /// Adds the body for two values of different variants: an error, or nothing is assigned.
-fn different_body(alloc: Global, out: &mut Layout, operator: &Operator) -> Result<(), AllocError>
+fn different_body(operator: &Operator, alloc: Global, out: &mut Layout) -> Result<(), AllocError>
     ensures { OnOk result (out.new ≡ lay out.old (tokens.body_trees (spec.different_body (operator_view operator.now)))) }
 {
     if operator.assigning {
         return fixed(out, "{ }");
     }
-    mismatch(alloc, out, operator)
+    mismatch(operator, alloc, out)
 }
 
-fn different(alloc: Global, out: &mut Layout, operator: &Operator) -> Result<(), AllocError>
+fn different(operator: &Operator, alloc: Global, out: &mut Layout) -> Result<(), AllocError>
     ensures { OnOk result (out.new ≡ lay out.old (tokens.arm_trees (spec.different (operator_view operator.now)))) }
 {
     fixed(out, "_ =>")?;
-    different_body(alloc, out, operator)?;
+    different_body(operator, alloc, out)?;
     punct(out, ',')
 }
 
 /// Whether there are such values.
-fn has_rest(form: Form, cases: &[CaseRef<'_, '_>]) -> bool
+fn has_rest(cases: &[CaseRef<'_, '_>], form: Form) -> bool
     ensures { result ≡ spec.has_rest (form_view form) (map case_view cases.now) }
 {
     match form {
@@ -280,33 +280,33 @@ fn has_rest(form: Form, cases: &[CaseRef<'_, '_>]) -> bool
 
 /// Adds their arm, where there are some.
 fn rest(
+    cases: &[CaseRef<'_, '_>],
+    implemented: &Implemented,
     alloc: Global,
     out: &mut Layout,
-    implemented: &Implemented,
-    cases: &[CaseRef<'_, '_>],
 ) -> Result<(), AllocError>
     ensures { OnOk result (out.new ≡ lay out.old (tokens.arms_trees (arms_of (spec.rest (form_view implemented.now.form) (operator_view implemented.now.operator) (map case_view cases.now))))) }
 {
-    if has_rest(implemented.form, cases) {
-        return different(alloc, out, &implemented.operator);
+    if has_rest(cases, implemented.form) {
+        return different(&implemented.operator, alloc, out);
     }
     Ok(())
 }
 
 /// Adds an arm for each case, and perhaps one for values of different variants.
 pub(crate) fn binary_arms(
-    alloc: Global,
-    out: &mut Layout,
-    implemented: &Implemented,
     input: &DeriveInput<'_>,
     cases: &[CaseRef<'_, '_>],
+    implemented: &Implemented,
+    alloc: Global,
+    out: &mut Layout,
 ) -> Result<(), AllocError>
     ensures { OnOk result (out.new ≡ lay out.old (tokens.arms_trees (arms_of (
         map (spec.binary_arm (form_view implemented.now.form) (operator_view implemented.now.operator) (declaration_view input.now)) (map case_view cases.now) ++
         spec.rest (form_view implemented.now.form) (operator_view implemented.now.operator) (map case_view cases.now))))) }
 {
     for case in cases {
-        binary_arm(alloc, out, implemented, input, case)?;
+        binary_arm(input, case, implemented, alloc, out)?;
     }
-    rest(alloc, out, implemented, cases)
+    rest(cases, implemented, alloc, out)
 }

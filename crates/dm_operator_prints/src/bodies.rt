@@ -21,7 +21,7 @@ use dm_stream::Delim;
 use std::alloc::{AllocError, Global};
 
 /// Adds what is matched.
-fn subject(out: &mut Layout, form: Form) -> Result<(), AllocError>
+fn subject(form: Form, out: &mut Layout) -> Result<(), AllocError>
     ensures { OnOk result (out.new ≡ lay out.old (tokens.expr_trees (spec.subject (form_view form)))) }
 {
     match form {
@@ -32,11 +32,11 @@ fn subject(out: &mut Layout, form: Form) -> Result<(), AllocError>
 }
 
 fn binary_body(
-    alloc: Global,
-    out: &mut Layout,
-    implemented: &Implemented,
     input: &DeriveInput<'_>,
     cases: &[CaseRef<'_, '_>],
+    implemented: &Implemented,
+    alloc: Global,
+    out: &mut Layout,
 ) -> Result<(), AllocError>
     ensures { OnOk result (out.new ≡ lay out.old (tokens.expr_trees (spec.binary_body (form_view implemented.now.form) (operator_view implemented.now.operator) (declaration_view input.now) (map case_view cases.now)))) }
 {
@@ -44,71 +44,71 @@ fn binary_body(
         return fixed(out, "match self { }");
     }
     word(out, "match")?;
-    subject(out, implemented.form)?;
+    subject(implemented.form, out)?;
     open(out, Delim::Brace)?;
-    binary_arms(alloc, out, implemented, input, cases)?;
+    binary_arms(input, cases, implemented, alloc, out)?;
     close(out, Delim::Brace)
 }
 
 /// Adds the body for one operand of an enum.
 fn unary_enum(
-    alloc: Global,
-    out: &mut Layout,
-    operator: &Operator,
     input: &DeriveInput<'_>,
     cases: &[CaseRef<'_, '_>],
+    operator: &Operator,
+    alloc: Global,
+    out: &mut Layout,
 ) -> Result<(), AllocError>
     ensures { OnOk result (out.new ≡ lay out.old (tokens.expr_trees (spec.unary_enum (operator_view operator.now) (declaration_view input.now) (map case_view cases.now)))) }
 {
     fixed(out, "match self {")?;
-    unary_arms(alloc, out, operator, input, some_unit_form(cases), cases)?;
+    unary_arms(input, cases, operator, some_unit_form(cases), alloc, out)?;
     close(out, Delim::Brace)
 }
 
 /// Adds the body for a struct, which is its only case.
 fn unary_struct(
-    alloc: Global,
-    out: &mut Layout,
-    operator: &Operator,
     input: &DeriveInput<'_>,
     cases: &[CaseRef<'_, '_>],
+    operator: &Operator,
+    alloc: Global,
+    out: &mut Layout,
 ) -> Result<(), AllocError>
     ensures { OnOk result (out.new ≡ lay out.old (tokens.expr_trees (spec.unary_struct (operator_view operator.now) (declaration_view input.now) (map case_view cases.now)))) }
 {
     match cases {
         [] => fixed(out, "match self { }"),
-        [case, ..] => own_value(alloc, out, operator, input, case),
+        [case, ..] => own_value(input, case, operator, alloc, out),
     }
 }
 
 fn unary_body(
-    alloc: Global,
-    out: &mut Layout,
-    operator: &Operator,
     input: &DeriveInput<'_>,
     cases: &[CaseRef<'_, '_>],
+    operator: &Operator,
+    alloc: Global,
+    out: &mut Layout,
 ) -> Result<(), AllocError>
     ensures { OnOk result (out.new ≡ lay out.old (tokens.expr_trees (spec.body_expr ops.unary (operator_view operator.now) (declaration_view input.now) (map case_view cases.now)))) }
 {
     if is_enum(input) {
-        return unary_enum(alloc, out, operator, input, cases);
+        return unary_enum(input, cases, operator, alloc, out);
     }
-    unary_struct(alloc, out, operator, input, cases)
+    unary_struct(input, cases, operator, alloc, out)
 }
 
 /// Adds the body, by what stands right of self.
 pub fn body(
-    alloc: Global,
-    out: &mut Layout,
-    implemented: &Implemented,
     input: &DeriveInput<'_>,
     cases: &[CaseRef<'_, '_>],
+    implemented: &Implemented,
+    alloc: Global,
+    out: &mut Layout,
 ) -> Result<(), AllocError>
     ensures { OnOk result (out.new ≡ lay out.old (tokens.expr_trees (spec.body_expr (form_view implemented.now.form) (operator_view implemented.now.operator) (declaration_view input.now) (map case_view cases.now)))) }
 {
     match implemented.form {
-        Form::Structural => binary_body(alloc, out, implemented, input, cases),
-        Form::Scalar => binary_body(alloc, out, implemented, input, cases),
-        Form::Unary => unary_body(alloc, out, &implemented.operator, input, cases),
+        Form::Structural => binary_body(input, cases, implemented, alloc, out),
+        Form::Scalar => binary_body(input, cases, implemented, alloc, out),
+        Form::Unary => unary_body(input, cases, &implemented.operator, alloc, out),
     }
 }

@@ -19,7 +19,7 @@ use dm_stream::{LitKind, Literal, Span, Text};
 use std::alloc::{AllocError, Global};
 
 /// Adds `derive_more::core::ops::TRAIT::METHOD`.
-pub(crate) fn method_path(out: &mut Layout, operator: &Operator) -> Result<(), AllocError>
+pub(crate) fn method_path(operator: &Operator, out: &mut Layout) -> Result<(), AllocError>
     ensures { OnOk result (out.new ≡ lay out.old (tokens.path_expr_trees no_self (plain_path (words (ops.method_names (operator_view operator.now)))))) }
 {
     fixed(out, "derive_more :: core :: ops ::")?;
@@ -28,19 +28,19 @@ pub(crate) fn method_path(out: &mut Layout, operator: &Operator) -> Result<(), A
     word(out, operator.method)
 }
 
-fn quoted_text(alloc: Global, text: &str) -> Result<String, AllocError>
+fn quoted_text(text: &str, alloc: Global) -> Result<String, AllocError>
     ensures { IfOk result (λ s. string_bytes s ≡ 34 ∷ (text.now ++ 34 ∷ [])) }
 {
     format!(in alloc; "\"{text}\"")
 }
 
 /// Adds a text as a string literal.
-fn quoted(alloc: Global, out: &mut Layout, text: &str) -> Result<(), AllocError>
+fn quoted(text: &str, alloc: Global, out: &mut Layout) -> Result<(), AllocError>
     ensures { OnOk result (out.new ≡ lay out.old (syntax.literal (spec.quoted text.now))) }
 {
     let quoted = Literal {
         kind: LitKind::Str,
-        text: Text::owned(quoted_text(alloc, text)?),
+        text: Text::owned(quoted_text(text, alloc)?),
         span: Span::nowhere(),
     };
     literal(out, &quoted)
@@ -49,46 +49,46 @@ fn quoted(alloc: Global, out: &mut Layout, text: &str) -> Result<(), AllocError>
 /// Adds what two values of a variant without fields give.
 #[tactic(auto, unfolding(dm_operators::specs::Bodies::binary_unit))]
 pub(crate) fn binary_unit(
+    operator: &Operator,
     alloc: Global,
     out: &mut Layout,
-    operator: &Operator,
 ) -> Result<(), AllocError>
     ensures { OnOk result (out.new ≡ lay out.old (tokens.expr_trees (spec.binary_unit (operator_view operator.now)))) }
 {
     fixed(out, "derive_more :: core :: result :: Result :: Err (")?;
     fixed(out, "derive_more :: BinaryError :: Unit (")?;
     fixed(out, "derive_more :: UnitError :: new (")?;
-    quoted(alloc, out, operator.method)?;
+    quoted(operator.method, alloc, out)?;
     fixed(out, ")))")
 }
 
 /// Adds what two values of different variants give.
 #[tactic(auto, unfolding(dm_operators::specs::Bodies::mismatch))]
 pub(crate) fn mismatch(
+    operator: &Operator,
     alloc: Global,
     out: &mut Layout,
-    operator: &Operator,
 ) -> Result<(), AllocError>
     ensures { OnOk result (out.new ≡ lay out.old (tokens.expr_trees (spec.mismatch (operator_view operator.now)))) }
 {
     fixed(out, "derive_more :: core :: result :: Result :: Err (")?;
     fixed(out, "derive_more :: BinaryError :: Mismatch (")?;
     fixed(out, "derive_more :: WrongVariantError :: new (")?;
-    quoted(alloc, out, operator.method)?;
+    quoted(operator.method, alloc, out)?;
     fixed(out, ")))")
 }
 
 /// Adds what a value of a variant without fields gives.
 #[tactic(auto, unfolding(dm_operators::specs::Bodies::unary_unit))]
 pub(crate) fn unary_unit(
+    operator: &Operator,
     alloc: Global,
     out: &mut Layout,
-    operator: &Operator,
 ) -> Result<(), AllocError>
     ensures { OnOk result (out.new ≡ lay out.old (tokens.expr_trees (spec.unary_unit (operator_view operator.now)))) }
 {
     fixed(out, "derive_more :: core :: result :: Result :: Err (")?;
     fixed(out, "derive_more :: UnitError :: new (")?;
-    quoted(alloc, out, operator.method)?;
+    quoted(operator.method, alloc, out)?;
     fixed(out, "))")
 }

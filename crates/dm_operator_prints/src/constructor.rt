@@ -24,60 +24,60 @@ use std::alloc::{AllocError, Global};
 
 /// Adds what stands for each field, with a comma behind it.
 fn parts(
-    alloc: Global,
-    out: &mut Layout,
+    fields: &[FieldRef<'_, '_>],
     operator: &Operator,
     part: Part,
-    fields: &[FieldRef<'_, '_>],
+    alloc: Global,
+    out: &mut Layout,
 ) -> Result<(), AllocError>
     ensures { OnOk result (out.new ≡ lay out.old (tokens.ended (tokens.each_expr (exprs_of (spec.parts (part_by part (operator_view operator.now)) 0 (map field_ref_view fields.now)))))) }
 {
     for (n, field) in fields.iter().enumerate() {
-        part_of(alloc, out, operator, part, n, field)?;
+        part_of(field, operator, part, n, alloc, out)?;
         punct(out, ',')?;
     }
     Ok(())
 }
 
 fn named_part(
-    alloc: Global,
-    out: &mut Layout,
+    field: &FieldRef<'_, '_>,
     operator: &Operator,
     part: Part,
     n: usize,
-    field: &FieldRef<'_, '_>,
+    alloc: Global,
+    out: &mut Layout,
 ) -> Result<(), AllocError>
     ensures { OnOk result (out.new ≡ lay out.old (join (join (syntax.name (sides.field_ident (field_ref_view field.now).field.ident)) (join tokens.colon (tokens.expr_trees (part_by part (operator_view operator.now) n (field_ref_view field.now))))) tokens.comma)) }
 {
-    field_name(out, &field.field.ident)?;
+    field_name(&field.field.ident, out)?;
     punct(out, ':')?;
-    part_of(alloc, out, operator, part, n, field)?;
+    part_of(field, operator, part, n, alloc, out)?;
     punct(out, ',')
 }
 
 /// Adds each behind its field's name.
 fn named_parts(
-    alloc: Global,
-    out: &mut Layout,
+    fields: &[FieldRef<'_, '_>],
     operator: &Operator,
     part: Part,
-    fields: &[FieldRef<'_, '_>],
+    alloc: Global,
+    out: &mut Layout,
 ) -> Result<(), AllocError>
     ensures { OnOk result (out.new ≡ lay out.old (tokens.ended (tokens.each_named_expr (named_exprs_of (spec.named_parts (part_by part (operator_view operator.now)) 0 (map field_ref_view fields.now)))))) }
 {
     for (n, field) in fields.iter().enumerate() {
-        named_part(alloc, out, operator, part, n, field)?;
+        named_part(field, operator, part, n, alloc, out)?;
     }
     Ok(())
 }
 
 /// Adds what stands behind the path of the value: in parentheses, in braces, or nothing.
 pub(crate) fn value_fields(
-    alloc: Global,
-    out: &mut Layout,
+    case: &CaseRef<'_, '_>,
     operator: &Operator,
     part: Part,
-    case: &CaseRef<'_, '_>,
+    alloc: Global,
+    out: &mut Layout,
 ) -> Result<(), AllocError>
     ensures { OnOk result (out.new ≡ lay out.old (value_trees (part_by part (operator_view operator.now)) (case_view case.now).form (case_view case.now).fields)) }
 {
@@ -85,12 +85,12 @@ pub(crate) fn value_fields(
     match case.form {
         Form::Named => {
             open(out, Delim::Brace)?;
-            named_parts(alloc, out, operator, part, fields)?;
+            named_parts(fields, operator, part, alloc, out)?;
             close(out, Delim::Brace)
         }
         Form::Unnamed => {
             open(out, Delim::Paren)?;
-            parts(alloc, out, operator, part, fields)?;
+            parts(fields, operator, part, alloc, out)?;
             close(out, Delim::Paren)
         }
         Form::Unit => Ok(()),

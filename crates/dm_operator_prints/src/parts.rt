@@ -36,11 +36,11 @@ pub(crate) enum Part {
     Own(cases::Form),
 }
 
-fn right_operand(alloc: Global, out: &mut Layout, form: Form, n: usize) -> Result<(), AllocError>
+fn right_operand(form: Form, n: usize, alloc: Global, out: &mut Layout) -> Result<(), AllocError>
     ensures { OnOk result (out.new ≡ lay out.old (tokens.expr_trees (spec.right_operand (form_view form) n))) }
 {
     match form {
-        Form::Structural => numbered(alloc, out, Operand::Right, n),
+        Form::Structural => numbered(Operand::Right, n, alloc, out),
         Form::Scalar => word(out, "__rhs"),
         Form::Unary => word(out, "__rhs"),
     }
@@ -48,66 +48,66 @@ fn right_operand(alloc: Global, out: &mut Layout, form: Form, n: usize) -> Resul
 
 /// Adds the operation on a field of the left operand.
 pub(crate) fn binary_call(
+    operator: &Operator,
+    form: Form,
+    n: usize,
     alloc: Global,
     out: &mut Layout,
-    form: Form,
-    operator: &Operator,
-    n: usize,
 ) -> Result<(), AllocError>
     ensures { OnOk result (out.new ≡ lay out.old (tokens.expr_trees (spec.binary_call (form_view form) (operator_view operator.now) n))) }
 {
-    method_path(out, operator)?;
+    method_path(operator, out)?;
     open(out, Delim::Paren)?;
-    numbered(alloc, out, Operand::Mine, n)?;
+    numbered(Operand::Mine, n, alloc, out)?;
     punct(out, ',')?;
-    right_operand(alloc, out, form, n)?;
+    right_operand(form, n, alloc, out)?;
     close(out, Delim::Paren)
 }
 
 fn binary_part(
-    alloc: Global,
-    out: &mut Layout,
-    form: Form,
     operator: &Operator,
+    form: Form,
     n: usize,
     left_out: bool,
+    alloc: Global,
+    out: &mut Layout,
 ) -> Result<(), AllocError>
     ensures { OnOk result (out.new ≡ lay out.old (tokens.expr_trees (cond left_out (bodies.name (self_name n)) (spec.binary_call (form_view form) (operator_view operator.now) n)))) }
 {
     if left_out {
-        return numbered(alloc, out, Operand::Mine, n);
+        return numbered(Operand::Mine, n, alloc, out);
     }
-    binary_call(alloc, out, form, operator, n)
+    binary_call(operator, form, n, alloc, out)
 }
 
 fn inner_part(
-    alloc: Global,
-    out: &mut Layout,
     operator: &Operator,
     n: usize,
+    alloc: Global,
+    out: &mut Layout,
 ) -> Result<(), AllocError>
     ensures { OnOk result (out.new ≡ lay out.old (tokens.expr_trees (spec.operation_call (operator_view operator.now) (bodies.name (spec.inner_name n) ∷ [])))) }
 {
-    method_path(out, operator)?;
+    method_path(operator, out)?;
     open(out, Delim::Paren)?;
-    numbered(alloc, out, Operand::Inner, n)?;
+    numbered(Operand::Inner, n, alloc, out)?;
     close(out, Delim::Paren)
 }
 
 /// The digits of a number.
-fn digits(alloc: Global, n: usize) -> Result<String, AllocError>
+fn digits(n: usize, alloc: Global) -> Result<String, AllocError>
     ensures { IfOk result (λ s. string_bytes s ≡ numeral n) }
 {
     format!(in alloc; "{n}")
 }
 
 /// Adds a field's number.
-fn index(alloc: Global, out: &mut Layout, n: usize) -> Result<(), AllocError>
+fn index(n: usize, alloc: Global, out: &mut Layout) -> Result<(), AllocError>
     ensures { OnOk result (out.new ≡ lay out.old (syntax.literal (record { kind = kinds.Int; text = numeral n; span = nowhere }))) }
 {
     let number = Literal {
         kind: LitKind::Int,
-        text: Text::owned(digits(alloc, n)?),
+        text: Text::owned(digits(n, alloc)?),
         span: Span::nowhere(),
     };
     literal(out, &number)
@@ -115,51 +115,51 @@ fn index(alloc: Global, out: &mut Layout, n: usize) -> Result<(), AllocError>
 
 /// Adds what stands behind the dot.
 fn member_of(
-    alloc: Global,
-    out: &mut Layout,
+    field: &FieldRef<'_, '_>,
     form: cases::Form,
     n: usize,
-    field: &FieldRef<'_, '_>,
+    alloc: Global,
+    out: &mut Layout,
 ) -> Result<(), AllocError>
     ensures { OnOk result (out.new ≡ lay out.old (tokens.member_trees (spec.member_of form n (field_ref_view field.now)))) }
 {
     match form {
-        cases::Form::Named => field_name(out, &field.field.ident),
-        cases::Form::Unnamed => index(alloc, out, n),
-        cases::Form::Unit => index(alloc, out, n),
+        cases::Form::Named => field_name(&field.field.ident, out),
+        cases::Form::Unnamed => index(n, alloc, out),
+        cases::Form::Unit => index(n, alloc, out),
     }
 }
 
 fn own_part(
-    alloc: Global,
-    out: &mut Layout,
+    field: &FieldRef<'_, '_>,
     operator: &Operator,
     form: cases::Form,
     n: usize,
-    field: &FieldRef<'_, '_>,
+    alloc: Global,
+    out: &mut Layout,
 ) -> Result<(), AllocError>
     ensures { OnOk result (out.new ≡ lay out.old (tokens.expr_trees (spec.own_part (operator_view operator.now) form n (field_ref_view field.now)))) }
 {
-    method_path(out, operator)?;
+    method_path(operator, out)?;
     fixed(out, "(self .")?;
-    member_of(alloc, out, form, n, field)?;
+    member_of(field, form, n, alloc, out)?;
     close(out, Delim::Paren)
 }
 
 /// Adds what stands for a field.
 pub(crate) fn part_of(
-    alloc: Global,
-    out: &mut Layout,
+    field: &FieldRef<'_, '_>,
     operator: &Operator,
     part: Part,
     n: usize,
-    field: &FieldRef<'_, '_>,
+    alloc: Global,
+    out: &mut Layout,
 ) -> Result<(), AllocError>
     ensures { OnOk result (out.new ≡ lay out.old (tokens.expr_trees (part_by part (operator_view operator.now) n (field_ref_view field.now)))) }
 {
     match part {
-        Part::Binary(form) => binary_part(alloc, out, form, operator, n, field.left_out),
-        Part::Inner => inner_part(alloc, out, operator, n),
-        Part::Own(form) => own_part(alloc, out, operator, form, n, field),
+        Part::Binary(form) => binary_part(operator, form, n, field.left_out, alloc, out),
+        Part::Inner => inner_part(operator, n, alloc, out),
+        Part::Own(form) => own_part(field, operator, form, n, alloc, out),
     }
 }

@@ -29,9 +29,9 @@ use std::alloc::{AllocError, Global};
 
 /// Adds `TYPE::V`.
 fn variant_path(
-    out: &mut Layout,
     input: &DeriveInput<'_>,
     ident: &Ident<'_>,
+    out: &mut Layout,
 ) -> Result<(), AllocError>
     ensures { OnOk result (out.new ≡ lay out.old (syntax.path_trees nowhere (spec.variant_path (declaration_view input.now) ident.now))) }
 {
@@ -54,112 +54,112 @@ pub(crate) fn some_unit_form(cases: &[CaseRef<'_, '_>]) -> bool
 
 /// Adds the variant's value with the operation in its fields.
 fn inner_value(
-    alloc: Global,
-    out: &mut Layout,
-    operator: &Operator,
     input: &DeriveInput<'_>,
     case: &CaseRef<'_, '_>,
+    operator: &Operator,
+    alloc: Global,
+    out: &mut Layout,
 ) -> Result<(), AllocError>
     ensures { OnOk result (out.new ≡ lay out.old (tokens.expr_trees (spec.constructor (spec.inner_part (operator_view operator.now)) (spec.variant_path (declaration_view input.now) (case_view case.now).ident) (case_view case.now).form (case_view case.now).fields))) }
 {
-    variant_path(out, input, case.ident)?;
-    value_fields(alloc, out, operator, Part::Inner, case)
+    variant_path(input, case.ident, out)?;
+    value_fields(case, operator, Part::Inner, alloc, out)
 }
 
 /// Adds the value inside `Ok (..)`, where it is wanted.
 fn inner_in_ok(
+    input: &DeriveInput<'_>,
+    case: &CaseRef<'_, '_>,
+    operator: &Operator,
+    wanted: bool,
     alloc: Global,
     out: &mut Layout,
-    operator: &Operator,
-    input: &DeriveInput<'_>,
-    wanted: bool,
-    case: &CaseRef<'_, '_>,
 ) -> Result<(), AllocError>
     ensures { OnOk result (out.new ≡ lay out.old (tokens.expr_trees (spec.in_ok wanted (spec.constructor (spec.inner_part (operator_view operator.now)) (spec.variant_path (declaration_view input.now) (case_view case.now).ident) (case_view case.now).form (case_view case.now).fields)))) }
 {
     if wanted {
         fixed(out, "derive_more :: core :: result :: Result :: Ok (")?;
-        inner_value(alloc, out, operator, input, case)?;
+        inner_value(input, case, operator, alloc, out)?;
         return close(out, Delim::Paren);
     }
-    inner_value(alloc, out, operator, input, case)
+    inner_value(input, case, operator, alloc, out)
 }
 
 /// Adds the body of an arm: a unit fails, and so the others stand inside `Ok`.
 fn unary_given(
+    input: &DeriveInput<'_>,
+    case: &CaseRef<'_, '_>,
+    operator: &Operator,
+    fails: bool,
     alloc: Global,
     out: &mut Layout,
-    operator: &Operator,
-    input: &DeriveInput<'_>,
-    fails: bool,
-    case: &CaseRef<'_, '_>,
 ) -> Result<(), AllocError>
     ensures { OnOk result (out.new ≡ lay out.old (tokens.body_trees (spec.unary_given (operator_view operator.now) (declaration_view input.now) fails (case_view case.now)))) }
 {
     if is_unit_form(case.form) {
-        return unary_unit(alloc, out, operator);
+        return unary_unit(operator, alloc, out);
     }
     open(out, Delim::Brace)?;
-    inner_in_ok(alloc, out, operator, input, fails, case)?;
+    inner_in_ok(input, case, operator, fails, alloc, out)?;
     close(out, Delim::Brace)
 }
 
 fn unary_pattern(
-    alloc: Global,
-    out: &mut Layout,
     input: &DeriveInput<'_>,
     case: &CaseRef<'_, '_>,
+    alloc: Global,
+    out: &mut Layout,
 ) -> Result<(), AllocError>
     ensures { OnOk result (out.new ≡ lay out.old (tokens.pattern_trees (
         sides.side_pattern spec.inner_name (spec.variant_path (declaration_view input.now) (case_view case.now).ident) (case_view case.now).form (case_view case.now).fields))) }
 {
-    variant_path(out, input, case.ident)?;
-    case_fields(alloc, out, Operand::Inner, case)
+    variant_path(input, case.ident, out)?;
+    case_fields(case, Operand::Inner, alloc, out)
 }
 
 fn unary_arm(
+    input: &DeriveInput<'_>,
+    case: &CaseRef<'_, '_>,
+    operator: &Operator,
+    fails: bool,
     alloc: Global,
     out: &mut Layout,
-    operator: &Operator,
-    input: &DeriveInput<'_>,
-    fails: bool,
-    case: &CaseRef<'_, '_>,
 ) -> Result<(), AllocError>
     ensures { OnOk result (out.new ≡ lay out.old (tokens.arm_trees (spec.unary_arm (operator_view operator.now) (declaration_view input.now) fails (case_view case.now)))) }
 {
-    unary_pattern(alloc, out, input, case)?;
+    unary_pattern(input, case, alloc, out)?;
     joint(out, '=', '>')?;
-    unary_given(alloc, out, operator, input, fails, case)?;
+    unary_given(input, case, operator, fails, alloc, out)?;
     punct(out, ',')
 }
 
 /// Adds an arm for each variant.
 pub(crate) fn unary_arms(
+    input: &DeriveInput<'_>,
+    cases: &[CaseRef<'_, '_>],
+    operator: &Operator,
+    fails: bool,
     alloc: Global,
     out: &mut Layout,
-    operator: &Operator,
-    input: &DeriveInput<'_>,
-    fails: bool,
-    cases: &[CaseRef<'_, '_>],
 ) -> Result<(), AllocError>
     ensures { OnOk result (out.new ≡ lay out.old (tokens.arms_trees (arms_of (map (spec.unary_arm (operator_view operator.now) (declaration_view input.now) fails) (map case_view cases.now))))) }
 {
     for case in cases {
-        unary_arm(alloc, out, operator, input, fails, case)?;
+        unary_arm(input, case, operator, fails, alloc, out)?;
     }
     Ok(())
 }
 
 /// Adds the struct's value, by its own name.
 pub(crate) fn own_value(
-    alloc: Global,
-    out: &mut Layout,
-    operator: &Operator,
     input: &DeriveInput<'_>,
     case: &CaseRef<'_, '_>,
+    operator: &Operator,
+    alloc: Global,
+    out: &mut Layout,
 ) -> Result<(), AllocError>
     ensures { OnOk result (out.new ≡ lay out.old (tokens.expr_trees (spec.own_value (operator_view operator.now) (declaration_view input.now) (case_view case.now)))) }
 {
     name(out, &input.ident)?;
-    value_fields(alloc, out, operator, Part::Own(case.form), case)
+    value_fields(case, operator, Part::Own(case.form), alloc, out)
 }

@@ -107,8 +107,8 @@ fn is_unit_struct(input: &DeriveInput<'_>) -> bool
 /// The fields, each marked whether it is skipped, or the first refusal: of the attributes of one, or at this range that none is left.
 fn kept_fields<'x, 'a>(
     alloc: Global,
-    operator: &Operator,
     fields: &'x Fields<'a>,
+    operator: &Operator,
     at: Span,
 ) -> Result<Vec<FieldRef<'x, 'a>>, Error>
     ensures { IsWalked (plans.fields_refusal (operator_view operator.now) at (values.field_list (fields_view fields.now)))
@@ -124,15 +124,15 @@ fn kept_fields<'x, 'a>(
 /// The fields of a variant, which needs none.
 fn variant_fields<'x, 'a>(
     alloc: Global,
-    operator: &Operator,
     variant: &'x Variant<'a>,
+    operator: &Operator,
 ) -> Result<Vec<FieldRef<'x, 'a>>, Error>
     ensures { IsWalked (plans.own_refusal (operator_view operator.now) (variant_view variant.now))
         (λ x. map field_ref_view x.items ≡ map (mark_field (skipped_under operator.now.method.now)) (values.field_list (fields_view variant.now.fields))) result }
 {
     match &variant.fields {
-        Fields::Named(_) => kept_fields(alloc, operator, &variant.fields, variant.span),
-        Fields::Unnamed(_) => kept_fields(alloc, operator, &variant.fields, variant.span),
+        Fields::Named(_) => kept_fields(alloc, &variant.fields, operator, variant.span),
+        Fields::Unnamed(_) => kept_fields(alloc, &variant.fields, operator, variant.span),
         Fields::Unit => Ok(Vec::new(alloc)),
     }
 }
@@ -140,14 +140,14 @@ fn variant_fields<'x, 'a>(
 /// A variant, which isn't skipped itself.
 fn variant_case<'x, 'a>(
     alloc: Global,
-    operator: &Operator,
     variant: &'x Variant<'a>,
+    operator: &Operator,
 ) -> Result<CaseRef<'x, 'a>, Error>
     ensures { IsWalked (plans.variant_refusal (operator_view operator.now) (variant_view variant.now))
         (λ c. case_view c ≡ plans.opened (skipped_under operator.now.method.now) (values.case_of_variant (variant_view variant.now))) result }
 {
     refuse_skip(alloc, variant.attrs.as_slice(), operator.method)?;
-    let fields = variant_fields(alloc, operator, variant)?;
+    let fields = variant_fields(alloc, variant, operator)?;
     Ok(CaseRef {
         ident: &variant.ident,
         form: form_of(&variant.fields),
@@ -158,15 +158,15 @@ fn variant_case<'x, 'a>(
 
 fn variant_cases<'x, 'a>(
     alloc: Global,
-    operator: &Operator,
     variants: &'x [Variant<'a>],
+    operator: &Operator,
 ) -> Result<Vec<CaseRef<'x, 'a>>, Error>
     ensures { IsWalked (plans.first_variant (operator_view operator.now) (map variant_view variants.now))
         (λ x. plans.AreOpened (skipped_under operator.now.method.now) (map values.case_of_variant (map variant_view variants.now)) x.items) result }
 {
     let mut out = Vec::with_capacity(alloc, variants.len())?;
     for variant in variants {
-        match variant_case(alloc, operator, variant) {
+        match variant_case(alloc, variant, operator) {
             Ok(next) => add(&mut out, next)?,
             Err(error) => return Err(error),
         }
@@ -200,18 +200,18 @@ fn only_case<'x, 'a>(
 /// The struct, or the variants of an enum, whose attributes are looked at.
 fn part_cases<'x, 'a>(
     alloc: Global,
-    operator: &Operator,
     input: &'x DeriveInput<'a>,
+    operator: &Operator,
 ) -> Result<Vec<CaseRef<'x, 'a>>, Error>
     ensures { IsWalked (plans.parts_refusal (operator_view operator.now) (declaration_view input.now).shape)
         (λ x. plans.AreOpened (skipped_under operator.now.method.now) (values.cases (declaration_view input.now)) x.items) result }
 {
     match &input.shape {
         Data::Struct(data) => {
-            let kept = kept_fields(alloc, operator, &data.fields, data.word)?;
+            let kept = kept_fields(alloc, &data.fields, operator, data.word)?;
             only_case(alloc, &input.ident, &data.fields, kept)
         }
-        Data::Enum(data) => variant_cases(alloc, operator, data.variants.items.as_slice()),
+        Data::Enum(data) => variant_cases(alloc, data.variants.items.as_slice(), operator),
         Data::Union(data) => Err(refused(Kind::WrongShape, data.word)),
     }
 }
@@ -227,7 +227,7 @@ fn refuse_shape(input: &DeriveInput<'_>, wrong: bool) -> Result<(), Error>
 }
 
 /// Whether the operator changes an enum in its place.
-fn assigns_enum(operator: &Operator, input: &DeriveInput<'_>) -> bool
+fn assigns_enum(input: &DeriveInput<'_>, operator: &Operator) -> bool
     ensures { result ≡ (operator.now.assigning && values.is_enum (declaration_view input.now)) }
 {
     operator.assigning && is_enum(input)
@@ -236,32 +236,32 @@ fn assigns_enum(operator: &Operator, input: &DeriveInput<'_>) -> bool
 /// With a value of the same type on the right.
 fn structural_cases<'x, 'a>(
     alloc: Global,
-    operator: &Operator,
     input: &'x DeriveInput<'a>,
+    operator: &Operator,
 ) -> Result<Vec<CaseRef<'x, 'a>>, Error>
     ensures { IsWalked (plans.structural_refusal (operator_view operator.now) (declaration_view input.now))
         (λ x. plans.AreOpened (skipped_under operator.now.method.now) (values.cases (declaration_view input.now)) x.items) result }
 {
-    refuse_shape(input, is_union(input) || assigns_enum(operator, input))?;
+    refuse_shape(input, is_union(input) || assigns_enum(input, operator))?;
     refuse_skip(alloc, input.attrs.as_slice(), operator.method)?;
     refuse_shape(input, is_unit_struct(input))?;
-    part_cases(alloc, operator, input)
+    part_cases(alloc, input, operator)
 }
 
 /// Whether no operator with any value on the right is there for a declaration of this shape.
-fn has_no_form(operator: &Operator, input: &DeriveInput<'_>) -> bool
+fn has_no_form(input: &DeriveInput<'_>, operator: &Operator) -> bool
     ensures { result ≡ (spec.is_union (declaration_view input.now).shape || (spec.is_unit_struct (declaration_view input.now).shape ||
         (operator.now.assigning && values.is_enum (declaration_view input.now)))) }
 {
-    is_union(input) || is_unit_struct(input) || assigns_enum(operator, input)
+    is_union(input) || is_unit_struct(input) || assigns_enum(input, operator)
 }
 
 /// What stands right of self, any value or one of the same type, as the type's attributes say.
-fn scalar_form(alloc: Global, operator: &Operator, input: &DeriveInput<'_>) -> Result<Form, Error>
+fn scalar_form(alloc: Global, input: &DeriveInput<'_>, operator: &Operator) -> Result<Form, Error>
     ensures { IsWalked (plans.type_refusal (operator_view operator.now) (declaration_view input.now))
         (λ f. form_view f ≡ form_by ops.scalar (forwards (operator_view operator.now) input.now.attrs)) result }
 {
-    refuse_shape(input, has_no_form(operator, input))?;
+    refuse_shape(input, has_no_form(input, operator))?;
     if is_forwarded_under(alloc, input.attrs.as_slice(), operator.method)? {
         return Ok(Form::Structural);
     }
@@ -271,15 +271,15 @@ fn scalar_form(alloc: Global, operator: &Operator, input: &DeriveInput<'_>) -> R
 
 fn scalar_plan<'x, 'a>(
     alloc: Global,
-    operator: &Operator,
     input: &'x DeriveInput<'a>,
+    operator: &Operator,
 ) -> Result<Plan<'x, 'a>, Error>
     ensures { IsWalked (plans.scalar_refusal (operator_view operator.now) (declaration_view input.now))
         (λ p. (form_view p.form ≡ form_by ops.scalar (forwards (operator_view operator.now) input.now.attrs)) ×
         plans.AreOpened (skipped_under operator.now.method.now) (values.cases (declaration_view input.now)) p.cases.items) result }
 {
-    let form = scalar_form(alloc, operator, input)?;
-    let cases = part_cases(alloc, operator, input)?;
+    let form = scalar_form(alloc, input, operator)?;
+    let cases = part_cases(alloc, input, operator)?;
     Ok(Plan { form, cases })
 }
 
@@ -377,14 +377,14 @@ fn planned<'x, 'a>(
 /// right side only the shape is looked at. The refusals of attributes are those of [dm_attr::skips].
 pub fn plan_for<'x, 'a>(
     alloc: Global,
-    operator: &Operator,
     input: &'x DeriveInput<'a>,
+    operator: &Operator,
 ) -> Result<Plan<'x, 'a>, Error>
     ensures { plans.IsPlanned (operator_view operator.now) (declaration_view input.now) result }
 {
     match operator.form {
-        Form::Structural => planned(Form::Structural, structural_cases(alloc, operator, input)),
-        Form::Scalar => scalar_plan(alloc, operator, input),
+        Form::Structural => planned(Form::Structural, structural_cases(alloc, input, operator)),
+        Form::Scalar => scalar_plan(alloc, input, operator),
         Form::Unary => planned(Form::Unary, unary_cases(alloc, input)),
     }
 }

@@ -13,8 +13,8 @@ use std::alloc::Global;
 
 /// The cases of a declaration, or why `PartialEq` isn't derived for it: the first refusal, in the order of the text.
 pub(crate) fn checked<'x, 'a>(
-    alloc: Global,
     input: &'x DeriveInput<'a>,
+    alloc: Global,
 ) -> Result<Vec<CaseRef<'x, 'a>>, Error>
     ensures first { IsMarking (declaration_view input.now) result }
     ensures valid { IsRefusedIfInvalid (declaration_view input.now) result }

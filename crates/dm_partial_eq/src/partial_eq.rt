@@ -15,15 +15,15 @@ use dm_stream::Error;
 use std::alloc::{AllocError, Global};
 
 fn printed<'x, 'a>(
-    alloc: Global,
     input: &'x DeriveInput<'a>,
     cases: &[CaseRef<'x, 'a>],
+    alloc: Global,
 ) -> Result<String, AllocError>
     requires readable { IsReadable (declaration_view input.now) }
     requires cases { AreCases (declaration_view input.now) cases.now }
     ensures { IfOk result (λ text. IsText (declaration_view input.now) (string_bytes text)) }
 {
-    printed_item(alloc, input, cases)
+    printed_item(input, cases, alloc)
 }
 
 /// The text of the implementation of `PartialEq`: `eq`, and `ne` where some variant is compared, each field by field.
@@ -43,6 +43,6 @@ pub fn print<'a>(alloc: Global, input: &DeriveInput<'a>, _trait_name: &str) -> R
     requires { IsReadable (declaration_view input.now) }
     ensures { IsPrinted (declaration_view input.now) result }
 {
-    let cases = checked(alloc, input)?;
-    Ok(printed(alloc, input, cases.as_slice())?)
+    let cases = checked(input, alloc)?;
+    Ok(printed(input, cases.as_slice(), alloc)?)
 }

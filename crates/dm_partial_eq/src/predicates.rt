@@ -45,13 +45,13 @@ impl Asks for Compares {
 
 /// Adds the declared predicates, and behind them those that the kept fields need.
 pub(crate) fn predicates<'x, 'a>(
-    alloc: Global,
-    out: &mut Layout,
     input: &'x DeriveInput<'a>,
     cases: &[CaseRef<'x, 'a>],
+    alloc: Global,
+    out: &mut Layout,
 ) -> Result<(), AllocError>
     ensures { OnOk result (out.new ≡ lay out.old (tokens.where_trees (spec.predicates_for (declaration_view input.now) (map case_view cases.now)))) }
 {
-    let all = with_needed(cases, input, &Compares, alloc)?;
+    let all = with_needed(input, cases, &Compares, alloc)?;
     clause(all.as_slice(), &Compares, alloc, out)
 }

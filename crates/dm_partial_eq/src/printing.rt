@@ -37,26 +37,26 @@ fn subject(out: &mut Layout) -> Result<(), AllocError>
 }
 
 fn matching<'a>(
-    alloc: Global,
-    out: &mut Layout,
-    comparing: Comparing,
     input: &DeriveInput<'a>,
     cases: &[CaseRef<'_, 'a>],
+    comparing: Comparing,
+    alloc: Global,
+    out: &mut Layout,
 ) -> Result<(), AllocError>
     ensures { OnOk result (out.new ≡ lay out.old (tokens.expr_trees (spec.matching comparing (declaration_view input.now) (map case_view cases.now)))) }
 {
     word(out, "match")?;
     subject(out)?;
     open(out, Delim::Brace)?;
-    arms(alloc, out, comparing, input, cases)?;
+    arms(input, cases, comparing, alloc, out)?;
     close(out, Delim::Brace)
 }
 
 /// Adds the tests of the discriminants, where they are wanted, and what joins them to the match.
 fn discriminants_part(
-    out: &mut Layout,
     comparing: Comparing,
     wanted: bool,
+    out: &mut Layout,
 ) -> Result<(), AllocError>
     ensures { OnOk result (out.new ≡ lay out.old (printed.discriminants_trees comparing wanted)) }
 {
@@ -68,24 +68,24 @@ fn discriminants_part(
 }
 
 fn compared<'a>(
-    alloc: Global,
-    out: &mut Layout,
-    comparing: Comparing,
     input: &DeriveInput<'a>,
     cases: &[CaseRef<'_, 'a>],
+    comparing: Comparing,
+    alloc: Global,
+    out: &mut Layout,
 ) -> Result<(), AllocError>
     ensures { OnOk result (out.new ≡ lay out.old (printed.compared_trees comparing (declaration_view input.now) (map case_view cases.now))) }
 {
-    discriminants_part(out, comparing, needs_discriminants(input, cases))?;
-    matching(alloc, out, comparing, input, cases)
+    discriminants_part(comparing, needs_discriminants(input, cases), out)?;
+    matching(input, cases, comparing, alloc, out)
 }
 
 /// Adds the body where no case is compared.
 fn uncompared(
-    out: &mut Layout,
-    comparing: Comparing,
     input: &DeriveInput<'_>,
     cases: &[CaseRef<'_, '_>],
+    comparing: Comparing,
+    out: &mut Layout,
 ) -> Result<(), AllocError>
     ensures { OnOk result (out.new ≡ lay out.old (tokens.expr_trees (printed.uncompared comparing (declaration_view input.now) (map case_view cases.now)))) }
 {
@@ -99,74 +99,74 @@ fn uncompared(
 }
 
 fn body<'a>(
-    alloc: Global,
-    out: &mut Layout,
-    comparing: Comparing,
     input: &DeriveInput<'a>,
     cases: &[CaseRef<'_, 'a>],
+    comparing: Comparing,
+    alloc: Global,
+    out: &mut Layout,
 ) -> Result<(), AllocError>
     ensures { OnOk result (out.new ≡ lay out.old (tokens.expr_trees (spec.body_expr comparing (declaration_view input.now) (map case_view cases.now)))) }
 {
     if some_compared(cases) {
-        return compared(alloc, out, comparing, input, cases);
+        return compared(input, cases, comparing, alloc, out);
     }
-    uncompared(out, comparing, input, cases)
+    uncompared(input, cases, comparing, out)
 }
 
 fn method<'a>(
-    alloc: Global,
-    out: &mut Layout,
-    comparing: Comparing,
     input: &DeriveInput<'a>,
     cases: &[CaseRef<'_, 'a>],
+    comparing: Comparing,
+    alloc: Global,
+    out: &mut Layout,
 ) -> Result<(), AllocError>
     ensures { OnOk result (out.new ≡ lay out.old (tokens.method_trees (spec.method comparing (declaration_view input.now) (map case_view cases.now)))) }
 {
     comparing.method_head(out)?;
     open(out, Delim::Brace)?;
-    body(alloc, out, comparing, input, cases)?;
+    body(input, cases, comparing, alloc, out)?;
     close(out, Delim::Brace)
 }
 
 fn methods<'a>(
-    alloc: Global,
-    out: &mut Layout,
     input: &DeriveInput<'a>,
     cases: &[CaseRef<'_, 'a>],
+    alloc: Global,
+    out: &mut Layout,
 ) -> Result<(), AllocError>
     ensures { OnOk result (out.new ≡ lay out.old (tokens.in_turn (map tokens.method_trees (spec.methods (declaration_view input.now) (map case_view cases.now))))) }
 {
-    method(alloc, out, Comparing::Equal, input, cases)?;
+    method(input, cases, Comparing::Equal, alloc, out)?;
     if !some_compared(cases) {
         return Ok(());
     }
-    method(alloc, out, Comparing::Unequal, input, cases)
+    method(input, cases, Comparing::Unequal, alloc, out)
 }
 
 fn item<'x, 'a>(
-    alloc: Global,
-    out: &mut Layout,
     input: &'x DeriveInput<'a>,
     cases: &[CaseRef<'x, 'a>],
+    alloc: Global,
+    out: &mut Layout,
 ) -> Result<(), AllocError>
     ensures { OnOk result (out.new ≡ lay out.old (tokens.item_trees (spec.item_for (declaration_view input.now) (map case_view cases.now)))) }
 {
-    item_head(alloc, out, input, cases)?;
+    item_head(input, cases, alloc, out)?;
     open(out, Delim::Brace)?;
-    methods(alloc, out, input, cases)?;
+    methods(input, cases, alloc, out)?;
     close(out, Delim::Brace)
 }
 
 /// The text of the implementation.
 pub(crate) fn printed_item<'x, 'a>(
-    alloc: Global,
     input: &'x DeriveInput<'a>,
     cases: &[CaseRef<'x, 'a>],
+    alloc: Global,
 ) -> Result<String, AllocError>
     ensures { IfOk result (λ s. string_bytes s ≡ tokens.printed (spec.item_for (declaration_view input.now) (map case_view cases.now) ∷ [])) }
 {
     let mut out = Layout::new(alloc);
-    item(alloc, &mut out, input, cases)?;
+    item(input, cases, alloc, &mut out)?;
     out.line_end()?;
     Ok(out.into_string())
 }

@@ -39,7 +39,7 @@ fn compared_count(alloc: Global, input: &DeriveInput<'_>) -> Result<usize, Error
     ensures { IsWalked (comparing.refusal (declaration_view input.now)) (λ n. n ≡ length (compared.item (declaration_view input.now)).predicates) result }
 {
     let cases = cases_of(alloc, input)?;
-    Ok(number(with_needed(cases.as_slice(), input, &Compares, alloc))?)
+    Ok(number(with_needed(input, cases.as_slice(), &Compares, alloc))?)
 }
 
 fn operated_count(
@@ -50,13 +50,13 @@ fn operated_count(
     ensures { IsWalked (operating.refusal (operator_view operator.now) (declaration_view input.now))
         (λ n. n ≡ length (item_of (operator_view operator.now) (declaration_view input.now)).predicates) result }
 {
-    let plan = plan_for(alloc, operator, input)?;
+    let plan = plan_for(alloc, input, operator)?;
     let implemented = Implemented {
         form: plan.form,
         operator: *operator,
     };
     let cases = plan.cases.as_slice();
-    Ok(number(all_predicates(cases, input, &implemented, alloc))?)
+    Ok(number(all_predicates(input, cases, &implemented, alloc))?)
 }
 
 /// How many predicates the trait's implementation for a declaration has.

@@ -42,6 +42,6 @@ pub fn printed(alloc: Global, derived: Trait, input: &DeriveInput<'_>) -> Result
 {
     match derived {
         Trait::PartialEq => partial_eq::print(alloc, input, "PartialEq"),
-        Trait::Operator(operator) => expand::printed(alloc, &operator, input),
+        Trait::Operator(operator) => expand::printed(input, &operator, alloc),
     }
 }

@@ -17,9 +17,9 @@ use std::alloc::{AllocError, Global};
 
 /// Adds the declared parameters, lifetimes first, in `<..>` where there are some.
 pub fn declared_params(
+    input: &DeriveInput<'_>,
     alloc: Global,
     out: &mut Layout,
-    input: &DeriveInput<'_>,
 ) -> Result<(), AllocError>
     ensures { OnOk result (out.new ≡ lay out.old (tokens.params_trees (spec.params_of (declaration_view input.now)))) }
 {
@@ -28,9 +28,9 @@ pub fn declared_params(
 
 /// Adds the declared type with an argument for each of its parameters.
 pub fn declared_type(
+    input: &DeriveInput<'_>,
     alloc: Global,
     out: &mut Layout,
-    input: &DeriveInput<'_>,
 ) -> Result<(), AllocError>
     ensures { OnOk result (out.new ≡ lay out.old (type_trees (spec.implementor (declaration_view input.now)))) }
 {

@@ -21,7 +21,7 @@ use dm_stream::Seq;
 use std::alloc::{AllocError, Global};
 
 /// A type's parameter of this name.
-fn plain_param<'a>(alloc: Global, name: &'a str) -> GenericParam<'a>
+fn plain_param<'a>(name: &'a str, alloc: Global) -> GenericParam<'a>
     ensures { param_view result ≡ type_param [] (words.word name.now) None None }
 {
     GenericParam::Ty(TyParam {
@@ -41,15 +41,15 @@ fn followed<'a>(
     ensures { IfOk result (λ ps. IsOkAnd declared.entry (λ qs. map param_view ps ≡ map param_view qs ++ type_param [] (words.word name.now) None None ∷ [])) }
 {
     match declared {
-        Ok(declared) => Ok(appended(declared, plain_param(alloc, name))?),
+        Ok(declared) => Ok(appended(declared, plain_param(name, alloc))?),
         Err(error) => Err(error),
     }
 }
 
 fn with_param<'a>(
-    alloc: Global,
     input: &DeriveInput<'a>,
     name: &'a str,
+    alloc: Global,
 ) -> Result<Seq<GenericParam<'a>>, AllocError>
     ensures { IfOk result (λ ps. map param_view ps ≡ params_of (declaration_view input.now) ++ type_param [] (words.word name.now) None None ∷ []) }
 {
@@ -58,14 +58,14 @@ fn with_param<'a>(
 
 /// Adds the declared parameters, lifetimes first, and behind them a type's parameter of this name, in `<..>`.
 pub fn params_with<'a>(
-    alloc: Global,
-    out: &mut Layout,
     input: &DeriveInput<'a>,
     name: &'a str,
+    alloc: Global,
+    out: &mut Layout,
 ) -> Result<(), AllocError>
     ensures { OnOk result (out.new ≡ lay out.old (tokens.params_trees (params_of (declaration_view input.now) ++ type_param [] (words.word name.now) None None ∷ []))) }
 {
-    made_params(with_param(alloc, input, name), alloc, out)
+    made_params(with_param(input, name, alloc), alloc, out)
 }
 
 fn params_of_split<'a>(split: Split<'a>) -> Seq<GenericParam<'a>>
@@ -80,9 +80,9 @@ fn params_of_split<'a>(split: Split<'a>) -> Seq<GenericParam<'a>>
 }
 
 fn with_bounds<'a>(
-    alloc: Global,
     input: &DeriveInput<'a>,
     trait_name: &str,
+    alloc: Global,
 ) -> Result<Seq<GenericParam<'a>>, AllocError>
     ensures { IfOk result (λ ps. map param_view ps ≡ map (bounded (op_output trait_name.now)) (params_of (declaration_view input.now))) }
 {
@@ -94,12 +94,12 @@ fn with_bounds<'a>(
 /// Adds the declared parameters, lifetimes first, in `<..>` where there are some. Of each type parameter the operator of this name is asked,
 /// which gives that type again: `T: derive_more::core::ops::Not<Output = T>`.
 pub fn bounded_params(
-    alloc: Global,
-    out: &mut Layout,
     input: &DeriveInput<'_>,
     trait_name: &str,
+    alloc: Global,
+    out: &mut Layout,
 ) -> Result<(), AllocError>
     ensures { OnOk result (out.new ≡ lay out.old (tokens.params_trees (map (bounded (op_output trait_name.now)) (params_of (declaration_view input.now))))) }
 {
-    made_params(with_bounds(alloc, input, trait_name), alloc, out)
+    made_params(with_bounds(input, trait_name, alloc), alloc, out)
 }

@@ -23,10 +23,10 @@ use std::alloc::{AllocError, Global};
 
 /// Adds the name of a field of an operand.
 pub fn numbered(
-    alloc: Global,
-    out: &mut Layout,
     operand: Operand,
     n: usize,
+    alloc: Global,
+    out: &mut Layout,
 ) -> Result<(), AllocError>
     ensures { OnOk result (out.new ≡ lay out.old (tokens.word (naming operand n))) }
 {
@@ -40,37 +40,37 @@ pub fn numbered(
 }
 
 fn binding(
-    alloc: Global,
-    out: &mut Layout,
     operand: Operand,
     n: usize,
     skip: bool,
+    alloc: Global,
+    out: &mut Layout,
 ) -> Result<(), AllocError>
     ensures { OnOk result (out.new ≡ lay out.old (tokens.pattern_trees (spec.binding skip (naming operand n)))) }
 {
     if skip {
         return word(out, "_");
     }
-    numbered(alloc, out, operand, n)
+    numbered(operand, n, alloc, out)
 }
 
 fn bindings(
+    fields: &[FieldRef<'_, '_>],
+    operand: Operand,
     alloc: Global,
     out: &mut Layout,
-    operand: Operand,
-    fields: &[FieldRef<'_, '_>],
 ) -> Result<(), AllocError>
     ensures { OnOk result (out.new ≡ lay out.old (tokens.ended (tokens.each_pattern (patterns_of (spec.bindings (naming operand) 0 (map field_ref_view fields.now)))))) }
 {
     for (i, field) in fields.iter().enumerate() {
-        binding(alloc, out, operand, i, field.left_out)?;
+        binding(operand, i, field.left_out, alloc, out)?;
         punct(out, ',')?;
     }
     Ok(())
 }
 
 /// Adds the name of a field in braces.
-pub fn field_name(out: &mut Layout, ident: &Option<Ident<'_>>) -> Result<(), AllocError>
+pub fn field_name(ident: &Option<Ident<'_>>, out: &mut Layout) -> Result<(), AllocError>
     ensures { OnOk result (out.new ≡ lay out.old (syntax.name (spec.field_ident ident.now))) }
 {
     match ident {
@@ -80,31 +80,31 @@ pub fn field_name(out: &mut Layout, ident: &Option<Ident<'_>>) -> Result<(), All
 }
 
 fn named_binding(
-    alloc: Global,
-    out: &mut Layout,
+    field: &Field<'_>,
     operand: Operand,
     n: usize,
-    field: &Field<'_>,
+    alloc: Global,
+    out: &mut Layout,
 ) -> Result<(), AllocError>
     ensures { OnOk result (out.new ≡ lay out.old (join (join (syntax.name (spec.field_ident field.now.ident)) (join tokens.colon (tokens.word (naming operand n)))) tokens.comma)) }
 {
-    field_name(out, &field.ident)?;
+    field_name(&field.ident, out)?;
     punct(out, ':')?;
-    numbered(alloc, out, operand, n)?;
+    numbered(operand, n, alloc, out)?;
     punct(out, ',')
 }
 
 fn named_bindings(
+    fields: &[FieldRef<'_, '_>],
+    operand: Operand,
     alloc: Global,
     out: &mut Layout,
-    operand: Operand,
-    fields: &[FieldRef<'_, '_>],
 ) -> Result<(), AllocError>
     ensures { OnOk result (out.new ≡ lay out.old (tokens.ended (tokens.each_named (named_of (spec.named_bindings (naming operand) 0 (map field_ref_view fields.now)))))) }
 {
     for (i, field) in fields.iter().enumerate() {
         if !field.left_out {
-            named_binding(alloc, out, operand, i, field.field)?;
+            named_binding(field.field, operand, i, alloc, out)?;
         }
     }
     Ok(())
@@ -112,9 +112,9 @@ fn named_bindings(
 
 /// Adds `Self`, or `Self::V`.
 pub fn case_path(
-    out: &mut Layout,
     input: &DeriveInput<'_>,
     ident: &Ident<'_>,
+    out: &mut Layout,
 ) -> Result<(), AllocError>
     ensures { OnOk result (out.new ≡ lay out.old (syntax.path_trees nowhere (spec.case_path (declaration_view input.now) ident.now))) }
 {
@@ -128,10 +128,10 @@ pub fn case_path(
 
 /// Adds what stands behind the path in the pattern of an operand that is of this case.
 pub fn case_fields(
+    case: &CaseRef<'_, '_>,
+    operand: Operand,
     alloc: Global,
     out: &mut Layout,
-    operand: Operand,
-    case: &CaseRef<'_, '_>,
 ) -> Result<(), AllocError>
     ensures { OnOk result (out.new ≡ lay out.old (fields_trees (naming operand) (case_view case.now).form (case_view case.now).fields)) }
 {
@@ -139,13 +139,13 @@ pub fn case_fields(
     match case.form {
         Form::Named => {
             open(out, Delim::Brace)?;
-            named_bindings(alloc, out, operand, fields)?;
+            named_bindings(fields, operand, alloc, out)?;
             joint_if(out, some_left_out(fields), '.', '.')?;
             close(out, Delim::Brace)
         }
         Form::Unnamed => {
             open(out, Delim::Paren)?;
-            bindings(alloc, out, operand, fields)?;
+            bindings(fields, operand, alloc, out)?;
             close(out, Delim::Paren)
         }
         Form::Unit => Ok(()),
@@ -154,14 +154,14 @@ pub fn case_fields(
 
 /// Adds the pattern of an operand that is of this case.
 pub fn side(
-    alloc: Global,
-    out: &mut Layout,
-    operand: Operand,
     input: &DeriveInput<'_>,
     case: &CaseRef<'_, '_>,
+    operand: Operand,
+    alloc: Global,
+    out: &mut Layout,
 ) -> Result<(), AllocError>
     ensures { OnOk result (out.new ≡ lay out.old (tokens.pattern_trees (spec.side (naming operand) (declaration_view input.now) (case_view case.now)))) }
 {
-    case_path(out, input, case.ident)?;
-    case_fields(alloc, out, operand, case)
+    case_path(input, case.ident, out)?;
+    case_fields(case, operand, alloc, out)
 }

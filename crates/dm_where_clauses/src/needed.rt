@@ -141,8 +141,8 @@ fn add_for_cases<'x, 'a, A: Asks>(
 
 /// Adds what an implementation for these cases needs.
 fn add_needed<'x, 'a, A: Asks>(
-    cases: &[CaseRef<'x, 'a>],
     input: &DeriveInput<'a>,
+    cases: &[CaseRef<'x, 'a>],
     asks: &A,
     alloc: Global,
     out: &mut Vec<Predicate<'x, 'a>>,
@@ -159,8 +159,8 @@ fn add_needed<'x, 'a, A: Asks>(
 /// The declared predicates, and behind them what an implementation for these cases needs: that the type of each field that isn't left out
 /// has the trait, in order and with repeats, where the trait is asked of it. It fails for want of memory alone.
 pub fn with_needed<'x, 'a, A: Asks>(
-    cases: &[CaseRef<'x, 'a>],
     input: &'x DeriveInput<'a>,
+    cases: &[CaseRef<'x, 'a>],
     asks: &A,
     alloc: Global,
 ) -> Result<Vec<Predicate<'x, 'a>>, AllocError>
@@ -168,6 +168,6 @@ pub fn with_needed<'x, 'a, A: Asks>(
         spec.needed_by (A.asking asks.now) (declaration_view input.now) (map case_view cases.now)) }
 {
     let mut all = declared(input, alloc)?;
-    add_needed(cases, input, asks, alloc, &mut all)?;
+    add_needed(input, cases, asks, alloc, &mut all)?;
     Ok(all)
 }

@@ -24,42 +24,42 @@ use dm_sides::pattern::{numbered, side};
 use dm_stream::Delim;
 use std::alloc::{AllocError, Global};
 
-fn test(alloc: Global, out: &mut Layout, comparing: Comparing, n: usize) -> Result<(), AllocError>
+fn test(comparing: Comparing, n: usize, alloc: Global, out: &mut Layout) -> Result<(), AllocError>
     ensures { OnOk result (out.new ≡ lay out.old (tokens.expr_trees (spec.test comparing n))) }
 {
-    numbered(alloc, out, Operand::Mine, n)?;
+    numbered(Operand::Mine, n, alloc, out)?;
     comparing.sign(out)?;
-    numbered(alloc, out, Operand::Theirs, n)
+    numbered(Operand::Theirs, n, alloc, out)
 }
 
 /// Adds a test, and in front of it what joins it to the one before.
 fn next_test(
-    alloc: Global,
-    out: &mut Layout,
     comparing: Comparing,
     n: usize,
     first: bool,
+    alloc: Global,
+    out: &mut Layout,
 ) -> Result<(), AllocError>
     ensures { OnOk result (out.new ≡ lay out.old (trees.join (cond first no_trees (printed.join_trees comparing)) (tokens.expr_trees (spec.test comparing n)))) }
 {
     if !first {
         comparing.join(out)?;
     }
-    test(alloc, out, comparing, n)
+    test(comparing, n, alloc, out)
 }
 
 fn tests(
+    fields: &[FieldRef<'_, '_>],
+    comparing: Comparing,
     alloc: Global,
     out: &mut Layout,
-    comparing: Comparing,
-    fields: &[FieldRef<'_, '_>],
 ) -> Result<(), AllocError>
     ensures { OnOk result (out.new ≡ lay out.old (printed.joined comparing true (spec.tests comparing 0 (map field_ref_view fields.now)))) }
 {
     let mut first = true;
     for (i, field) in fields.iter().enumerate() {
         if !field.left_out {
-            next_test(alloc, out, comparing, i, first)?;
+            next_test(comparing, i, first, alloc, out)?;
             first = false;
         }
     }
@@ -68,35 +68,35 @@ fn tests(
 
 /// Adds the tests of the fields of a case that is compared.
 fn tested(
+    case: &CaseRef<'_, '_>,
+    comparing: Comparing,
     alloc: Global,
     out: &mut Layout,
-    comparing: Comparing,
-    case: &CaseRef<'_, '_>,
 ) -> Result<(), AllocError>
     requires { IsTrue (kept.is_compared (case_view case.now)) }
     ensures { OnOk result (out.new ≡ lay out.old (tokens.expr_trees (spec.chain comparing (spec.tests comparing 0 (case_view case.now).fields)))) }
 {
-    tests(alloc, out, comparing, case.fields.as_slice())
+    tests(case.fields.as_slice(), comparing, alloc, out)
 }
 
 fn arm(
-    alloc: Global,
-    out: &mut Layout,
-    comparing: Comparing,
     input: &DeriveInput<'_>,
     case: &CaseRef<'_, '_>,
+    comparing: Comparing,
+    alloc: Global,
+    out: &mut Layout,
 ) -> Result<(), AllocError>
     requires { IsTrue (kept.is_compared (case_view case.now)) }
     ensures { OnOk result (out.new ≡ lay out.old (tokens.arm_trees (spec.arm comparing (declaration_view input.now) (case_view case.now)))) }
 {
     open(out, Delim::Paren)?;
-    side(alloc, out, Operand::Mine, input, case)?;
+    side(input, case, Operand::Mine, alloc, out)?;
     punct(out, ',')?;
-    side(alloc, out, Operand::Theirs, input, case)?;
+    side(input, case, Operand::Theirs, alloc, out)?;
     close(out, Delim::Paren)?;
     joint(out, '=', '>')?;
     open(out, Delim::Brace)?;
-    tested(alloc, out, comparing, case)?;
+    tested(case, comparing, alloc, out)?;
     close(out, Delim::Brace)?;
     punct(out, ',')
 }
@@ -112,7 +112,7 @@ fn never(out: &mut Layout) -> Result<(), AllocError>
 }
 
 /// Adds the arm of every other pair, where there is one.
-fn rest(out: &mut Layout, comparing: Comparing, cases: &[CaseRef<'_, '_>]) -> Result<(), AllocError>
+fn rest(cases: &[CaseRef<'_, '_>], comparing: Comparing, out: &mut Layout) -> Result<(), AllocError>
     ensures { OnOk result (out.new ≡ lay out.old (tokens.arms_trees (arms_of (spec.rest comparing (map case_view cases.now))))) }
 {
     if !all_compared(cases) {
@@ -126,18 +126,18 @@ fn rest(out: &mut Layout, comparing: Comparing, cases: &[CaseRef<'_, '_>]) -> Re
 
 /// Adds an arm for each case that is compared, and perhaps one for every other pair.
 pub(crate) fn arms<'a>(
-    alloc: Global,
-    out: &mut Layout,
-    comparing: Comparing,
     input: &DeriveInput<'a>,
     cases: &[CaseRef<'_, 'a>],
+    comparing: Comparing,
+    alloc: Global,
+    out: &mut Layout,
 ) -> Result<(), AllocError>
     ensures { OnOk result (out.new ≡ lay out.old (tokens.arms_trees (arms_of (spec.arms comparing (declaration_view input.now) (map case_view cases.now) (spec.rest comparing (map case_view cases.now)))))) }
 {
     for case in cases {
         if is_compared(case) {
-            arm(alloc, out, comparing, input, case)?;
+            arm(input, case, comparing, alloc, out)?;
         }
     }
-    rest(out, comparing, cases)
+    rest(cases, comparing, out)
 }

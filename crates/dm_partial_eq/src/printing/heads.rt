@@ -38,16 +38,16 @@ fn trait_for(out: &mut Layout) -> Result<(), AllocError>
 
 /// Adds what stands in front of the implementation's methods.
 pub(crate) fn item_head<'x, 'a>(
-    alloc: Global,
-    out: &mut Layout,
     input: &'x DeriveInput<'a>,
     cases: &[CaseRef<'x, 'a>],
+    alloc: Global,
+    out: &mut Layout,
 ) -> Result<(), AllocError>
     ensures { OnOk result (out.new ≡ lay out.old (tokens.head_trees (spec.with_methods (declaration_view input.now) (map case_view cases.now) []))) }
 {
     attributes(out)?;
-    declared_params(alloc, out, input)?;
+    declared_params(input, alloc, out)?;
     trait_for(out)?;
-    declared_type(alloc, out, input)?;
-    predicates(alloc, out, input, cases)
+    declared_type(input, alloc, out)?;
+    predicates(input, cases, alloc, out)
 }
