@@ -1,22 +1,12 @@
 -- What copies of lists and of nodes show, by what copies of their parts do.
-use Rattle.std.proofs.Common.{◌≡◌, ℕ, List, map, Bool, Option, None, Some, option_map, Result, Ok, IfOk, refl, ap, ◌∙◌, sym}
+use Rattle.std.proofs.Common.{◌≡◌, List, map, Option, None, Some, option_map, Result, Ok, IfOk, refl, ap, ◌∙◌, sym}
 use Rattle.std.proofs.lemmas.Grind.{common_steps}
 use Rattle.std.proofs.lemmas.List.{map-id}
 use Rattle.std.proofs.lemmas.Iterator.Adapters.{option_map_id}
 use Rattle.dm_stream.specs.declared.seq.Punctuated.{Punctuated}
 use Rattle.dm_ast.specs.Declarations.{Listed, listed}
 use Rattle.std.proofs.lemmas.Result.{IfOk-weaker, IfOk-at_ok}
-use Rattle.std.specs.declared.boxed.Box.{Box}
-use Rattle.std.specs.declared.alloc.Global.{Global}
-use Rattle.dm_stream.specs.declared.tokens.Ident.{Ident}
-use Rattle.dm_ast.specs.declared.plain.Attribute.{Attribute}
-use Rattle.dm_ast.specs.declared.ty.FnArg.{FnArg, roll-FnArg}
-use Rattle.dm_ast.specs.declared.ty.QSelf.{QSelf}
-use Rattle.dm_ast.specs.declared.ty.Path.{Path}
-use Rattle.dm_ast.specs.declared.ty.Ty.{Ty}
-use Rattle.dm_ast.specs.declared.ty.TyNode.TheVariants as n
-use Rattle.dm_ast.specs.Tree.{TypeTree, input, path, some_self, ty_view, input_view, self_view, path_view, node_view}
-use Rattle.dm_ast.proofs.View.{view_steps, view-FnArg, view_TyNode-Path}
+use Rattle.dm_ast.proofs.View.{view_steps}
 
 -- an item's shape is the item: so is a list's
 abbrev pub unlisted : {A : Type 0} → Listed A → Punctuated A
@@ -42,6 +32,14 @@ same_list xs ys e = sym (map-id xs) ∙ e ∙ map-id ys
 pub same_option : {A : Type 0} (o p : Option A) → option_map (λ (a : A). a) o ≡ option_map (λ (a : A). a) p → o ≡ p
 same_option o p e = sym (option_map_id o) ∙ e ∙ option_map_id p
 
+whole : {A : Type 0} (o : Option (Option A)) → option_map (option_map (λ (a : A). a)) o ≡ o
+whole None = refl
+whole (Some o) = ap (λ z. Some z) (option_map_id o)
+
+pub same_options : {A : Type 0} (o p : Option (Option A)) →
+    option_map (option_map (λ (a : A). a)) o ≡ option_map (option_map (λ (a : A). a)) p → o ≡ p
+same_options o p e = sym (whole o) ∙ e ∙ whole p
+
 -- ---- copies that were put together
 
 -- what is known of two copies is known of both in their pair
@@ -57,21 +55,6 @@ pub thirds : {A B C E : Type 0} (a : Result A E) (b : Result B E) (c : Result C 
 thirds a b c k P Q R e both inner p q r =
     let s = IfOk-at_ok (λ y. (k ≡ Ok y.0) × (c ≡ Ok y.1)) e both in (halves a b P Q s.0 inner p q, IfOk-at_ok R s.1 r)
 
--- ---- nodes of parts with equal views
-
-pub input_shape : (i : FnArg) (as' : List Attribute) (n : Option Ident) (t : Ty) → map (λ (a : Attribute). a) as' ≡ map (λ (a : Attribute). a) i.attrs →
-    option_map (λ (a : Ident). a) n ≡ option_map (λ (a : Ident). a) i.name → ty_view t ≡ ty_view i.ty →
-    input_view (roll-FnArg (record { attrs = as'; name = n; ty = t })) ≡ input_view i
-input_shape i as' n t attrs name ty =
-    view-FnArg (roll-FnArg (record { attrs = as'; name = n; ty = t })) ∙ ap (λ z. input z n (ty_view t)) (same_list as' i.attrs attrs) ∙
-    ap (λ z. input i.attrs z (ty_view t)) (same_option n i.name name) ∙ ap (λ z. input i.attrs i.name z) ty ∙ sym (view-FnArg i)
-
-pub qualified_shape : (b : Box QSelf Global) (c : QSelf) (p q : Path) → self_view b.value ≡ self_view c → path_view p ≡ path_view q →
-    node_view (n.Path (Some b) p) ≡ path (some_self (self_view c).0 (self_view c).1) (path_view q)
-qualified_shape b c p q self rest =
-    view_TyNode-Path (Some b) p ∙ ap (λ (x : TypeTree × ℕ). path (some_self x.0 x.1) (path_view p)) self ∙
-    ap (λ y. path (some_self (self_view c).0 (self_view c).1) y) rest
-
 -- a copy has the view of what it was made of, said of the node or of its parts
 pub shown_as : {A S E : Type 0} (r : Result A E) (view : A → S) (s t : S) → t ≡ s → IfOk r (λ x. view x ≡ s) → IfOk r (λ x. view x ≡ t)
 shown_as r view s t e = IfOk-weaker r _ _ (λ x h. h ∙ sym e)
@@ -79,3 +62,5 @@ shown_as r view s t e = IfOk-weaker r _ _ (λ x h. h ∙ sym e)
 pub ruleset plain_steps = (common_steps, map-id, option_map_id)
 
 pub ruleset copy_steps = (view_steps, map-id, option_map_id)
+
+pub ruleset part_steps = (copy_steps, listed_same, maybe_listed_same)

@@ -1,2 +1,5 @@
 pub mod Copies
-pub mod DeclarationCopies
+pub mod Known
+pub mod Parts
+pub mod Replacing
+pub mod Shown

@@ -1,13 +1,27 @@
 //! Copies of declarations.
-#![tactic(auto, using(crate::proofs::Copies::copy_steps))]
+#![tactic(auto, using(crate::proofs::Copies::part_steps))]
 
 ghost use Rattle.std.specs.Prelude.{◌≡◌, IfOk, option_map};
 ghost use Rattle.dm_ast.specs.Tree.{bound_view, ty_view};
 ghost use Rattle.dm_ast.specs.Declarations as tree;
+ghost use Rattle.dm_copy.specs.Replaced as spec;
+ghost use Rattle.dm_copy.specs.Unreplaced.{
+  declaration_same,
+  enum_same,
+  field_same,
+  fields_same,
+  generics_same,
+  param_same,
+  predicate_same,
+  shape_same,
+  struct_same,
+  union_same,
+  variant_same,
+};
 
 use crate::clone_in::CloneIn;
-use crate::copy_plain::{copy_lifetimes, copy_maybe_lifetimes};
 use crate::joined::both;
+use crate::self_type::SelfType;
 use dm_ast::{
     ConstParam, Data, DataEnum, DataStruct, DataUnion, DeriveInput, Field, Fields, GenericParam,
     Generics, LifetimeParam, TyParam, Variant, WherePredicate,
@@ -21,9 +35,13 @@ impl<'a> CloneIn for DeriveInput<'a> {
 
     ghost shape = { tree.declaration_view };
 
-    fn clone_in(&self, alloc: Global) -> Result<Self, AllocError> {
-        let generics = self.generics.clone_in(alloc);
-        let shape = self.shape.clone_in(alloc);
+    ghost replaced = { spec.replaced_declaration };
+
+    ghost same = { declaration_same };
+
+    fn replace_self(&self, own: Option<&SelfType>, alloc: Global) -> Result<Self, AllocError> {
+        let generics = self.generics.replace_self(own, alloc);
+        let shape = self.shape.replace_self(own, alloc);
         let attrs = self.attrs.clone_in(alloc);
         let vis = self.vis.clone_in(alloc);
         let ident = self.ident.clone_in(alloc);
@@ -48,11 +66,15 @@ impl<'a> CloneIn for Data<'a> {
 
     ghost shape = { tree.shape_view };
 
-    fn clone_in(&self, alloc: Global) -> Result<Self, AllocError> {
+    ghost replaced = { spec.replaced_shape };
+
+    ghost same = { shape_same };
+
+    fn replace_self(&self, own: Option<&SelfType>, alloc: Global) -> Result<Self, AllocError> {
         match self {
-            Data::Struct(data) => Ok(Data::Struct(data.clone_in(alloc)?)),
-            Data::Enum(data) => Ok(Data::Enum(data.clone_in(alloc)?)),
-            Data::Union(data) => Ok(Data::Union(data.clone_in(alloc)?)),
+            Data::Struct(data) => Ok(Data::Struct(data.replace_self(own, alloc)?)),
+            Data::Enum(data) => Ok(Data::Enum(data.replace_self(own, alloc)?)),
+            Data::Union(data) => Ok(Data::Union(data.replace_self(own, alloc)?)),
         }
     }
 }
@@ -65,8 +87,12 @@ impl<'a> CloneIn for DataStruct<'a> {
 
     ghost shape = { λ s. (s.word, tree.fields_view s.fields) };
 
-    fn clone_in(&self, alloc: Global) -> Result<Self, AllocError> {
-        let fields = self.fields.clone_in(alloc)?;
+    ghost replaced = { λ own s. (s.0, spec.replaced_fields own s.1) };
+
+    ghost same = { struct_same };
+
+    fn replace_self(&self, own: Option<&SelfType>, alloc: Global) -> Result<Self, AllocError> {
+        let fields = self.fields.replace_self(own, alloc)?;
         Ok(DataStruct {
             word: self.word,
             fields,
@@ -82,8 +108,12 @@ impl<'a> CloneIn for DataEnum<'a> {
 
     ghost shape = { λ e. (e.word, tree.listed tree.variant_view e.variants) };
 
-    fn clone_in(&self, alloc: Global) -> Result<Self, AllocError> {
-        let variants = self.variants.clone_in(alloc)?;
+    ghost replaced = { λ own e. (e.0, spec.each (spec.replaced_variant own) e.1) };
+
+    ghost same = { enum_same };
+
+    fn replace_self(&self, own: Option<&SelfType>, alloc: Global) -> Result<Self, AllocError> {
+        let variants = self.variants.replace_self(own, alloc)?;
         Ok(DataEnum {
             word: self.word,
             variants,
@@ -99,8 +129,12 @@ impl<'a> CloneIn for DataUnion<'a> {
 
     ghost shape = { λ u. (u.word, tree.listed tree.field_view u.fields) };
 
-    fn clone_in(&self, alloc: Global) -> Result<Self, AllocError> {
-        let fields = self.fields.clone_in(alloc)?;
+    ghost replaced = { λ own u. (u.0, spec.each (spec.replaced_field own) u.1) };
+
+    ghost same = { union_same };
+
+    fn replace_self(&self, own: Option<&SelfType>, alloc: Global) -> Result<Self, AllocError> {
+        let fields = self.fields.replace_self(own, alloc)?;
         Ok(DataUnion {
             word: self.word,
             fields,
@@ -115,10 +149,14 @@ impl<'a> CloneIn for Fields<'a> {
 
     ghost shape = { tree.fields_view };
 
-    fn clone_in(&self, alloc: Global) -> Result<Self, AllocError> {
+    ghost replaced = { spec.replaced_fields };
+
+    ghost same = { fields_same };
+
+    fn replace_self(&self, own: Option<&SelfType>, alloc: Global) -> Result<Self, AllocError> {
         match self {
-            Fields::Named(all) => Ok(Fields::Named(all.clone_in(alloc)?)),
-            Fields::Unnamed(all) => Ok(Fields::Unnamed(all.clone_in(alloc)?)),
+            Fields::Named(all) => Ok(Fields::Named(all.replace_self(own, alloc)?)),
+            Fields::Unnamed(all) => Ok(Fields::Unnamed(all.replace_self(own, alloc)?)),
             Fields::Unit => Ok(Fields::Unit),
         }
     }
@@ -131,8 +169,12 @@ impl<'a> CloneIn for Field<'a> {
 
     ghost shape = { tree.field_view };
 
-    fn clone_in(&self, alloc: Global) -> Result<Self, AllocError> {
-        let ty = self.ty.clone_in(alloc);
+    ghost replaced = { spec.replaced_field };
+
+    ghost same = { field_same };
+
+    fn replace_self(&self, own: Option<&SelfType>, alloc: Global) -> Result<Self, AllocError> {
+        let ty = self.ty.replace_self(own, alloc);
         let attrs = self.attrs.clone_in(alloc);
         let vis = self.vis.clone_in(alloc);
         let ident = self.ident.clone_in(alloc);
@@ -154,8 +196,12 @@ impl<'a> CloneIn for Variant<'a> {
 
     ghost shape = { tree.variant_view };
 
-    fn clone_in(&self, alloc: Global) -> Result<Self, AllocError> {
-        let fields = self.fields.clone_in(alloc);
+    ghost replaced = { spec.replaced_variant };
+
+    ghost same = { variant_same };
+
+    fn replace_self(&self, own: Option<&SelfType>, alloc: Global) -> Result<Self, AllocError> {
+        let fields = self.fields.replace_self(own, alloc);
         let attrs = self.attrs.clone_in(alloc);
         let vis = self.vis.clone_in(alloc);
         let ident = self.ident.clone_in(alloc);
@@ -182,9 +228,13 @@ impl<'a> CloneIn for Generics<'a> {
 
     ghost shape = { tree.generics_view };
 
-    fn clone_in(&self, alloc: Global) -> Result<Self, AllocError> {
-        let params = self.params.clone_in(alloc);
-        let (params, where_clause) = both(params, self.where_clause.clone_in(alloc))?;
+    ghost replaced = { spec.replaced_generics };
+
+    ghost same = { generics_same };
+
+    fn replace_self(&self, own: Option<&SelfType>, alloc: Global) -> Result<Self, AllocError> {
+        let params = self.params.replace_self(own, alloc);
+        let (params, where_clause) = both(params, self.where_clause.replace_self(own, alloc))?;
         Ok(Generics {
             angled: self.angled,
             params,
@@ -200,11 +250,17 @@ impl<'a> CloneIn for GenericParam<'a> {
 
     ghost shape = { tree.param_view };
 
-    fn clone_in(&self, alloc: Global) -> Result<Self, AllocError> {
+    ghost replaced = { spec.replaced_param };
+
+    ghost same = { param_same };
+
+    fn replace_self(&self, own: Option<&SelfType>, alloc: Global) -> Result<Self, AllocError> {
         match self {
-            GenericParam::Lifetime(param) => Ok(GenericParam::Lifetime(param.clone_in(alloc)?)),
-            GenericParam::Ty(param) => Ok(GenericParam::Ty(param.clone_in(alloc)?)),
-            GenericParam::Const(param) => Ok(GenericParam::Const(param.clone_in(alloc)?)),
+            GenericParam::Lifetime(param) => Ok(GenericParam::Lifetime(param.replace_self(
+                own, alloc,
+            )?)),
+            GenericParam::Ty(param) => Ok(GenericParam::Ty(param.replace_self(own, alloc)?)),
+            GenericParam::Const(param) => Ok(GenericParam::Const(param.replace_self(own, alloc)?)),
         }
     }
 }
@@ -216,10 +272,14 @@ impl<'a> CloneIn for LifetimeParam<'a> {
 
     ghost shape = { λ p. lifetime_param p.attrs p.lifetime p.bounds };
 
-    fn clone_in(&self, alloc: Global) -> Result<Self, AllocError> {
+    ghost replaced = { spec.replaced_param };
+
+    ghost same = { param_same };
+
+    fn replace_self(&self, _own: Option<&SelfType>, alloc: Global) -> Result<Self, AllocError> {
         let attrs = self.attrs.clone_in(alloc);
         let lifetime = self.lifetime.clone_in(alloc);
-        let bounds = copy_maybe_lifetimes(alloc, &self.bounds);
+        let bounds = self.bounds.clone_in(alloc);
         let ((attrs, lifetime), bounds) = both(both(attrs, lifetime), bounds)?;
         Ok(LifetimeParam {
             attrs,
@@ -236,9 +296,13 @@ impl<'a> CloneIn for TyParam<'a> {
 
     ghost shape = { λ p. type_param p.attrs p.ident (option_map (tree.listed bound_view) p.bounds) (option_map ty_view p.default_ty) };
 
-    fn clone_in(&self, alloc: Global) -> Result<Self, AllocError> {
-        let bounds = self.bounds.clone_in(alloc);
-        let default_ty = self.default_ty.clone_in(alloc);
+    ghost replaced = { spec.replaced_param };
+
+    ghost same = { param_same };
+
+    fn replace_self(&self, own: Option<&SelfType>, alloc: Global) -> Result<Self, AllocError> {
+        let bounds = self.bounds.replace_self(own, alloc);
+        let default_ty = self.default_ty.replace_self(own, alloc);
         let attrs = self.attrs.clone_in(alloc);
         let ident = self.ident.clone_in(alloc);
         let ((attrs, ident), (bounds, default_ty)) = both(
@@ -261,8 +325,12 @@ impl<'a> CloneIn for ConstParam<'a> {
 
     ghost shape = { λ p. const_param p.attrs p.ident (ty_view p.ty) p.default_value };
 
-    fn clone_in(&self, alloc: Global) -> Result<Self, AllocError> {
-        let ty = self.ty.clone_in(alloc);
+    ghost replaced = { spec.replaced_param };
+
+    ghost same = { param_same };
+
+    fn replace_self(&self, own: Option<&SelfType>, alloc: Global) -> Result<Self, AllocError> {
+        let ty = self.ty.replace_self(own, alloc);
         let attrs = self.attrs.clone_in(alloc);
         let ident = self.ident.clone_in(alloc);
         let default_value = self.default_value.clone_in(alloc);
@@ -286,17 +354,21 @@ impl<'a> CloneIn for WherePredicate<'a> {
 
     ghost shape = { tree.predicate_view };
 
-    fn clone_in(&self, alloc: Global) -> Result<Self, AllocError> {
+    ghost replaced = { spec.replaced_predicate };
+
+    ghost same = { predicate_same };
+
+    fn replace_self(&self, own: Option<&SelfType>, alloc: Global) -> Result<Self, AllocError> {
         match self {
             WherePredicate::Lifetime(lifetime, bounds) => {
-                let bounds = copy_lifetimes(alloc, bounds);
+                let bounds = bounds.clone_in(alloc);
                 let (lifetime, bounds) = both(lifetime.clone_in(alloc), bounds)?;
                 Ok(WherePredicate::Lifetime(lifetime, bounds))
             }
             WherePredicate::Ty(lifetimes, ty, bounds) => {
-                let ty = ty.clone_in(alloc);
-                let bounds = bounds.clone_in(alloc);
-                let lifetimes = copy_maybe_lifetimes(alloc, lifetimes);
+                let ty = ty.replace_self(own, alloc);
+                let bounds = bounds.replace_self(own, alloc);
+                let lifetimes = lifetimes.clone_in(alloc);
                 let (lifetimes, (ty, bounds)) = both(lifetimes, both(ty, bounds))?;
                 Ok(WherePredicate::Ty(lifetimes, ty, bounds))
             }

@@ -1,8 +1,9 @@
 //! Copies of names, tokens and texts.
 
-ghost use Rattle.std.specs.Prelude.{◌≡◌, IfOk};
+ghost use Rattle.std.specs.Prelude.{◌≡◌, IfOk, refl};
 
 use crate::clone_in::CloneIn;
+use crate::self_type::SelfType;
 use dm_stream::{Ident, Lifetime, Literal, Text, Token, TokenStream};
 use std::alloc::{AllocError, Global};
 
@@ -13,7 +14,11 @@ impl<'a> CloneIn for Ident<'a> {
 
     ghost shape = { λ it. it };
 
-    fn clone_in(&self, alloc: Global) -> Result<Self, AllocError> {
+    ghost replaced = { λ own it. it };
+
+    ghost same = { λ it. refl };
+
+    fn replace_self(&self, _own: Option<&SelfType>, alloc: Global) -> Result<Self, AllocError> {
         Ident::clone_in(self, alloc)
     }
 }
@@ -25,7 +30,11 @@ impl<'a> CloneIn for Lifetime<'a> {
 
     ghost shape = { λ it. it };
 
-    fn clone_in(&self, alloc: Global) -> Result<Self, AllocError> {
+    ghost replaced = { λ own it. it };
+
+    ghost same = { λ it. refl };
+
+    fn replace_self(&self, _own: Option<&SelfType>, alloc: Global) -> Result<Self, AllocError> {
         Lifetime::clone_in(self, alloc)
     }
 }
@@ -37,7 +46,11 @@ impl<'a> CloneIn for Literal<'a> {
 
     ghost shape = { λ it. it };
 
-    fn clone_in(&self, alloc: Global) -> Result<Self, AllocError> {
+    ghost replaced = { λ own it. it };
+
+    ghost same = { λ it. refl };
+
+    fn replace_self(&self, _own: Option<&SelfType>, alloc: Global) -> Result<Self, AllocError> {
         Literal::clone_in(self, alloc)
     }
 }
@@ -49,7 +62,11 @@ impl<'a> CloneIn for Token<'a> {
 
     ghost shape = { λ it. it };
 
-    fn clone_in(&self, alloc: Global) -> Result<Self, AllocError> {
+    ghost replaced = { λ own it. it };
+
+    ghost same = { λ it. refl };
+
+    fn replace_self(&self, _own: Option<&SelfType>, alloc: Global) -> Result<Self, AllocError> {
         Token::clone_in(self, alloc)
     }
 }
@@ -61,7 +78,11 @@ impl<'a> CloneIn for Text<'a> {
 
     ghost shape = { λ it. it };
 
-    fn clone_in(&self, alloc: Global) -> Result<Self, AllocError> {
+    ghost replaced = { λ own it. it };
+
+    ghost same = { λ it. refl };
+
+    fn replace_self(&self, _own: Option<&SelfType>, alloc: Global) -> Result<Self, AllocError> {
         Text::clone_in(self, alloc)
     }
 }
@@ -73,7 +94,11 @@ impl<'a> CloneIn for TokenStream<'a> {
 
     ghost shape = { λ it. it };
 
-    fn clone_in(&self, alloc: Global) -> Result<Self, AllocError> {
+    ghost replaced = { λ own it. it };
+
+    ghost same = { λ it. refl };
+
+    fn replace_self(&self, _own: Option<&SelfType>, alloc: Global) -> Result<Self, AllocError> {
         TokenStream::clone_in(self, alloc)
     }
 }

@@ -1,12 +1,12 @@
 //! Copies of the parts that hold no types.
 #![tactic(auto, using(crate::proofs::Copies::plain_steps))]
 
-ghost use Rattle.std.specs.Prelude.{◌≡◌, IfOk};
+ghost use Rattle.std.specs.Prelude.{◌≡◌, IfOk, refl};
 
 use crate::clone_in::CloneIn;
 use crate::joined::both;
+use crate::self_type::SelfType;
 use dm_ast::{AttrArgs, Attribute, ConstArg, Opaque, PlainPath, Vis};
-use dm_stream::{Lifetime, Punctuated};
 use std::alloc::{AllocError, Global};
 
 impl<'a> CloneIn for Opaque<'a> {
@@ -16,7 +16,11 @@ impl<'a> CloneIn for Opaque<'a> {
 
     ghost shape = { λ it. it };
 
-    fn clone_in(&self, alloc: Global) -> Result<Self, AllocError> {
+    ghost replaced = { λ own it. it };
+
+    ghost same = { λ it. refl };
+
+    fn replace_self(&self, _own: Option<&SelfType>, alloc: Global) -> Result<Self, AllocError> {
         Ok(Opaque {
             tokens: self.tokens.clone_in(alloc)?,
         })
@@ -30,7 +34,11 @@ impl<'a> CloneIn for PlainPath<'a> {
 
     ghost shape = { λ it. it };
 
-    fn clone_in(&self, alloc: Global) -> Result<Self, AllocError> {
+    ghost replaced = { λ own it. it };
+
+    ghost same = { λ it. refl };
+
+    fn replace_self(&self, _own: Option<&SelfType>, alloc: Global) -> Result<Self, AllocError> {
         Ok(PlainPath {
             leading_colon: self.leading_colon,
             segments: self.segments.clone_in(alloc)?,
@@ -45,7 +53,11 @@ impl<'a> CloneIn for Vis<'a> {
 
     ghost shape = { λ it. it };
 
-    fn clone_in(&self, alloc: Global) -> Result<Self, AllocError> {
+    ghost replaced = { λ own it. it };
+
+    ghost same = { λ it. refl };
+
+    fn replace_self(&self, _own: Option<&SelfType>, alloc: Global) -> Result<Self, AllocError> {
         match self {
             Vis::Public => Ok(Vis::Public),
             Vis::Crate => Ok(Vis::Crate),
@@ -63,7 +75,11 @@ impl<'a> CloneIn for AttrArgs<'a> {
 
     ghost shape = { λ it. it };
 
-    fn clone_in(&self, alloc: Global) -> Result<Self, AllocError> {
+    ghost replaced = { λ own it. it };
+
+    ghost same = { λ it. refl };
+
+    fn replace_self(&self, _own: Option<&SelfType>, alloc: Global) -> Result<Self, AllocError> {
         match self {
             AttrArgs::Absent => Ok(AttrArgs::Absent),
             AttrArgs::List(delim, tokens) => Ok(AttrArgs::List(*delim, tokens.clone_in(alloc)?)),
@@ -79,7 +95,11 @@ impl<'a> CloneIn for Attribute<'a> {
 
     ghost shape = { λ it. it };
 
-    fn clone_in(&self, alloc: Global) -> Result<Self, AllocError> {
+    ghost replaced = { λ own it. it };
+
+    ghost same = { λ it. refl };
+
+    fn replace_self(&self, _own: Option<&SelfType>, alloc: Global) -> Result<Self, AllocError> {
         let (path, args) = both(self.path.clone_in(alloc), self.args.clone_in(alloc))?;
         Ok(Attribute {
             path,
@@ -96,7 +116,11 @@ impl<'a> CloneIn for ConstArg<'a> {
 
     ghost shape = { λ it. it };
 
-    fn clone_in(&self, alloc: Global) -> Result<Self, AllocError> {
+    ghost replaced = { λ own it. it };
+
+    ghost same = { λ it. refl };
+
+    fn replace_self(&self, _own: Option<&SelfType>, alloc: Global) -> Result<Self, AllocError> {
         match self {
             ConstArg::Literal(minus, literal) => {
                 Ok(ConstArg::Literal(*minus, literal.clone_in(alloc)?))
@@ -106,26 +130,4 @@ impl<'a> CloneIn for ConstArg<'a> {
             ConstArg::Name(name) => Ok(ConstArg::Name(name.clone_in(alloc)?)),
         }
     }
-}
-
-/// An equal list of lifetimes.
-#[tactic(auto, using(crate::proofs::Copies::listed_same))]
-pub fn copy_lifetimes<'a>(
-    alloc: Global,
-    all: &Punctuated<Lifetime<'a>>,
-) -> Result<Punctuated<Lifetime<'a>>, AllocError>
-    ensures { IfOk result (λ r. r ≡ all.now) }
-{
-    all.clone_in(alloc)
-}
-
-/// Equal lifetimes of a `for<..>`, where there is one.
-#[tactic(auto, using(crate::proofs::Copies::maybe_listed_same))]
-pub fn copy_maybe_lifetimes<'a>(
-    alloc: Global,
-    all: &Option<Punctuated<Lifetime<'a>>>,
-) -> Result<Option<Punctuated<Lifetime<'a>>>, AllocError>
-    ensures { IfOk result (λ r. r ≡ all.now) }
-{
-    all.clone_in(alloc)
 }

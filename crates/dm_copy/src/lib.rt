@@ -7,7 +7,10 @@ mod copy_leaf;
 mod copy_plain;
 mod copy_ty;
 pub mod joined;
-mod parts;
+mod nodes;
+mod self_type;
+mod types;
 
 pub use clone_in::CloneIn;
 pub use joined::{both, boxed, grown};
+pub use self_type::{SelfArgument, SelfType};

@@ -54,9 +54,9 @@ impl Leaving for Compared {
 }
 
 fn field_ref<'x, 'a, L: Leaving>(
-    alloc: Global,
-    leaving: &L,
     field: &'x Field<'a>,
+    leaving: &L,
+    alloc: Global,
 ) -> Result<FieldRef<'x, 'a>, Error>
     ensures { spec.IsWalked (L.refuses leaving.now field.now.attrs) (λ f. field_ref_view f ≡ marked.mark_field (L.leaves_out leaving.now) (field_view field.now)) result }
 {
@@ -65,15 +65,15 @@ fn field_ref<'x, 'a, L: Leaving>(
 }
 
 fn field_refs<'x, 'a, L: Leaving>(
-    alloc: Global,
-    leaving: &L,
     fields: &'x [Field<'a>],
+    leaving: &L,
+    alloc: Global,
 ) -> Result<Vec<FieldRef<'x, 'a>>, Error>
     ensures { spec.AreFieldsMarked (L.refuses leaving.now) (L.leaves_out leaving.now) (map field_view fields.now) result }
 {
     let mut out = Vec::with_capacity(alloc, fields.len())?;
     for field in fields {
-        match field_ref(alloc, leaving, field) {
+        match field_ref(field, leaving, alloc) {
             Ok(next) => add(&mut out, next)?,
             Err(error) => return Err(error),
         }
@@ -94,15 +94,15 @@ pub fn form_of(fields: &Fields<'_>) -> Form
 
 /// The fields, each marked whether it is left out, or the first refusal of one.
 pub fn marked_fields<'x, 'a, L: Leaving>(
-    alloc: Global,
-    leaving: &L,
     fields: &'x Fields<'a>,
+    leaving: &L,
+    alloc: Global,
 ) -> Result<Vec<FieldRef<'x, 'a>>, Error>
     ensures { spec.AreFieldsMarked (L.refuses leaving.now) (L.leaves_out leaving.now) (values.field_list (fields_view fields.now)) result }
 {
     match fields {
-        Fields::Named(all) => field_refs(alloc, leaving, all.items.as_slice()),
-        Fields::Unnamed(all) => field_refs(alloc, leaving, all.items.as_slice()),
+        Fields::Named(all) => field_refs(all.items.as_slice(), leaving, alloc),
+        Fields::Unnamed(all) => field_refs(all.items.as_slice(), leaving, alloc),
         Fields::Unit => Ok(Vec::new(alloc)),
     }
 }
@@ -120,7 +120,7 @@ fn case_ref<'x, 'a>(
     let fields = if left_out {
         Vec::new(alloc)
     } else {
-        marked_fields(alloc, &Compared, fields)?
+        marked_fields(fields, &Compared, alloc)?
     };
     Ok(CaseRef {
         ident,

@@ -114,7 +114,7 @@ fn kept_fields<'x, 'a>(
     ensures { IsWalked (plans.fields_refusal (operator_view operator.now) at (values.field_list (fields_view fields.now)))
         (λ x. map field_ref_view x.items ≡ map (mark_field (skipped_under operator.now.method.now)) (values.field_list (fields_view fields.now))) result }
 {
-    let found = marked_fields(alloc, operator, fields)?;
+    let found = marked_fields(fields, operator, alloc)?;
     if keeps_some(found.as_slice()) {
         return Ok(found);
     }
@@ -291,7 +291,7 @@ fn whole_case<'x, 'a>(
 ) -> Result<CaseRef<'x, 'a>, Error>
     ensures { IsWalked None (λ c. case_view c ≡ plans.opened keeps_all (record { attrs = []; ident = ident.now; fields = fields_view fields.now })) result }
 {
-    let found = marked_fields(alloc, &Whole, fields)?;
+    let found = marked_fields(fields, &Whole, alloc)?;
     Ok(CaseRef {
         ident,
         form: form_of(fields),

@@ -43,9 +43,9 @@ fn compared_count(alloc: Global, input: &DeriveInput<'_>) -> Result<usize, Error
 }
 
 fn operated_count(
-    alloc: Global,
-    operator: &Operator,
     input: &DeriveInput<'_>,
+    operator: &Operator,
+    alloc: Global,
 ) -> Result<usize, Error>
     ensures { IsWalked (operating.refusal (operator_view operator.now) (declaration_view input.now))
         (λ n. n ≡ length (item_of (operator_view operator.now) (declaration_view input.now)).predicates) result }
@@ -66,7 +66,7 @@ fn count(alloc: Global, derived: Trait, input: &DeriveInput<'_>) -> Result<usize
 {
     match derived {
         Trait::PartialEq => compared_count(alloc, input),
-        Trait::Operator(operator) => operated_count(alloc, &operator, input),
+        Trait::Operator(operator) => operated_count(input, &operator, alloc),
     }
 }
 

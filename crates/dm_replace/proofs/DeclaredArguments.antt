@@ -1,25 +1,27 @@
 -- The arguments of the declared type, as they are gathered.
-use Rattle.std.proofs.Common.{◌≡◌, ◌==◌, Bool, true, false, not, cond, List, [], ◌∷◌, ◌++◌, map, filter, length, refl, ap, ◌∙◌, append_assoc}
+use Rattle.std.proofs.Common.{◌≡◌, Bool, true, false, cond, List, [], ◌∷◌, ◌++◌, map, filter, refl, sym, ap, ap₂, ◌∙◌, append_assoc}
+use Rattle.std.proofs.lemmas.Grind.{common_steps}
 use Rattle.std.proofs.lemmas.List.{map-append}
-use Rattle.dm_ast.specs.Tree.{ArgumentsTree, absent, angle, ArgumentTree, arguments_of}
-use Rattle.dm_ast.specs.Declarations.{ParamTree}
-use Rattle.dm_ast.specs.Implementors.{is_lifetime, is_other, bare, argument, arguments}
-use Rattle.dm_replace.specs.Arguments.{arguments_where, arguments_for}
-use Rattle.dm_replace.proofs.Replacing.{replacing_steps}
-
--- the arguments of a list of parameters, by those of each
-abbrev pub bracketed : List ArgumentTree → ArgumentsTree
-bracketed [] = absent
-bracketed (g ∷ gs) = angle false (arguments_of (g ∷ gs)) false
+use Rattle.dm_stream.specs.declared.tokens.Ident.{Ident}
+use Rattle.dm_ast.specs.Tree.{ArgumentTree, segment}
+use Rattle.dm_ast.specs.Declarations.{ParamTree, Declaration}
+use Rattle.dm_ast.specs.Implementors.{is_lifetime, is_other, bare, argument, arguments, params_of}
+use Rattle.dm_copy.specs.Segments.{bracketed}
+use Rattle.dm_replace.specs.Arguments.{arguments_where}
+use Rattle.dm_replace.specs.Replaced.{declared_segment}
 
 pub arguments_by : (ps : List ParamTree) → arguments ps ≡ bracketed (map argument ps)
 arguments_by [] = refl
 arguments_by (p ∷ ps) = refl
 
-pub arguments_for_by : (ps : List ParamTree) → arguments_for ps ≡ bracketed (arguments_where is_lifetime ps ++ arguments_where is_other ps)
-arguments_for_by ps =
-    arguments_by (map bare (filter is_lifetime ps) ++ map bare (filter is_other ps)) ∙
-    ap bracketed (map-append argument (map bare (filter is_lifetime ps)) (map bare (filter is_other ps)))
+-- the segment of a declaration, by the arguments as they are gathered
+pub segment_made : (d : Declaration) (i : Ident) (gs : List ArgumentTree) → i ≡ d.ident →
+    gs ≡ arguments_where is_lifetime d.generics.params.items ++ arguments_where is_other d.generics.params.items →
+    segment i (bracketed gs) ≡ declared_segment d
+segment_made d i gs ident gathered =
+    let ps = d.generics.params.items in
+    ap₂ (λ x y. segment x (bracketed y)) ident (gathered ∙ sym (map-append argument (map bare (filter is_lifetime ps)) (map bare (filter is_other ps)))) ∙
+    ap (λ z. segment d.ident z) (sym (arguments_by (params_of d)))
 
 -- an argument that is added where a parameter passes the test stands before the rest
 pub argument_joined : (k : ParamTree → Bool) (front : List ArgumentTree) (p : ParamTree) (ps : List ParamTree) →
@@ -32,26 +34,4 @@ argument_joined k front p ps = by (k p)
     by true = simp append_assoc
     by false = simp append_assoc
 
--- some stand between `<` and `>`
-bracketed_some : (xs ys : List ArgumentTree) (y : ArgumentTree) →
-    bracketed (xs ++ y ∷ ys) ≡ angle false (arguments_of (xs ++ y ∷ ys)) false
-bracketed_some [] ys y = refl
-bracketed_some (x ∷ xs) ys y = refl
-
-some_bracketed : (p : ParamTree) (ps : List ParamTree) →
-    bracketed (arguments_where is_lifetime (p ∷ ps) ++ arguments_where is_other (p ∷ ps)) ≡
-    angle false (arguments_of (arguments_where is_lifetime (p ∷ ps) ++ arguments_where is_other (p ∷ ps))) false
-some_bracketed p ps = by (is_lifetime p)
-  where
-    by : (b : Bool) →
-        bracketed (map argument (map bare (cond b (p ∷ filter is_lifetime ps) (filter is_lifetime ps))) ++ map argument (map bare (cond (not b) (p ∷ filter is_other ps) (filter is_other ps)))) ≡
-        angle false (arguments_of (map argument (map bare (cond b (p ∷ filter is_lifetime ps) (filter is_lifetime ps))) ++ map argument (map bare (cond (not b) (p ∷ filter is_other ps) (filter is_other ps))))) false
-    by true = refl
-    by false = bracketed_some (arguments_where is_lifetime ps) (arguments_where is_other ps) (argument (bare p))
-
-pub some_arguments_for : (ps : List ParamTree) → (length ps == 0) ≡ false →
-    arguments_for ps ≡ angle false (arguments_of (arguments_where is_lifetime ps ++ arguments_where is_other ps)) false
-some_arguments_for [] some = absurd cc
-some_arguments_for (p ∷ ps) some = arguments_for_by (p ∷ ps) ∙ some_bracketed p ps
-
-pub ruleset declared_steps = (replacing_steps, argument_joined)
+pub ruleset declared_steps = (common_steps, argument_joined, segment_made)

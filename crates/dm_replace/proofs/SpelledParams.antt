@@ -10,7 +10,7 @@ use Rattle.dm_ast.specs.Keywords.{is_keyword, is_name}
 use Rattle.dm_ast.specs.Spelling.{Where, Marks, sees, items, items_left}
 use Rattle.dm_ast.specs.DeclarationGrammar.{param, generics, shape}
 use Rattle.dm_ast.specs.Runs.{run}
-use Rattle.dm_replace.specs.Replaced.{is_self}
+use Rattle.dm_copy.specs.Replaced.{is_self}
 use Rattle.dm_replace.specs.Laws.{is_self_param, SpelledTwiceIsOnce}
 use Rattle.dm_replace.proofs.Twice.{twice_is_once}
 

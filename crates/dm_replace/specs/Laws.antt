@@ -4,7 +4,8 @@ use Rattle.dm_stream.specs.Trees.{Trees}
 use Rattle.dm_ast.specs.Declarations.{ParamTree, lifetime_param, type_param, const_param, Declaration}
 use Rattle.dm_ast.specs.Spelling.{Marks}
 use Rattle.dm_ast.specs.Parsed.{SpelledBy}
-use Rattle.dm_replace.specs.Replaced.{is_self, replaced}
+use Rattle.dm_copy.specs.Replaced.{is_self}
+use Rattle.dm_replace.specs.Replaced.{replaced}
 
 -- a type or const parameter spelled `Self`
 abbrev pub is_self_param : ParamTree → Bool
