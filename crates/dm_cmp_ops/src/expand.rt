@@ -30,7 +30,7 @@ pub fn derived<'a>(
     requires of_text { IsOfText (declaration_view input.now) }
     ensures { IsOperatorAnswer (operator_view operator.now) (declaration_view input.now) result }
 {
-    let text = printed(alloc, input, operator)?;
+    let text = printed(input, operator, alloc)?;
     with_items(alloc, text)
 }
 
