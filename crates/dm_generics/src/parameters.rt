@@ -1,14 +1,15 @@
 //! Copies of some of the parameters of a declaration.
 #![tactic(auto, using(crate::proofs::ParameterSteps::parameter_steps))]
 
-ghost use Rattle.std.specs.Prelude.{◌≡◌, ◌∷◌, [], ◌++◌, map, filter, cond, IfOk, OnOk};
-ghost use Rattle.dm_ast.specs.Declarations.{param_view, generics_view};
+ghost use Rattle.std.specs.Prelude.{◌≡◌, ◌∷◌, [], ◌++◌, map, filter, cond, None, option_map, IfOk, OnOk};
+ghost use Rattle.dm_ast.specs.Tree.{bound_view, ty_view};
+ghost use Rattle.dm_ast.specs.Declarations.{param_view, generics_view, listed, lifetime_param, type_param, const_param};
 ghost use Rattle.dm_ast.specs.Implementors as implementors;
 ghost use Rattle.dm_generics.specs.Parameters as spec;
 ghost use Rattle.dm_generics.specs.Split.{impl_params as params_of_impl};
 
 use dm_ast::{ConstParam, GenericParam, Generics, LifetimeParam, TyParam};
-use dm_copy::CloneIn;
+use dm_copy::{CloneIn, both};
 use dm_stream::Seq;
 use std::alloc::{AllocError, Global};
 
@@ -62,41 +63,55 @@ fn is_chosen(param: &GenericParam<'_>, chosen: Chosen) -> bool
     }
 }
 
-/// The parameter without its attributes and its default.
-fn bare<'a>(alloc: Global, param: GenericParam<'a>) -> GenericParam<'a>
-    ensures { param_view result ≡ implementors.bare (param_view param.entry) }
+fn bare_lifetime<'a>(
+    param: &LifetimeParam<'a>,
+    alloc: Global,
+) -> Result<GenericParam<'a>, AllocError>
+    ensures { IfOk result (λ p. param_view p ≡ lifetime_param [] param.now.lifetime param.now.bounds) }
+{
+    let lifetime = param.lifetime.clone_in(alloc);
+    let (lifetime, bounds) = both(lifetime, param.bounds.clone_in(alloc))?;
+    Ok(GenericParam::Lifetime(LifetimeParam {
+        attrs: Seq::new(alloc),
+        lifetime,
+        bounds,
+    }))
+}
+
+fn bare_type<'a>(param: &TyParam<'a>, alloc: Global) -> Result<GenericParam<'a>, AllocError>
+    ensures { IfOk result (λ p. param_view p ≡ type_param [] param.now.ident (option_map (listed bound_view) param.now.bounds) None) }
+{
+    let ident = param.ident.clone_in(alloc);
+    let (ident, bounds) = both(ident, param.bounds.clone_in(alloc))?;
+    Ok(GenericParam::Ty(TyParam {
+        attrs: Seq::new(alloc),
+        ident,
+        bounds,
+        default_ty: None,
+    }))
+}
+
+fn bare_const<'a>(param: &ConstParam<'a>, alloc: Global) -> Result<GenericParam<'a>, AllocError>
+    ensures { IfOk result (λ p. param_view p ≡ const_param [] param.now.ident (ty_view param.now.ty) None) }
+{
+    let ident = param.ident.clone_in(alloc);
+    let (ident, ty) = both(ident, param.ty.clone_in(alloc))?;
+    Ok(GenericParam::Const(ConstParam {
+        attrs: Seq::new(alloc),
+        ident,
+        ty,
+        default_value: None,
+    }))
+}
+
+/// A copy of the parameter without its attributes and its default.
+fn bare<'a>(param: &GenericParam<'a>, alloc: Global) -> Result<GenericParam<'a>, AllocError>
+    ensures { IfOk result (λ p. param_view p ≡ implementors.bare (param_view param.now)) }
 {
     match param {
-        GenericParam::Lifetime(param) => {
-            let LifetimeParam {
-                lifetime,
-                bounds,
-                ..
-            } = param;
-            GenericParam::Lifetime(LifetimeParam {
-                attrs: Seq::new(alloc),
-                lifetime,
-                bounds,
-            })
-        }
-        GenericParam::Ty(param) => {
-            let TyParam { ident, bounds, .. } = param;
-            GenericParam::Ty(TyParam {
-                attrs: Seq::new(alloc),
-                ident,
-                bounds,
-                default_ty: None,
-            })
-        }
-        GenericParam::Const(param) => {
-            let ConstParam { ident, ty, .. } = param;
-            GenericParam::Const(ConstParam {
-                attrs: Seq::new(alloc),
-                ident,
-                ty,
-                default_value: None,
-            })
-        }
+        GenericParam::Lifetime(param) => bare_lifetime(param, alloc),
+        GenericParam::Ty(param) => bare_type(param, alloc),
+        GenericParam::Const(param) => bare_const(param, alloc),
     }
 }
 
@@ -109,8 +124,8 @@ fn add_bare<'a>(
     ensures { OnOk result (map param_view out.new ≡ map param_view out.old ++ cond wanted (implementors.bare (param_view param.now) ∷ []) []) }
 {
     if wanted {
-        let copy = param.clone_in(alloc)?;
-        return out.add(bare(alloc, copy));
+        let copy = bare(param, alloc)?;
+        return out.add(copy);
     }
     Ok(())
 }

@@ -34,7 +34,6 @@ pub struct FmtArg<'a> {
 
 /// An expression. `Or` and `And` hold two parts or more; `Tuple` holds none, or two or more.
 #[cycle(expr)]
-#[derive(Drop)]
 pub enum Expr<'a> {
     /// `return a`
     Return(Box<Expr<'a>>),
@@ -85,6 +84,40 @@ pub enum Expr<'a> {
     Write(Ident<'a>, FmtArgs<'a>),
     /// `derive_more::core::format_args!(format)`
     FormatArgs(FmtArgs<'a>),
+}
+
+impl Drop for Expr<'_> {
+    #[cycle(expr)]
+    fn drop(self) {
+        match self {
+            Self::Return(_) => {}
+            Self::Or(_) => {}
+            Self::And(_) => {}
+            Self::Equal(_, _) => {}
+            Self::Unequal(_, _) => {}
+            Self::RefOpaque(_) => {}
+            Self::Ref(_, _) => {}
+            Self::Deref(_) => {}
+            Self::Member(_, _) => {}
+            Self::MethodCall(_, _, _) => {}
+            Self::Map(_, _) => {}
+            Self::MapErr(_, _) => {}
+            Self::Question(_) => {}
+            Self::Path(_) => {}
+            Self::Call(_, _) => {}
+            Self::Build(_, _) => {}
+            Self::BuildNamed(_, _) => {}
+            Self::Paren(_) => {}
+            Self::Tuple(_) => {}
+            Self::OpaqueCall(_, _) => {}
+            Self::Str(_) => {}
+            Self::Bool(_) => {}
+            Self::Match(_, _) => {}
+            Self::Unsafe(_) => {}
+            Self::Write(_, _) => {}
+            Self::FormatArgs(_) => {}
+        }
+    }
 }
 
 /// A field with its value.

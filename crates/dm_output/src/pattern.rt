@@ -13,7 +13,6 @@ pub enum Binding {
 
 /// A pattern. The truth value of `Named` says whether `..` stands behind its fields.
 #[cycle(pattern)]
-#[derive(Drop)]
 pub enum Pattern<'a> {
     /// `_`
     Wild,
@@ -29,6 +28,21 @@ pub enum Pattern<'a> {
     Named(Path<'a>, Seq<NamedPattern<'a>>, bool),
     /// `(a, b)`
     Pair(Box<Pattern<'a>>, Box<Pattern<'a>>),
+}
+
+impl Drop for Pattern<'_> {
+    #[cycle(pattern)]
+    fn drop(self) {
+        match self {
+            Self::Wild => {}
+            Self::Bind(_, _) => {}
+            Self::Str(_) => {}
+            Self::Path(_) => {}
+            Self::Tuple(_, _) => {}
+            Self::Named(_, _, _) => {}
+            Self::Pair(_, _) => {}
+        }
+    }
 }
 
 /// A field of a pattern in braces.

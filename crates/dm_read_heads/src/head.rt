@@ -159,8 +159,7 @@ fn predicates<'a>(place: &mut Place<'_, 'a>) -> Result<Seq<WherePredicate<'a>>, 
 fn path_of<'a>(found: Ty<'a>) -> Option<Path<'a>>
     ensures { option_map path_view result ≡ plain.path_in (ty_view found.entry) }
 {
-    let Ty { node, span: _ } = found;
-    match node {
+    match found.into_node() {
         TyNode::Path(qself, path) => match qself {
             Some(_) => None,
             None => Some(path),

@@ -91,7 +91,7 @@ fn unranged<'a>(found: Ty<'a>) -> Ty<'a>
     ensures { ty_view result ≡ unranged_type (ty_view found.entry) }
 {
     Ty {
-        node: found.node,
+        node: found.into_node(),
         span: Span::nowhere(),
     }
 }
@@ -131,8 +131,7 @@ fn exact_path<'a>(place: &mut Place<'_, 'a>) -> Result<Ty<'a>, Error>
 fn qualified_of<'a>(found: Ty<'a>) -> Option<PathExpr<'a>>
     ensures { option_map path_expr_view result ≡ qualified_in (ty_view found.entry) }
 {
-    let Ty { node, span: _ } = found;
-    match node {
+    match found.into_node() {
         TyNode::Path(qself, path) => match qself {
             Some(own) => Some(PathExpr {
                 qself: Some(own),

@@ -38,7 +38,7 @@ fn segment_binding<'a>(
 ) -> Option<(Ident<'a>, Option<Punctuated<GenericArgument<'a>>>)>
     ensures { option_map binding_view result ≡ bindings.segment_binding (segment_view found.entry) }
 {
-    let PathSegment { ident, arguments } = found;
+    let (ident, arguments) = found.into_parts();
     match arguments {
         PathArguments::Absent => {
             if is_name(&ident) {

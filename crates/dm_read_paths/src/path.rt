@@ -103,8 +103,7 @@ pub fn path_of<'a>(leading_colon: bool, segments: Seq<PathSegment<'a>>) -> Path<
 pub fn path_alone<'a>(found: Ty<'a>) -> Option<Path<'a>>
     ensures { option_map path_view result ≡ bindings.path_alone (ty_view found.entry) }
 {
-    let Ty { node, span: _ } = found;
-    match node {
+    match found.into_node() {
         TyNode::Path(qself, path) => match qself {
             None => Some(path),
             Some(_) => None,

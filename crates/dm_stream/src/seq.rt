@@ -10,9 +10,15 @@ use std::marker::Model;
 use std::{slice, vec};
 
 /// A growing sequence that contracts see as the list of its items.
-#[derive(Debug, Drop)]
+#[derive(Debug)]
 pub struct Seq<T> {
     held: Vec<T>,
+}
+
+impl<T: Drop> Drop for Seq<T> {
+    fn drop(self) {
+        let Self { held: _ } = self;
+    }
 }
 
 impl<T> Model for Seq<T> {
@@ -110,7 +116,8 @@ impl<T> Seq<T> {
     pub fn into_iter(self) -> vec::IntoIter<T, Global>
         ensures { into_iter_items result ≡ self }
     {
-        self.held.into_iter()
+        let Self { held } = self;
+        held.into_iter()
     }
 }
 
