@@ -1,4 +1,7 @@
 //! The syntax tree of a declaration, and the definitions that speak of it: its plain data, its tokens, its grammar, its names.
+//!
+//! Trees drop themselves, so elsewhere none is taken apart by a pattern: parts are read by reference and copied, and `Ty::into_node` and
+//! `PathSegment::into_parts` give theirs away.
 #![tactic(auto)]
 
 mod decl;

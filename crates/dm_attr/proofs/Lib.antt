@@ -1,3 +1,4 @@
+pub mod Agreeing
 pub mod Folding
 pub mod Once
 pub mod OnceSteps

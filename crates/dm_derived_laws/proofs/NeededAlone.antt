@@ -15,7 +15,7 @@ use Rattle.dm_ast.specs.declared.plain.Attribute.{Attribute}
 use Rattle.dm_ast.specs.declared.plain.PlainPath.{PlainPath}
 use Rattle.dm_ast.specs.Tree.{Lifetimes, TypeTree, type_tree, paren, tuple, slice, array, reference, pointer, bare_fn, trait_object, impl_trait, infer, never, path, macro_type, no_self, some_self, MaybeType, InputTrees, fn_tree, PathTree, path_tree, no_segments, segment_then, segment}
 use Rattle.dm_ast.specs.Declarations.{PredicateTree, type_predicate, FieldTree, Declaration}
-use Rattle.dm_ast.specs.Spelling.{sees_colons, ident, colons, chain, Where, Marks, Spelling, deeper, first_too_deep, last_end, range_of, sees, sees_word, is_word, sees_literal, lifetime, literal, keyword, colon, GroupAt, flag, perhaps, ◌then◌, items, items_left}
+use Rattle.dm_ast.specs.Spelling.{sees_colons, ident, colons, chain, Where, Marks, Spelling, deeper, first_too_deep, last_end, range_of, sees, sees_word, is_word, sees_literal, lifetime, literal, keyword, GroupAt, flag, perhaps, ◌then◌, items, items_left}
 use Rattle.dm_ast.specs.TypeGrammar.{is_path_word, sees_macro, inputs, output, for_lifetimes, type_spelled, path_spelled}
 use Rattle.dm_ast.specs.DeclarationGrammar.{bound_list, predicate}
 use Rattle.dm_ast.specs.TypeTokens as spell
@@ -31,7 +31,7 @@ use Rattle.dm_operands.specs.Marked.{MarkedField, MarkedCase, mark_field, mark_c
 use Rattle.dm_bounds.specs.Needed.{only_trait, bounded, Wanted, wanted_of, Asking, added_by, added_in_by, needed_by}
 use Rattle.dm_head_laws.specs.Parts as parts
 use Rattle.dm_head_laws.specs.Parts.{PredicateAlone, TypeAlone, Each}
-use Rattle.dm_head_laws.proofs.HeadParts.{Stands, stands_as, stands_then, none_stands}
+use Rattle.dm_head_laws.proofs.HeadParts.{Stands, stands_as, stands_then, none_stands, colon_stands}
 use Rattle.dm_head_laws.proofs.DeclaredParts.{each_map, each_both, declared_cases}
 use Rattle.dm_derived_laws.proofs.BeforeColon.{Gone, colon_before, go_type}
 
@@ -121,19 +121,6 @@ trait_stands p h =
     (stands_then (stands_then (none_stands (sees 63) own b.0) (stands_then (none_stands (sees_word (codes "for")) own b.1) x))
     (none_stands (sees 43) no_trees refl))
 
-colon_stands : (more : Trees) → Stands (colon top) (colon_before more) more
-colon_stands more =
-    record {
-      marks = (0, nowhere) ∷ [];
-      spelled = record {
-        punct = record { ch = 58; spacing = Alone; span = nowhere };
-        is = refl;
-        lone = refl;
-        there = record { spelled = refl; marks = refl };
-      };
-      within = refl;
-    }
-
 -- a type's tokens, before that
 type_before : (x : TypeTree) → TypeAlone x → (more : Trees) → Stands (type_spelled x false top) (join (spell.type_trees x) (colon_before more)) (colon_before more)
 type_before x h more =
@@ -152,7 +139,7 @@ plain_alone p x a h e =
     let s = type_before (bare_type x) h more in
     let y : Stands (predicate (bare_predicate (type_predicate None x (only_trait p))) top) all no_trees =
     stands_then (none_stands (sees_word (codes "for")) all (type_begins (bare_type x) false top all (colon_before more) s.marks s.spelled e))
-    (stands_then s (stands_then (colon_stands more) (trait_stands p a))) in
+    (stands_then s (stands_then (colon_stands top more refl) (trait_stands p a))) in
     record { marks = y.marks; spelled = y.spelled; within = y.within }
 
 -- ---- a function type behind `for<..>`, which is the predicate's
@@ -331,7 +318,7 @@ function_alone p ls b abi is u out range a h =
       within = rest_within {A = for_lifetimes top ls'} {B = Behind b abi' is' u out' top} c s.within;
     } in
     let z : Stands (predicate (bare_predicate (bounded p (type_tree (bare_fn (fn_tree (Some ls) b abi is u out)) range))) top) (join front all) no_trees =
-    stands_then g (stands_then y (stands_then (colon_stands more) (trait_stands p a))) in
+    stands_then g (stands_then y (stands_then (colon_stands top more refl) (trait_stands p a))) in
     record { marks = z.marks; spelled = z.spelled; within = z.within }
 
 -- ---- any type

@@ -564,14 +564,6 @@ body_expr_fits ops.structural o s n l d called cs h few = binary_body_fits ops.s
 body_expr_fits ops.scalar o s n l d called cs h few = binary_body_fits ops.scalar o s n (omega (arith, l)) d cs h
 body_expr_fits ops.unary o s n l d called cs h few = unary_by o s d called (is_enum d) n l cs h (few refl)
 
--- where nothing stands right of self, the fields of a struct are numbered by integers, and so there must not be too many
-pub operator_body_fits : (n : ℕ) → 5 ≤ n → (form : ops.Form) (o : Operator) (d : Declaration) (cs : List MarkedCase) → NameFits d.ident →
-    NameFits (word o.method) → NameFits (word o.trait_name) → IsSpellable (t.Literal (quoted o.method)) →
-    (form ≡ ops.unary → is_enum d ≡ false → Each HasFewFields cs) → Each CaseSpellable cs →
-    BlockFits n (last_expr (some_expr (body_expr form o d cs)))
-operator_body_fits n l form o d cs called method trait string few h =
-    (tt, body_expr_fits form o (record { trait_name = trait; method = method; string = string }) n l d called cs h few)
-
 -- ---- the operators of the table
 
 -- all names are ASCII words

@@ -20,15 +20,11 @@ use Rattle.dm_operands.specs.Numbered.{self_name, other_name}
 use Rattle.dm_operands.specs.Bodies.{name, no_match, unreachable_call, otherwise}
 use Rattle.dm_operands.specs.Kept.{is_compared, some_compared, all_compared}
 use Rattle.dm_operands.specs.Sides.{pair_arm}
-use Rattle.dm_partial_eq.specs.Emitted.{test_of, join_of, neutral_of, test, tests, chain, compared_arms, arms, rest, both, matching, discriminant_call, discriminants, needs_discriminants, match_part, parts, body, methods}
+use Rattle.dm_partial_eq.specs.Emitted.{test_of, join_of, neutral_of, test, tests, chain, compared_arms, arms, rest, both, matching, discriminant_call, discriminants, needs_discriminants, match_part, parts, body}
 use Rattle.dm_head_laws.specs.Parts.{Each}
+use Rattle.dm_head_laws.proofs.DeclaredParts.{each_if}
 use Rattle.dm_emitted_laws.specs.Ready.{CaseReady}
 use Rattle.dm_emitted_laws.proofs.OperandPatterns.{self_names, other_names, side_is_pattern}
-
--- as in dm_head_laws/proofs/DeclaredParts
-each_if : {A : Type 0} (P : A → Type 0) (b : Bool) (x : A) (xs : List A) → P x → Each P xs → Each P (cond b (x ∷ xs) xs)
-each_if P true x xs h e = (h, e)
-each_if P false x xs h e = e
 
 -- an expression, without ranges, of the grammar
 abbrev IsValue : Bool → ExprTree → Type 0
@@ -200,9 +196,3 @@ each_method P false m n h k = (h, tt)
 
 abbrev pub HasBlock : MethodTree → Type 0
 HasBlock m = IsBlock leaf_grammar (bare_block m.body)
-
--- the body of `eq`, and that of `ne` where it is emitted
-pub comparison_bodies : (d : Declaration) (vs : List MarkedCase) → Each CaseReady vs → Each HasBlock (methods d vs)
-comparison_bodies d vs h =
-    each_method HasBlock (some_compared vs) _ _ (search (body_block, equal_parts, and_joins, h))
-    (search (body_block, unequal_parts, or_joins, h))

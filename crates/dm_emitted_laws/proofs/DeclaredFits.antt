@@ -1,6 +1,6 @@
 -- What is declared can be written, and is no deeper in groups than the declaration's own trees: its names, the types of its fields, its
 -- parameters and predicates, and the declared type with an argument for each parameter.
-use Rattle.std.proofs.Common.{◌≡◌, ℕ, suc, ◌+◌, Bool, true, false, cond, List, [], ◌∷◌, ◌++◌, map, filter, codes, not, Option, Some, None, refl, sym, subst, arith}
+use Rattle.std.proofs.Common.{◌≡◌, ℕ, suc, ◌+◌, Bool, true, false, cond, List, [], ◌∷◌, map, codes, not, Option, Some, None, refl, sym, subst, arith}
 use Rattle.std.proofs.lemmas.Bool.{and_parts}
 use Rattle.dm_stream.specs.declared.seq.Punctuated.{Punctuated}
 use Rattle.dm_stream.specs.declared.tokens.Span.{Span}
@@ -30,7 +30,7 @@ use Rattle.dm_ast.specs.TypeGrammar.{name, attributes, type_spelled, plain_path,
 use Rattle.dm_ast.specs.DeclarationGrammar as grammar
 use Rattle.dm_ast.specs.Runs.{run}
 use Rattle.dm_ast.specs.Parsed.{SpelledBy}
-use Rattle.dm_ast.specs.Implementors.{is_lifetime, is_other, bare, params_of, predicates_in, predicates_of, argument, arguments, implementor}
+use Rattle.dm_ast.specs.Implementors.{bare, params_of, predicates_in, predicates_of, argument, arguments}
 use Rattle.dm_output.specs.Values.{Case, case_of_variant, cases, cases_of_shape, field_list}
 use Rattle.dm_output.specs.Tokens.{param_trees, predicate_trees, maybe_lifetimes_trees, maybe_bounds_trees}
 use Rattle.dm_syntax.proofs.Walked.{IsWalked, is_plain, walk_token, walk_punct, walk_lone, walk_word, walk_plain, walk_attributes, walk_for, walk_constant, walk_last_item, walk_no_items}
@@ -44,7 +44,7 @@ use Rattle.dm_operands.specs.declared.cases.Form.TheVariants as forms
 use Rattle.dm_operands.specs.Marked.{mark_field, form_of, mark_case, marked}
 use Rattle.dm_operands.specs.Sides.{field_ident}
 use Rattle.dm_head_laws.specs.Parts.{Each}
-use Rattle.dm_head_laws.proofs.DeclaredParts.{each_map, each_both}
+use Rattle.dm_head_laws.proofs.DeclaredParts.{each_map, each_param}
 use Rattle.dm_derived_laws.proofs.NeededAlone.{EachField}
 use Rattle.dm_emitted_laws.specs.Spellable.{FieldSpellable, CaseSpellable}
 use Rattle.dm_emitted_laws.proofs.BodiesFit.{each_by, plain_fits}
@@ -507,24 +507,6 @@ module _ (n : ℕ) where
       yields_rest (yields_attributes w d.attrs) (yields_rest (yields_visibility w d.vis)
       (yields_shape d.attrs d.ident d.generics w d.shape))
 
--- ---- lists
-
--- as in dm_head_laws/proofs/DeclaredParts
-each_if : {A : Type 0} (P : A → Type 0) (b : Bool) (x : A) (xs : List A) → P x → Each P xs → Each P (cond b (x ∷ xs) xs)
-each_if P true x xs h e = (h, e)
-each_if P false x xs h e = e
-
-each_kept : {A : Type 0} (P : A → Type 0) (test : A → Bool) (xs : List A) → Each P xs → Each P (filter test xs)
-each_kept P test [] e = tt
-each_kept P test (x ∷ xs) e = each_if P (test x) x (filter test xs) e.0 (each_kept P test xs e.1)
-
-each_param : (Q : ParamTree → Type 0) (ps : List ParamTree) → Each (λ p. Q (bare p)) ps →
-    Each Q (map bare (filter is_lifetime ps) ++ map bare (filter is_other ps))
-each_param Q ps e =
-    each_both Q (map bare (filter is_lifetime ps)) (map bare (filter is_other ps))
-    (each_map Q bare (filter is_lifetime ps) (each_kept (λ p. Q (bare p)) is_lifetime ps e))
-    (each_map Q bare (filter is_other ps) (each_kept (λ p. Q (bare p)) is_other ps e))
-
 -- ---- the declared type
 
 module _ (n : ℕ) where
@@ -601,12 +583,6 @@ module _ (d : Declaration) (limit : ℕ) (ts : Trees) (m : Marks) (s : SpelledBy
   pub declared_name : NameFits d.ident
   declared_name = declared.ident
 
-  pub declared_case_names : Each (λ c. NameFits c.ident) (cases d)
-  declared_case_names = each_by (λ c h. h.0) (cases d) declared.each_case
-
-  pub declared_field_names : Each (λ c. Each (λ f. fitting.IfThere NameFits f.ident) (field_list c.fields)) (cases d)
-  declared_field_names = each_by (λ c h. names_fit k c.fields h.1) (cases d) declared.each_case
-
   pub declared_spellable : (leaves_out : List Attribute → Bool) → Each CaseSpellable (marked leaves_out d)
   declared_spellable leaves_out =
       each_map CaseSpellable (mark_case leaves_out) (cases d)
@@ -625,10 +601,3 @@ module _ (d : Declaration) (limit : ℕ) (ts : Trees) (m : Marks) (s : SpelledBy
 
   pub declared_predicates_fit : fitting.Each (Fits k) (map predicate_trees (predicates_of d))
   declared_predicates_fit = all_fit k predicate_trees (predicates_of d) declared.predicates
-
-  -- the declared type
-  pub implementor_fits : Fits k (type_trees (implementor d))
-  implementor_fits =
-      join_fits (none_fits k)
-      (join_fits (none_fits k)
-      (join_fits (join_fits (name_fits k d.ident declared.ident) (arguments_fit k (params_of d) bare_params_fit)) (none_fits k)))

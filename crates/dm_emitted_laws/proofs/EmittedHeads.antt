@@ -1,5 +1,5 @@
 -- The heads of the implementations that operators and `PartialEq` emit are of the grammar.
-use Rattle.std.proofs.Common.{◌≡◌, ℕ, zero, suc, Bool, true, false, not, ◌&&◌, ◌||◌, cond, nat_eq, List, [], ◌∷◌, ◌++◌, map, filter, codes, Option, Some, None, IsTrue, refl, sym, ap, ap₂, ◌∙◌, subst, append-nil, arith}
+use Rattle.std.proofs.Common.{◌≡◌, ℕ, zero, suc, Bool, true, false, not, ◌&&◌, ◌||◌, cond, nat_eq, List, [], ◌∷◌, ◌++◌, map, codes, Option, Some, None, IsTrue, refl, sym, ap, ap₂, ◌∙◌, subst, append-nil, arith}
 use Rattle.std.proofs.lemmas.Bool.{or_parts, or_from, not_from_false, not-true}
 use Rattle.dm_stream.specs.declared.tokens.Delim.TheVariants.{Paren, Bracket, Brace}
 use Rattle.dm_stream.specs.declared.tokens.Ident.{Ident}
@@ -21,8 +21,7 @@ use Rattle.dm_ast.specs.TypeGrammar.{name, is_path_word, sees_path_word, sees_tu
 use Rattle.dm_ast.specs.DeclarationGrammar.{bound_list, param, generics, shape, declaration}
 use Rattle.dm_ast.specs.Runs.{run}
 use Rattle.dm_ast.specs.Parsed.{SpelledBy}
-use Rattle.dm_ast.specs.Implementors as implementors
-use Rattle.dm_ast.specs.Implementors.{plain_path, is_other, bare, params_of, predicates_of}
+use Rattle.dm_ast.specs.Implementors.{plain_path, bare, params_of, predicates_of}
 use Rattle.dm_output.specs.Output.{MethodTree}
 use Rattle.dm_output.specs.Tokens.{maybe_bounds_trees, param_trees}
 use Rattle.dm_generics.specs.Words.{word, words, plain_segments}
@@ -49,8 +48,8 @@ use Rattle.dm_operands.specs.Marked.{marked}
 use Rattle.dm_bounds.specs.Needed.{needing, needed_by}
 use Rattle.dm_head_laws.specs.Parts as parts
 use Rattle.dm_head_laws.specs.Parts.{inner, ParamAlone, PredicateAlone, TypeAlone, Each}
-use Rattle.dm_head_laws.proofs.HeadParts.{Stands, stands_as, stands_then, none_stands, punct_stands, head_from_parts}
-use Rattle.dm_head_laws.proofs.DeclaredParts.{From, first_from, rest_from, given_from, each_item, each_map, each_both, spelled_alone, declared_params, plain_params, declared_predicates, implementor_alone}
+use Rattle.dm_head_laws.proofs.HeadParts.{Stands, stands_as, stands_then, none_stands, punct_stands, colon_stands, head_from_parts}
+use Rattle.dm_head_laws.proofs.DeclaredParts.{From, first_from, rest_from, given_from, each_item, each_both, each_param, spelled_alone, declared_params, plain_params, declared_predicates, implementor_alone}
 use Rattle.dm_derived_laws.proofs.BeforeColon.{Follows}
 use Rattle.dm_derived_laws.proofs.NeededAlone.{PathAlone, calls_for, bounded_alone, EachField, both_fields, needed_declared}
 use Rattle.dm_derived_laws.proofs.WordsAlone.{InnerAlone, ArgumentsAlone, words_alone, ending_alone}
@@ -601,20 +600,7 @@ bounds_stand : (b : BoundTree) (bs : List BoundTree) → Each BoundAlone (b ∷ 
     Stands (colon inner then bound_list inner (own_list b bs)) (maybe_bounds_trees (Some (own_list b bs))) no_trees
 bounds_stand b bs h =
     let own : Trees = join (own_bound b) (left_trees bs) in
-    stands_then (colon_stands (join own no_trees)) (stands_as (join-no_trees own) (stands_then (bound_stands b bs h.0) (left_stand bs h.1)))
-  where
-    colon_stands : (more : Trees) → Stands (colon inner) (join (spell.punct 58 nowhere) more) more
-    colon_stands more =
-        record {
-          marks = (1, nowhere) ∷ [];
-          spelled = record {
-            punct = record { ch = 58; spacing = Alone; span = nowhere };
-            is = refl;
-            lone = refl;
-            there = record { spelled = refl; marks = refl };
-          };
-          within = refl;
-        }
+    stands_then (colon_stands inner (join own no_trees) refl) (stands_as (join-no_trees own) (stands_then (bound_stands b bs h.0) (left_stand bs h.1)))
 
 -- a type parameter with such bounds
 type_param_alone : (i : Ident) → IsTrue (is_name i) → (b : BoundTree) (bs : List BoundTree) → Each BoundAlone (b ∷ bs) →
@@ -778,22 +764,7 @@ module _ {w : Where} (l : Lower inner w) where
       (op_output_alone o.trait_name n i k)
   bounded_param o n (const_param as' i t default) ts x h = h
 
--- ---- what holds of each declared parameter, as in dm_head_laws/proofs/DeclaredParts
-
-each_if : {A : Type 0} (P : A → Type 0) (b : Bool) (x : A) (xs : List A) → P x → Each P xs → Each P (cond b (x ∷ xs) xs)
-each_if P true x xs h e = (h, e)
-each_if P false x xs h e = e
-
-each_kept : {A : Type 0} (P : A → Type 0) (test : A → Bool) (xs : List A) → Each P xs → Each P (filter test xs)
-each_kept P test [] e = tt
-each_kept P test (x ∷ xs) e = each_if P (test x) x (filter test xs) e.0 (each_kept P test xs e.1)
-
-each_param : (Q : ParamTree → Type 0) (ps : List ParamTree) → Each (λ p. Q (bare p)) ps →
-    Each Q (map bare (filter implementors.is_lifetime ps) ++ map bare (filter is_other ps))
-each_param Q ps e =
-    each_both Q (map bare (filter implementors.is_lifetime ps)) (map bare (filter is_other ps))
-    (each_map Q bare (filter implementors.is_lifetime ps) (each_kept (λ p. Q (bare p)) implementors.is_lifetime ps e))
-    (each_map Q bare (filter is_other ps) (each_kept (λ p. Q (bare p)) is_other ps e))
+-- ---- what holds of each declared parameter
 
 each_declared : (P : ParamTree → Type 0) (w : Where) → ((p : ParamTree) (ts : Trees) → From (param p (deeper w)) ts → P p) →
     (angled : Bool) (ps : declared.Listed ParamTree) (ts : Trees) → From (generics angled ps w) ts → Each P ps.items

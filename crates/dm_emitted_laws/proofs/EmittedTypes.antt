@@ -14,7 +14,7 @@ use Rattle.dm_stream.specs.Trees.{Trees, no_trees, token, join, join-no_trees, j
 use Rattle.dm_ast.specs.Keywords.{is_name, is_keyword}
 use Rattle.dm_ast.specs.Tree.{TypeTree, type_tree, path, no_self, PathTree, path_tree, SegmentTrees, segments_of, segment, no_segments, segment_then, ArgumentsTree, absent, angle, ArgumentTree, lifetime_arg, type_arg, assoc_type, ArgumentTrees, no_arguments, argument_then, arguments_of, arguments_absent}
 use Rattle.dm_ast.specs.Declarations.{ParamTree, lifetime_param, type_param, const_param, Declaration}
-use Rattle.dm_ast.specs.Spelling.{Where, deeper, Marks, Spelling, deepest, first_too_deep, last_end, range_of, sees, sees_word, sees_lifetime, sees_colon, sees_equals, sees_colons, Nothing, ◌then◌, Before, punct, lifetime, colons, equals}
+use Rattle.dm_ast.specs.Spelling.{Where, deeper, Marks, Spelling, deepest, first_too_deep, sees, sees_word, sees_lifetime, sees_colon, sees_equals, sees_colons, Nothing, ◌then◌, Before, punct, lifetime, colons, equals}
 use Rattle.dm_ast.specs.TypeGrammar as grammar
 use Rattle.dm_ast.specs.TypeGrammar.{name, is_path_word, sees_macro, sees_arguments, type_spelled, path_spelled, arguments_of_segment, argument, arguments_left}
 use Rattle.dm_ast.specs.TypeTokens as spell
@@ -36,7 +36,7 @@ use Rattle.dm_reread.proofs.TypeLeafTypes.{ext_type}
 use Rattle.dm_head_laws.specs.Parts as parts
 use Rattle.dm_head_laws.specs.Parts.{inner, ParamAlone, TypeAlone, Each}
 use Rattle.dm_head_laws.proofs.HeadParts.{Stands}
-use Rattle.dm_head_laws.proofs.DeclaredParts.{declared_params, implementor_alone}
+use Rattle.dm_head_laws.proofs.DeclaredParts.{Flat, flat_both, flat_within, flat_range, declared_params, implementor_alone}
 use Rattle.dm_operators.specs.Operators.{Form, structural, scalar, unary, Operator}
 use Rattle.dm_operators.specs.Attributes.{form_in}
 use Rattle.dm_operators.specs.Meaning.{has_unit}
@@ -44,32 +44,7 @@ use Rattle.dm_bounds.specs.RightSide.{right_type}
 use Rattle.dm_operators.specs.Heads.{result_of, binary_output, unary_output, output_type, assocs, own_output, returned, method_param, method_output}
 use Rattle.dm_partial_eq.specs.Emitted.{method_with}
 
--- ---- marks at no place of a text, as in dm_head_laws/proofs/DeclaredParts
-
--- levels that are not too deep, each at the range 0..0
-abbrev pub Flat : Marks → Type 0
-Flat [] = Unit {0}
-Flat (k ∷ ks) = (nat_lt deepest k.0 ≡ false) × (k.1 ≡ nowhere) × Flat ks
-
-flat_both : (m k : Marks) → Flat m → Flat k → Flat (m ++ k)
-flat_both [] k f g = g
-flat_both (x ∷ m) k f g = (f.0, f.1, flat_both m k f.2 g)
-
-flat_within : (m : Marks) → Flat m → first_too_deep m ≡ None
-flat_within [] f = refl
-flat_within (x ∷ m) f = ap (λ b. cond b (Some x.1) (first_too_deep m)) f.0 ∙ flat_within m f.2
-
-flat_last : (m : Marks) → Flat m → last_end 0 m ≡ 0
-flat_last [] f = refl
-flat_last (x ∷ m) f = ap (λ s. last_end s.«end» m) f.1 ∙ flat_last m f.2
-
-flat_range : (m : Marks) → Flat m → nowhere ≡ range_of m
-flat_range [] f = refl
-flat_range (x ∷ m) f =
-    ap (λ n. record { start = 0; «end» = n }) (sym (flat_last m f.2)) ∙
-    ap (λ s. record { start = s.start; «end» = last_end s.«end» m }) (sym f.1)
-
--- ---- written before others, at such marks
+-- ---- written before others, at marks that stand at no place of a text
 
 pub record Written (S : Spelling) (ts others : Trees) : Type 0 where
   pub marks : Marks

@@ -5,22 +5,18 @@ use Rattle.std.proofs.lemmas.Bool.Decides.{nat_tests}
 use Rattle.dm_stream.specs.declared.tokens.Span.{Span}
 use Rattle.dm_stream.specs.Trees.{Trees, no_trees, join-no_trees}
 use Rattle.dm_ast.specs.Tree.{TypeTree, type_tree, path, no_self, PathTree}
-use Rattle.dm_ast.specs.Declarations.{ParamTree, PredicateTree, Declaration}
-use Rattle.dm_ast.specs.Implementors.{params_of, predicates_of, implementor}
-use Rattle.dm_ast.specs.Spelling.{Where, Marks, Spelling, deepest, first_too_deep, range_of, sees}
+use Rattle.dm_ast.specs.Declarations.{ParamTree, PredicateTree}
+use Rattle.dm_ast.specs.Spelling.{Where, Marks, deepest, first_too_deep, range_of, sees}
 use Rattle.dm_ast.specs.TypeGrammar.{sees_macro, type_spelled, path_spelled}
 use Rattle.dm_ast.specs.DeclarationGrammar.{param, generics, predicate, ends_where, where_clause}
-use Rattle.dm_ast.specs.Parsed.{SpelledBy}
 use Rattle.dm_output.specs.Output.{ItemTree}
-use Rattle.dm_output.specs.Values.{cases, field_list}
 use Rattle.dm_output.specs.declared.item.ItemAttr.{ItemAttr}
 use Rattle.dm_output.specs.declared.item.ItemAttr.TheVariants as attr
 use Rattle.dm_type_levels.specs.TypeLevels.{type_levels, path_levels, param_levels, predicate_levels}
 use Rattle.dm_type_levels.proofs.Marked.{levels_are_marks, param_levels_are_marks, predicate_levels_are_marks}
 use Rattle.dm_levels.specs.Low.{AllLow}
 use Rattle.dm_levels.specs.Levels.{in_turn, allowing, attr_inside, attr_levels, params_levels, where_levels, trait_levels, head_levels}
-use Rattle.dm_reread.specs.BareTypes.{bare_type}
-use Rattle.dm_reread.specs.Bare.{bare_param, bare_predicate, bare_item}
+use Rattle.dm_reread.specs.Bare.{bare_item}
 use Rattle.dm_reread.specs.TypeLeaves.{top}
 use Rattle.dm_reread.specs.Items.{HeadTree, head_of, between_trees}
 use Rattle.dm_reread.specs.HeadLeaves.{is_some_params, listed, clause_of, trait_spelled, head_spelled, IsHead}
@@ -28,13 +24,8 @@ use Rattle.dm_reread.proofs.TypeLeafEnds.{stop_end}
 use Rattle.dm_reread.proofs.HeadLeaf.{first_within}
 use Rattle.dm_reread.proofs.TypeLeafCalls.{Calm, calm_word, uncalled_path}
 use Rattle.dm_head_laws.specs.Parts as parts
-use Rattle.dm_head_laws.specs.Parts.{inner, ParamAlone, PredicateAlone, TypeAlone, Each}
-use Rattle.dm_head_laws.proofs.DeclaredParts.{From, first_from, rest_from, given_from, each_item, each_map, declared_params, declared_predicates, declared_cases, implementor_alone}
-use Rattle.dm_derived_laws.proofs.NeededAlone.{EachField}
-use Rattle.dm_derived_laws.proofs.WordsAlone.{InnerAlone}
-use Rattle.dm_derived_laws.proofs.DeclaredInner.{declared_inner}
-use Rattle.dm_emitted_laws.proofs.NamesDeclared.{each_as}
-use Rattle.dm_level_laws.proofs.BareTypeLevels.{type_same, param_same, predicate_same}
+use Rattle.dm_head_laws.specs.Parts.{inner, Each}
+use Rattle.dm_head_laws.proofs.DeclaredParts.{From, first_from, rest_from, given_from, each_item, each_map}
 use Rattle.dm_level_laws.proofs.BareLevels.{head_same}
 use Rattle.dm_emitted_laws.proofs.LowBodies.{Low, low_none, low_next, low_one, low_two, low_both, low_grouped, low_spaced, low_in_turn}
 
@@ -171,52 +162,3 @@ head_low i h =
     let low : Low (head_levels 0 (bare_item i)) =
     low_both (attrs_low 0 (omega arith) i.attrs) (low_next 0 at_top (between_low (head_of (bare_item i)) h)) in
     subst Low (head_same 0 i) low
-
--- ---- what is spelled alone, without its ranges
-
-from_alone : {S : Where → Spelling} {w : Where} {own : Trees} → parts.Alone S w own → From (S w) own
-from_alone a = record { others = no_trees; marks = a.marks; spelled = a.spelled; within = a.within }
-
-pub type_alone_low : (x : TypeTree) → TypeAlone (bare_type x) → AllLow (type_levels 0 x)
-type_alone_low x a = subst AllLow (type_same 0 x) (type_low (bare_type x) false top _ (from_alone a)).all
-
-pub type_inner_low : (x : TypeTree) → InnerAlone (bare_type x) → AllLow (type_levels 1 x)
-type_inner_low x a = subst AllLow (type_same 1 x) (type_low (bare_type x) false inner _ (from_alone a)).all
-
-pub param_alone_low : (p : ParamTree) → ParamAlone (bare_param p) → AllLow (param_levels 1 p)
-param_alone_low p a = subst AllLow (param_same 1 p) (param_low (bare_param p) inner _ (from_alone a)).all
-
-pub predicate_alone_low : (p : PredicateTree) → PredicateAlone (bare_predicate p) → AllLow (predicate_levels 0 p)
-predicate_alone_low p a = subst AllLow (predicate_same 0 p) (predicate_low (bare_predicate p) top _ (from_alone a)).all
-
--- what follows from a truth of each image holds of each
-each_back : {A B : Type 0} (P : B → Type 0) (Q : A → Type 0) (f : A → B) → ((x : A) → P (f x) → Q x) → (xs : List A) → Each P (map f xs) →
-    Each Q xs
-each_back P Q f g [] h = tt
-each_back P Q f g (x ∷ xs) h = (g x h.0, each_back P Q f g xs h.1)
-
--- ---- the parts of a declaration, as they stand in heads
-
-module _ (d : Declaration) (limit : ℕ) (ts : Trees) (m : Marks) (s : SpelledBy d limit ts m) (within : first_too_deep m ≡ None) where
-  pub declared_params_low : Each (λ p. AllLow (param_levels 1 p)) (params_of d)
-  declared_params_low =
-      each_back ParamAlone (λ p. AllLow (param_levels 1 p)) bare_param param_alone_low (params_of d)
-      (declared_params d limit ts m s within)
-
-  pub declared_predicates_low : Each (λ p. AllLow (predicate_levels 0 p)) (predicates_of d)
-  declared_predicates_low =
-      each_back PredicateAlone (λ p. AllLow (predicate_levels 0 p)) bare_predicate predicate_alone_low (predicates_of d)
-      (declared_predicates d limit ts m s within)
-
-  pub implementor_low : AllLow (type_levels 0 (implementor d))
-  implementor_low = type_alone_low (implementor d) (implementor_alone d limit ts m s within)
-
-  -- in front of a predicate's colon
-  pub declared_types_low : EachField (λ x. AllLow (type_levels 0 x)) d
-  declared_types_low =
-      each_as (λ c h. each_as (λ f k. type_alone_low f.ty k.1) (field_list c.fields) h) (cases d) (declared_cases d limit ts m s within)
-
-  -- between `<` and `>`
-  pub declared_inner_low : EachField (λ x. AllLow (type_levels 1 x)) d
-  declared_inner_low =
-      each_as (λ c h. each_as (λ f k. type_inner_low f.ty k) (field_list c.fields) h) (cases d) (declared_inner d limit ts m s within)

@@ -12,7 +12,7 @@ use Rattle.dm_ast.specs.Runs.{run}
 use Rattle.dm_ast.specs.Parsed.{SpelledBy}
 use Rattle.dm_output.specs.Values.{Case, case_of_variant, cases, cases_of_shape, field_list}
 use Rattle.dm_operands.specs.declared.cases.Form.TheVariants as forms
-use Rattle.dm_operands.specs.Marked.{MarkedCase, form_of, mark_field, mark_case, marked}
+use Rattle.dm_operands.specs.Marked.{form_of, mark_field, mark_case, marked}
 use Rattle.dm_operands.specs.Sides.{field_ident}
 use Rattle.dm_reread.specs.Grammar.{IsName}
 use Rattle.dm_head_laws.specs.Parts.{Each}
@@ -121,11 +121,6 @@ names_declared d limit ts m s within =
 
 -- ---- those of cases with their marks
 
--- a marked case and its fields
-pub record MarkedNamed (c : MarkedCase) : Type 0 where
-  pub ident : IsName c.ident
-  pub fields : Each (λ f. IfNamed f.field.ident) c.fields
-
 module _ (leaves_out : List Attribute → Bool) where
   -- what holds of each field holds of each that is marked
   fields_marked : (P : FieldTree → Type 0) (b : Bool) (fs : List FieldTree) → Each P fs →
@@ -133,23 +128,12 @@ module _ (leaves_out : List Attribute → Bool) where
   fields_marked P true fs h = tt
   fields_marked P false fs h = each_map (λ f. P f.field) (mark_field leaves_out) fs h
 
-  marked_named : (c : Case) → CaseNamed c → MarkedNamed (mark_case leaves_out c)
-  marked_named c h = record { ident = h.ident; fields = fields_marked FieldNamed (leaves_out c.attrs) (field_list c.fields) h.fields }
-
   -- what follows from a name holds in braces
   braces_marked : (Q : Option Ident → Type 0) → ((found : Option Ident) → HasName found → Q found) → (b : Bool) (fs : FieldsTree) →
       FieldsSpelled fs → form_of fs ≡ forms.Named → Each (λ f. Q f.field.ident) (cond b [] (map (mark_field leaves_out) (field_list fs)))
   braces_marked Q follows b (named fs) h e = fields_marked (λ f. Q f.ident) b fs.items (each_as (λ f k. follows f.ident k) fs.items h)
   braces_marked Q follows b (unnamed fs) h e = absurd (cc)
   braces_marked Q follows b unit h e = absurd (cc)
-
-pub names_marked : (d : Declaration) (leaves_out : List Attribute → Bool) → IsNamed d → Each MarkedNamed (marked leaves_out d)
-names_marked d leaves_out h =
-    each_map MarkedNamed (mark_case leaves_out) (cases d) (each_as (marked_named leaves_out) (cases d) h.each_case)
-
--- in braces each field has a name
-abbrev pub BracesNamed : MarkedCase → Type 0
-BracesNamed c = c.form ≡ forms.Named → Each (λ f. (i : Ident) × (f.field.ident ≡ Some i)) c.fields
 
 some_name : (found : Option Ident) → HasName found → (i : Ident) × (found ≡ Some i)
 some_name None h = absurd h
@@ -160,13 +144,6 @@ ready_name None h = absurd h
 ready_name (Some i) h = h
 
 module _ (d : Declaration) (limit : ℕ) (ts : Trees) (m : Marks) (s : SpelledBy d limit ts m) (within : first_too_deep m ≡ None) where
-  pub braces_named : (leaves_out : List Attribute → Bool) → Each BracesNamed (marked leaves_out d)
-  braces_named leaves_out =
-      each_map BracesNamed (mark_case leaves_out) (cases d)
-      (each_as (λ c h.
-      braces_marked leaves_out (λ o. (i : Ident) × (o ≡ Some i)) some_name (leaves_out c.attrs) c.fields h.fields)
-      (cases d) (spelled d limit ts m s within).1)
-
   pub cases_ready : (leaves_out : List Attribute → Bool) → Each CaseReady (marked leaves_out d)
   cases_ready leaves_out =
       each_map CaseReady (mark_case leaves_out) (cases d)

@@ -18,7 +18,7 @@ use Rattle.dm_operands.specs.declared.cases.Form.{Form}
 use Rattle.dm_operands.specs.declared.cases.Form.TheVariants as forms
 use Rattle.dm_operands.specs.Marked.{MarkedField, MarkedCase}
 use Rattle.dm_operands.specs.Sides.{binding, bindings, field_ident, named_bindings, side_pattern, side}
-use Rattle.dm_operands.specs.Numbered.{self_name, other_name, right_name, inner_name}
+use Rattle.dm_operands.specs.Numbered.{self_name, other_name}
 use Rattle.dm_head_laws.specs.Parts.{Each}
 use Rattle.dm_emitted_laws.specs.Ready.{CaseReady}
 
@@ -38,12 +38,6 @@ self_names n = underscored_name (codes "self_" ++ numeral n)
 
 pub other_names : AreNames other_name
 other_names n = underscored_name (codes "other_" ++ numeral n)
-
-pub right_names : AreNames right_name
-right_names n = underscored_name (codes "rhs_" ++ numeral n)
-
-pub inner_names : AreNames inner_name
-inner_names n = underscored_name (numeral n)
 
 -- ---- paths of words
 

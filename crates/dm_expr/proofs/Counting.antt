@@ -34,14 +34,6 @@ closed-step opener closer (suc d) count next (token k us) rest h e =
 closed-step opener closer (suc d) count next (group x from inside upto us) rest h e =
     closed_same opener closer count (suc d, us) (next, rest) (cc)
 
--- no tree is left of a pair
-pub closed-none : (opener closer depth count : ℕ) (ts : Trees) → 0 < depth → after_tree opener closer depth ts ≡ None →
-    after count (closed_at opener closer depth ts) ≡ None
-closed-none opener closer zero count ts h e = absurd (omega arith)
-closed-none opener closer (suc d) count no_trees h e = refl
-closed-none opener closer (suc d) count (token k us) h e = absurd (cc)
-closed-none opener closer (suc d) count (group x from inside upto us) h e = absurd (cc)
-
 size_same : (p q : ℕ × Trees) → p ≡ q → size p.1 + 1 ≡ size q.1 + 1
 size_same p q e = ap (λ (r : ℕ × Trees). size r.1 + 1) e
 

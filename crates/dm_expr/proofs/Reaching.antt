@@ -4,7 +4,6 @@ use Rattle.std.proofs.Common.{ap, ◌∙◌, sym, arith}
 use Rattle.std.specs.Bool.{OnFalse}
 use Rattle.std.proofs.lemmas.Bool.{ltb-false}
 use Rattle.dm_stream.specs.Trees.{Trees, no_trees, token, group}
-use Rattle.dm_stream.specs.Cursors.{first_tree}
 use Rattle.dm_stream.specs.Sizes.{size}
 use Rattle.dm_expr.specs.Cuts.{Front, after, and_then, one_if, is_char, path_sep_at, closed_at, pair_at, sep_args_at, args_sep_at}
 use Rattle.dm_expr.specs.Reach.{is_there, closes, one_further, reach, further}
@@ -141,28 +140,6 @@ no_args_sep (group d from i upto rest) h = refl
 
 same : (p q : Trees × Trees) → p ≡ q → p ≡ q
 same p q e = e
-
-step-by : (b : Bool) (n last passed : ℕ) → further last passed (one_further b n) ≡ further (if b then passed + 1 else last) (passed + 1) n
-step-by true (suc n) last passed = omega arith
-step-by false (suc n) last passed = omega arith
-step-by true zero last passed = refl
-step-by false zero last passed = refl
-
-group-closes : (sep : Bool) (d : _) (from : _) (i : Trees) (upto : _) (us : Trees) → closes sep (group d from i upto us) ≡ false
-group-closes true d from i upto us = refl
-group-closes false d from i upto us = refl
-
--- one tree more is passed
-pub further_step : (sep : Bool) (ts first rest : Trees) (last passed : ℕ) → first_tree ts ≡ Some (first, rest) →
-    further last passed (reach sep ts) ≡ further (if closes sep ts then passed + 1 else last) (passed + 1) (reach sep rest)
-further_step sep no_trees first rest last passed e = absurd (cc)
-further_step sep (token k us) first rest last passed e =
-    step-by (closes sep (token k us)) (reach sep us) last passed ∙
-    ap (λ (p : Trees × Trees). further (if closes sep (token k us) then passed + 1 else last) (passed + 1) (reach sep p.1)) (same (token k no_trees, us) (first, rest) (cc))
-further_step sep (group d from i upto us) first rest last passed e =
-    step-by false (reach sep us) last passed ∙
-    ap (λ (p : Trees × Trees). further last (passed + 1) (reach sep p.1)) (same (group d from i upto no_trees, us) (first, rest) (cc)) ∙
-    ap (λ b. further (if b then passed + 1 else last) (passed + 1) (reach sep rest)) (sym (group-closes sep d from i upto us))
 
 -- behind a unit a list reaches no further
 pub passes : (sep : Bool) (ts rest : Trees) (n count last : ℕ) → IsBehind n ts rest → reach sep ts ≤ last - count →

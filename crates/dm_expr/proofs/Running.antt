@@ -44,12 +44,6 @@ behind-more m n ts mid rest a b = record {
   rest_is = skip-more m n ts a.fits ∙ ap (skip n) a.rest_is ∙ b.rest_is;
 }
 
-pub behind-token : (n : ℕ) (k : _) (us rest : Trees) → IsBehind n us rest → IsBehind (1 + n) (token k us) rest
-behind-token n k us rest b = behind-more 1 n (token k us) us rest record { fits = omega arith; rest_is = refl } b
-
-pub behind-group : (n : ℕ) (d : _) (from : _) (i : Trees) (upto : _) (us rest : Trees) → IsBehind n us rest → IsBehind (1 + n) (group d from i upto us) rest
-behind-group n d from i upto us rest b = behind-more 1 n (group d from i upto us) us rest record { fits = omega arith; rest_is = refl } b
-
 -- what an answer says of the list
 abbrev pub Behind : Trees → Front → Type 0
 Behind ts None = Unit {0}

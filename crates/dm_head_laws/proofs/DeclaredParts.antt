@@ -129,11 +129,11 @@ pub each_both : {A : Type 0} (P : A → Type 0) (xs ys : List A) → Each P xs �
 each_both P [] ys d e = e
 each_both P (x ∷ xs) ys d e = (d.0, each_both P xs ys d.1 e)
 
-each_if : {A : Type 0} (P : A → Type 0) (b : Bool) (x : A) (xs : List A) → P x → Each P xs → Each P (cond b (x ∷ xs) xs)
+pub each_if : {A : Type 0} (P : A → Type 0) (b : Bool) (x : A) (xs : List A) → P x → Each P xs → Each P (cond b (x ∷ xs) xs)
 each_if P true x xs h e = (h, e)
 each_if P false x xs h e = e
 
-each_kept : {A : Type 0} (P : A → Type 0) (test : A → Bool) (xs : List A) → Each P xs → Each P (filter test xs)
+pub each_kept : {A : Type 0} (P : A → Type 0) (test : A → Bool) (xs : List A) → Each P xs → Each P (filter test xs)
 each_kept P test [] e = tt
 each_kept P test (x ∷ xs) e = each_if P (test x) x (filter test xs) e.0 (each_kept P test xs e.1)
 
@@ -266,7 +266,7 @@ param_alone (const_param as' i x d) w l ts s =
     (less_from k (less_from n (less_from c (first_from (rest_from c))))) refl
 
 -- what holds of the parameters, lifetimes first
-each_param : (Q : ParamTree → Type 0) (ps : List ParamTree) → Each (λ p. Q (bare p)) ps →
+pub each_param : (Q : ParamTree → Type 0) (ps : List ParamTree) → Each (λ p. Q (bare p)) ps →
     Each Q (map bare (filter is_lifetime ps) ++ map bare (filter is_other ps))
 each_param Q ps e =
     each_both Q (map bare (filter is_lifetime ps)) (map bare (filter is_other ps))
@@ -327,7 +327,56 @@ module _ (i : Ident) (g : GenericsTree) (w : Where) where
   clause_stands (enum_shape r vs) ts s = stand (first_from (rest_from (rest_from (rest_from s))))
   clause_stands (union_shape r fs) ts s = stand (first_from (rest_from (rest_from (rest_from s))))
 
--- ---- fields
+-- ---- fields: what holds of each type that is spelled inside a group holds of the type of each
+
+module _ (Holds : TypeTree → Type 0)
+    (holds : (x : TypeTree) (w : Where) (n : ℕ) (ts : Trees) → From (type_spelled x false (inside_of w n)) ts → Holds x) where
+  abbrev OfField : FieldTree → Type 0
+  OfField f = Holds f.ty
+
+  abbrev InCase : Case → Type 0
+  InCase c = Each OfField (field_list c.fields)
+
+  braced_hold : (fs : Listed FieldTree) (w : Where) (ts : Trees) → From (braced fs w) ts → Each OfField fs.items
+  braced_hold fs w ts x =
+      let n : ℕ = x.spelled.closer.start in
+      each_item (λ f. named_field f (inside_of w n)) OfField
+      (λ f us s. holds f.ty w n _ (rest_from (rest_from (rest_from (ranged_from s))))) (inside_of w n) 44 at_end fs.items fs.trailing _
+      (group_from x)
+
+  slots_hold : (fs : Listed FieldTree) (w : Where) (ts : Trees) → From (slots fs w) ts → Each OfField fs.items
+  slots_hold fs w ts x =
+      let n : ℕ = x.spelled.closer.start in
+      each_item (λ f. slot f (inside_of w n)) OfField
+      (λ f us s. holds f.ty w n _ (rest_from (rest_from (ranged_from (given_from s))))) (inside_of w n) 44 at_end fs.items fs.trailing _
+      (group_from x)
+
+  fields_hold : (fs : FieldsTree) (w : Where) (ts : Trees) → From (variant_fields fs w) ts → Each OfField (field_list fs)
+  fields_hold (named fs) w ts x = braced_hold fs w ts x
+  fields_hold (unnamed fs) w ts x = slots_hold fs w ts x
+  fields_hold unit w ts x = tt
+
+  variants_hold : (vs : Listed VariantTree) (w : Where) (ts : Trees) → From (variants run vs w) ts →
+      Each InCase (map case_of_variant vs.items)
+  variants_hold vs w ts x =
+      let v = inside_of w x.spelled.closer.start in
+      each_map InCase case_of_variant vs.items
+      (each_item (λ y. variant run y v) (λ y. InCase (case_of_variant y))
+      (λ y us s. fields_hold y.fields v _ (first_from (rest_from (rest_from (rest_from (ranged_from s)))))) v 44 at_end vs.items vs.trailing _
+      (group_from x))
+
+  struct_hold : (fs : FieldsTree) (c : Option (Listed PredicateTree)) (w : Where) (ts : Trees) → From (struct_body fs c w) ts →
+      Each OfField (field_list fs)
+  struct_hold (named fs) c w ts x = braced_hold fs w _ (rest_from x)
+  struct_hold (unnamed fs) c w ts x = slots_hold fs w _ (first_from x)
+  struct_hold unit c w ts x = tt
+
+  pub cases_hold : (as' : List Attribute) (i : Ident) (g : GenericsTree) (w : Where) (x : ShapeTree) (ts : Trees) →
+      From (shape run x i g w) ts →
+      Each InCase (cases_of_shape as' i x)
+  cases_hold as' i g w (struct_shape r fs) ts s = (struct_hold fs g.where_clause w _ (rest_from (rest_from (rest_from s))), tt)
+  cases_hold as' i g w (enum_shape r vs) ts s = variants_hold vs w _ (rest_from (rest_from (rest_from (rest_from s))))
+  cases_hold as' i g w (union_shape r fs) ts s = (tt, tt)
 
 abbrev KnownField : FieldTree → Type 0
 KnownField f = Known f.ty
@@ -335,66 +384,26 @@ KnownField f = Known f.ty
 abbrev KnownCase : Case → Type 0
 KnownCase c = Each KnownField (field_list c.fields)
 
-braced_known : (fs : Listed FieldTree) (w : Where) (ts : Trees) → From (braced fs w) ts → Each KnownField fs.items
-braced_known fs w ts x =
-    let v = inside_of w x.spelled.closer.start in
-    each_item (λ f. named_field f v) KnownField (λ f us s. type_known f.ty v _ (rest_from (rest_from (rest_from (ranged_from s)))))
-    v 44 at_end fs.items fs.trailing _ (group_from x)
-
-slots_known : (fs : Listed FieldTree) (w : Where) (ts : Trees) → From (slots fs w) ts → Each KnownField fs.items
-slots_known fs w ts x =
-    let v = inside_of w x.spelled.closer.start in
-    each_item (λ f. slot f v) KnownField (λ f us s. type_known f.ty v _ (rest_from (rest_from (ranged_from (given_from s)))))
-    v 44 at_end fs.items fs.trailing _ (group_from x)
-
-fields_known : (fs : FieldsTree) (w : Where) (ts : Trees) → From (variant_fields fs w) ts → Each KnownField (field_list fs)
-fields_known (named fs) w ts x = braced_known fs w ts x
-fields_known (unnamed fs) w ts x = slots_known fs w ts x
-fields_known unit w ts x = tt
-
-variant_known : (x : VariantTree) (w : Where) (ts : Trees) → From (variant run x w) ts → KnownCase (case_of_variant x)
-variant_known x w ts s = fields_known x.fields w _ (first_from (rest_from (rest_from (rest_from (ranged_from s)))))
-
-variants_known : (vs : Listed VariantTree) (w : Where) (ts : Trees) → From (variants run vs w) ts →
-    Each KnownCase (map case_of_variant vs.items)
-variants_known vs w ts x =
-    let v = inside_of w x.spelled.closer.start in
-    each_map KnownCase case_of_variant vs.items
-    (each_item (λ x. variant run x v) (λ x. KnownCase (case_of_variant x)) (λ x us s. variant_known x v us s)
-    v 44 at_end vs.items vs.trailing _ (group_from x))
-
-struct_known : (fs : FieldsTree) (c : Option (Listed PredicateTree)) (w : Where) (ts : Trees) → From (struct_body fs c w) ts →
-    Each KnownField (field_list fs)
-struct_known (named fs) c w ts x = braced_known fs w _ (rest_from x)
-struct_known (unnamed fs) c w ts x = slots_known fs w _ (first_from x)
-struct_known unit c w ts x = tt
-
-cases_known : (as' : List Attribute) (i : Ident) (g : GenericsTree) (w : Where) (x : ShapeTree) (ts : Trees) → From (shape run x i g w) ts →
-    Each KnownCase (cases_of_shape as' i x)
-cases_known as' i g w (struct_shape r fs) ts s = (struct_known fs g.where_clause w _ (rest_from (rest_from (rest_from s))), tt)
-cases_known as' i g w (enum_shape r vs) ts s = variants_known vs w _ (rest_from (rest_from (rest_from (rest_from s))))
-cases_known as' i g w (union_shape r fs) ts s = (tt, tt)
-
 -- ---- what is written at no place of a text
 
 -- levels that are not too deep, each at the range 0..0
-abbrev Flat : Marks → Type 0
+abbrev pub Flat : Marks → Type 0
 Flat [] = Unit {0}
 Flat (k ∷ ks) = (nat_lt deepest k.0 ≡ false) × (k.1 ≡ nowhere) × Flat ks
 
-flat_both : (m k : Marks) → Flat m → Flat k → Flat (m ++ k)
+pub flat_both : (m k : Marks) → Flat m → Flat k → Flat (m ++ k)
 flat_both [] k f g = g
 flat_both (x ∷ m) k f g = (f.0, f.1, flat_both m k f.2 g)
 
-flat_within : (m : Marks) → Flat m → first_too_deep m ≡ None
+pub flat_within : (m : Marks) → Flat m → first_too_deep m ≡ None
 flat_within [] f = refl
 flat_within (x ∷ m) f = ap (λ b. cond b (Some x.1) (first_too_deep m)) f.0 ∙ flat_within m f.2
 
-flat_last : (m : Marks) → Flat m → last_end 0 m ≡ 0
+pub flat_last : (m : Marks) → Flat m → last_end 0 m ≡ 0
 flat_last [] f = refl
 flat_last (x ∷ m) f = ap (λ s. last_end s.«end» m) f.1 ∙ flat_last m f.2
 
-flat_range : (m : Marks) → Flat m → nowhere ≡ range_of m
+pub flat_range : (m : Marks) → Flat m → nowhere ≡ range_of m
 flat_range [] f = refl
 flat_range (x ∷ m) f =
     ap (λ n. record { start = 0; «end» = n }) (sym (flat_last m f.2)) ∙
@@ -601,7 +610,8 @@ module _ (d : Declaration) (limit : ℕ) (ts : Trees) (m : Marks) (s : SpelledBy
       c.front c.there)
 
   pub declared_cases : Each (λ c. Each (λ f. IsType (bare_type f.ty) × TypeAlone (bare_type f.ty)) (field_list c.fields)) (cases d)
-  declared_cases = cases_known d.attrs d.ident d.generics place d.shape there.front there.there
+  declared_cases =
+      cases_hold Known (λ x w n ts s. type_known x (inside_of w n) ts s) d.attrs d.ident d.generics place d.shape there.front there.there
 
   pub declared_types : (n k : ℕ) (c : Case) (f : FieldTree) → slice_get (cases d) n ≡ Some c → slice_get (field_list c.fields) k ≡ Some f →
       IsType (bare_type f.ty) × TypeAlone (bare_type f.ty)

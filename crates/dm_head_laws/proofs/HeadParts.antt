@@ -1,14 +1,13 @@
 -- A head is of the output language where its parts are spelled alone, and its type begins with `<` behind parameters or a trait only.
 use Rattle.std.proofs.Common.{◌≡◌, ℕ, Bool, true, false, nat_eq, nat_lt, List, [], ◌∷◌, ◌++◌, map, codes, Option, Some, None, refl, sym, ap, ◌∙◌, subst}
 use Rattle.dm_stream.specs.declared.tokens.Punct.{Punct}
-use Rattle.dm_stream.specs.declared.tokens.Token.TheVariants as t
 use Rattle.dm_stream.specs.declared.tokens.Spacing.TheVariants.{Alone}
 use Rattle.dm_stream.specs.Layout.{nowhere}
-use Rattle.dm_stream.specs.Trees.{Trees, no_trees, token, join, join-no_trees, join_assoc}
+use Rattle.dm_stream.specs.Trees.{Trees, no_trees, join, join-no_trees, join_assoc}
 use Rattle.dm_ast.specs.Tree.{TypeTree, PathTree, path_tree, segment, SegmentTrees, no_segments, segment_then}
 use Rattle.dm_ast.specs.TypeTokens.{type_trees, path_trees, spaced}
 use Rattle.dm_ast.specs.Declarations.{ParamTree, PredicateTree}
-use Rattle.dm_ast.specs.Spelling.{Where, Marks, Spelling, deepest, first_too_deep, Nothing, ◌then◌, Before, sees, sees_word, punct, keyword, items, items_left}
+use Rattle.dm_ast.specs.Spelling.{Where, Marks, Spelling, deepest, first_too_deep, Nothing, ◌then◌, Before, sees, sees_word, punct, colon, keyword, items, items_left}
 use Rattle.dm_ast.specs.TypeGrammar.{type_spelled, path_spelled, segments}
 use Rattle.dm_ast.specs.DeclarationGrammar.{param, generics, predicate, ends_where, where_clause}
 use Rattle.dm_output.specs.Tokens.{comma, word, param_trees, predicate_trees, params_trees, trait_trees, where_trees}
@@ -54,6 +53,14 @@ punct_stands w c ts level =
     record {
       marks = (w.level, nowhere) ∷ [];
       spelled = record { punct = plain_punct c; is = refl; there = record { spelled = refl; marks = refl } };
+      within = rw level refl;
+    }
+
+pub colon_stands : (w : Where) (ts : Trees) → nat_lt deepest w.level ≡ false → Stands (colon w) (join (output.punct 58) ts) ts
+colon_stands w ts level =
+    record {
+      marks = (w.level, nowhere) ∷ [];
+      spelled = record { punct = plain_punct 58; is = refl; lone = refl; there = record { spelled = refl; marks = refl } };
       within = rw level refl;
     }
 
@@ -194,10 +201,6 @@ path_front (path_tree true ss) w ts others m s = ap (sees 60) s.first.spelled �
 path_front (path_tree false ss) w ts others m s =
     ap (sees 60) s.first.part.spelled ∙ segments_front ss w s.middle others s.rest_marks s.rest
 
-front_back : (ts us : Trees) → sees 60 (join ts us) ≡ false → sees 60 ts ≡ false
-front_back (token (t.Punct p) ts) us h = h
-front_back _ us h = refl
-
 head_front : (o : Option PathTree) (x : TypeTree) (us : Trees) → Stop us → TraitAlone o → (o ≡ None → sees 60 (type_trees x) ≡ false) →
     sees 60 (join (trait_trees o) (join (type_trees x) us)) ≡ false
 head_front None x us stop h k = unmet_sees us stop 60 refl (type_trees x) (k refl)
@@ -220,15 +223,3 @@ head_from_parts h ps plain o x qs k =
     (stands_then (trait_stands h.trait_path o (join (type_trees h.ty) last))
     (stands_then (type_stands h.ty x last (where_stop h.predicates)) (where_stands h.predicates qs))) in
     record { marks = own.marks; spelled = own.spelled; within = own.within; plain = plain }
-
--- such a `<` is in no head: it would begin parameters
-front_free : (ps : List ParamTree) (o : Option PathTree) (x : TypeTree) (us mid : Trees) (m : Marks) →
-    generics (is_some_params ps) (listed ps) top (join (params_trees ps) (join (trait_trees o) (join (type_trees x) us))) mid m → ps ≡ [] →
-    o ≡ None → sees 60 (type_trees x) ≡ false
-front_free [] None x us mid m s e f = front_back (type_trees x) us (ap (sees 60) s.part.part.spelled ∙ s.part.fact)
-front_free (p ∷ ps) o x us mid m s e f = absurd (cc)
-front_free [] (Some p) x us mid m s e f = absurd (cc)
-
-pub head_front_free : (h : HeadTree) → IsHead h → h.params ≡ [] → h.trait_path ≡ None → sees 60 (type_trees h.ty) ≡ false
-head_front_free h i e f =
-    front_free h.params h.trait_path h.ty (where_trees h.predicates) i.spelled.middle i.spelled.first_marks i.spelled.first e f

@@ -9,21 +9,8 @@ use Rattle.dm_output.specs.Output.{ExprTree}
 use Rattle.dm_output.specs.Views.{expr_view}
 use Rattle.dm_levels.specs.Levels.{expr_levels}
 use Rattle.dm_type_levels.specs.Passing.{pass, Passes}
-use Rattle.dm_type_levels.proofs.TypePasses.{passes_equal, passes_next, pass_stops, passes_failed}
-
--- ---- two parts, or three
-
-pub first_stops : (ls ms : List ℕ) (es : List Entry) (s : Span) (r : Result (Bor (List Entry)) Span) →
-    pass ls es ≡ Err s → IsErrAnd r (λ d. d ≡ s) → Passes (ls ++ ms) es r
-first_stops ls ms es s r h i = passes_failed (ls ++ ms) es s r (pass_stops ls ms es s h) i
-
-pub second_stops : (ls ms ns : List ℕ) (es e1 : List Entry) (s : Span) (r : Result (Bor (List Entry)) Span) →
-    pass ls es ≡ Ok e1 → pass ms e1 ≡ Err s → IsErrAnd r (λ d. d ≡ s) → Passes (ls ++ (ms ++ ns)) es r
-second_stops ls ms ns es e1 s r h i j = passes_next ls (ms ++ ns) es e1 r h (first_stops ms ns e1 s r i j)
-
-pub third_passes : (ls ms ns : List ℕ) (es e1 e2 : List Entry) (r : Result (Bor (List Entry)) Span) →
-    pass ls es ≡ Ok e1 → pass ms e1 ≡ Ok e2 → Passes ns e2 r → Passes (ls ++ (ms ++ ns)) es r
-third_passes ls ms ns es e1 e2 r h i p = passes_next ls (ms ++ ns) es e1 r h (passes_next ms ns e1 e2 r i p)
+use Rattle.dm_type_levels.proofs.PartPasses.{first_stops}
+use Rattle.dm_type_levels.proofs.TypePasses.{passes_equal, passes_next}
 
 -- ---- an expression as its variant is written
 

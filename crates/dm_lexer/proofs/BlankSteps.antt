@@ -1,5 +1,5 @@
 -- Blanks.
-use Rattle.std.specs.Prelude.{◌≡◌, ℕ, zero, suc, ◌+◌, ◌-◌, ◌<◌, ◌≤◌, true, false, Option, Some, None, List, [], ◌∷◌, ◌++◌, encode_utf8, refl}
+use Rattle.std.specs.Prelude.{◌≡◌, ℕ, zero, suc, ◌+◌, ◌-◌, ◌<◌, ◌≤◌, true, false, Option, Some, None, List, ◌∷◌, ◌++◌, encode_utf8, refl}
 use Rattle.std.proofs.Common.{ap, ◌∙◌, sym, subst, arith}
 use Rattle.std.specs.Char.{len_utf8}
 use Rattle.std.proofs.lemmas.Str.{len_utf8_bounds, IsUtf8-past_char}
@@ -140,14 +140,6 @@ comment_closing-other text rest after beyond at deep c d s t h =
           more-more s.count 1 (comment_closing deep (d ∷ chars beyond)) ∙ ap (λ i. more i (comment_closing deep (d ∷ chars beyond))) e ∙
           ap (λ l. more (suc s.count) (comment_closing deep l)) (sym t.chars_after_are);
     }
-
-pub comment_closing-end : (text rest : List ℕ) (at deep : ℕ) → IsClosingSoFar text at deep rest → chars rest ≡ [] → comment_closing 0 (chars text) ≡ None
-comment_closing-end text rest at deep s k = s.steps ∙ ap (λ l. more s.count (comment_closing deep l)) k
-
-pub comment_closing-end_one : (text rest after : List ℕ) (at deep c : ℕ) → IsClosingSoFar text at deep rest → chars rest ≡ c ∷ chars after → chars after ≡ [] →
-    comment_closing 0 (chars text) ≡ None
-comment_closing-end_one text rest after at deep c s k h =
-    s.steps ∙ ap (λ l. more s.count (comment_closing deep l)) (k ∙ ap (λ l. c ∷ l) h)
 
 pub blank-one : (text : List ℕ) (size : ℕ) → IsBlankChar text size → IsBlank text (Size size) (blank_length (chars text))
 blank-one text size b = (b.positive, (1, cond_true _ _ _ b.begins, b.front))

@@ -35,10 +35,6 @@ string_closing-segment : (k : Inside) (cs : List ℕ) (n : ℕ) (m : Option ℕ)
 string_closing-segment k [] n m h e z = absurd (cc)
 string_closing-segment k (c ∷ cs) n m h e z = string_closing-as k c cs false (Some record { size = n; means = m }) h e ∙ behind-segment k c n cs z
 
-string_closing-stuck : (k : Inside) (cs : List ℕ) → begins 34 cs ≡ false → segment k cs ≡ None → string_closing k 0 cs ≡ None
-string_closing-stuck k [] h e = refl
-string_closing-stuck k (c ∷ cs) h e = string_closing-as k c cs false None h e
-
 string_closing-quote : (k : Inside) (cs : List ℕ) → begins 34 cs ≡ true → string_closing k 0 cs ≡ Some 1
 string_closing-quote k [] h = absurd (cc)
 string_closing-quote k (c ∷ cs) h = string_closing-as k c cs true (segment k (c ∷ cs)) h refl
@@ -67,11 +63,6 @@ string_closing-next k text rest at p s e h i =
       i.positive,
       q.front.boundary.0,
     )
-
-pub string_closing-none : (k : Inside) (text rest : List ℕ) (at : ℕ) → IsClosingSoFar k text at → rest ≡ drop at text → begins 34 (chars rest) ≡ false →
-    segment k (chars rest) ≡ None → string_closing k 0 (chars text) ≡ None
-string_closing-none k text rest at s e h i =
-    s.steps ∙ ap (λ l. more s.passed.count (string_closing k 0 (chars l))) (sym e) ∙ ap (more s.passed.count) (string_closing-stuck k (chars rest) h i)
 
 pub string_closing-open : (k : Inside) (text : List ℕ) (at : ℕ) → IsClosingSoFar k text at → length text ≤ at → string_closing k 0 (chars text) ≡ None
 string_closing-open k text at s h =

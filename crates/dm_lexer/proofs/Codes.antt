@@ -1,5 +1,5 @@
 -- The code of a `\u{..}` escape.
-use Rattle.std.specs.Prelude.{◌≡◌, ℕ, zero, suc, ◌+◌, ◌*◌, ◌<◌, ◌≤◌, ◌^◌, Bool, true, false, List, [], ◌∷◌, length, take, drop, refl, cond, nat_lt, nat_eq, ◌&&◌, Option, Some, None}
+use Rattle.std.specs.Prelude.{◌≡◌, ℕ, zero, suc, ◌+◌, ◌*◌, ◌<◌, ◌≤◌, ◌^◌, Bool, true, false, List, ◌∷◌, length, take, drop, refl, cond, nat_lt, nat_eq, ◌&&◌, Option, Some, None}
 use Rattle.std.proofs.Common.{ap, ◌∙◌, sym, subst, arith, ◌⊎◌, inl, inr}
 use Rattle.std.proofs.lemmas.Bool.Decides.{nat_tests}
 use Rattle.std.proofs.Math.Utf8.{scalar_cases}
@@ -35,9 +35,6 @@ code-fits (suc (suc (suc (suc (suc (suc d)))))) v h k = absurd (omega arith)
 pub digits-next : (c : ℕ) (cs : List ℕ) → is_code c ≡ true →
     code_digits (c ∷ cs) ≡ cond (is_hex c) (c ∷ code_digits cs) (code_digits cs)
 digits-next c cs h = ap (λ b. filter is_hex (take (cond b (suc (run is_code cs)) 0) (c ∷ cs))) h
-
-pub digits-end : (c : ℕ) (cs : List ℕ) → is_code c ≡ false → code_digits (c ∷ cs) ≡ []
-digits-end c cs h = ap (λ b. filter is_hex (take (cond b (suc (run is_code cs)) 0) (c ∷ cs))) h
 
 -- what was read of a code
 pub record IsCodeSoFar (text : List ℕ) (code : Code) (rest : List ℕ) : Type 0 where
@@ -75,14 +72,8 @@ stepped code new c h = stepped-on code new c (is_hex c) refl h
 hex-less : (c : ℕ) → is_hex c ≡ true → digit_value c < 16
 hex-less c h = grind (arith, nat_tests)
 
-pub code-start : (text : List ℕ) → IsUtf8 text → IsCodeSoFar text record { size = 0; digits = 0; value = 0 } text
-code-start text u = record { size_is = omega arith; value_is = refl; digits_are = omega arith; few = omega arith; small = omega arith; fits = omega arith; utf8 = u }
-
 run-code : (c : ℕ) (cs : List ℕ) → is_code c ≡ true → run is_code (c ∷ cs) ≡ suc (run is_code cs)
 run-code c cs h = ap (λ b. cond b (suc (run is_code cs)) 0) h
-
-run-stop : (c : ℕ) (cs : List ℕ) → is_code c ≡ false → run is_code (c ∷ cs) ≡ 0
-run-stop c cs h = ap (λ b. cond b (suc (run is_code cs)) 0) h
 
 -- one character more, of which it is known what it adds
 code-on : (text rest after : List ℕ) (code new : Code) (c : ℕ) → IsCodeSoFar text code rest → chars rest ≡ c ∷ chars after →
@@ -123,49 +114,8 @@ code-next text rest after code new c s k u l h p =
           (omega (arith, d, w)) (rw (d, v) s.small)
     ]
 
--- the code ends where no digits follow
-pub code-end : (text rest : List ℕ) (code : Code) → IsCodeSoFar text code rest → run is_code (chars rest) ≡ 0 → code_digits (chars rest) ≡ [] → IsCode text code
-code-end text rest code s r d =
-    let a = s.size_is in
-    let g = s.digits_are in
-    let f = s.fits in
-    let w = s.few in
-    record {
-      size_is = omega (arith, a, r);
-      value_is = sym (s.value_is ∙ ap (digits_value_after 16 code.value) d);
-      few = omega (arith, g, w, ap length d);
-      fits = omega (arith, f);
-    }
-
-pub code-end_text : (text rest : List ℕ) (code : Code) → IsCodeSoFar text code rest → chars rest ≡ [] → IsCode text code
-code-end_text text rest code s k = code-end text rest code s (ap (run is_code) k) (ap code_digits k)
-
-pub code-end_char : (text rest : List ℕ) (code : Code) (c : ℕ) (cs : List ℕ) → IsCodeSoFar text code rest → chars rest ≡ c ∷ cs → is_code c ≡ false → IsCode text code
-code-end_char text rest code c cs s k h =
-    code-end text rest code s (ap (run is_code) k ∙ run-stop c cs h) (ap code_digits k ∙ digits-end c cs h)
-
-none-digit : (code : Code) (c : ℕ) (b : Bool) → nat_lt code.digits 6 ≡ b →
-    cond {A = Option Code} b (Some record { size = code.size + 1; digits = code.digits + 1; value = code.value * 16 + digit_value c }) None ≡ None → 6 ≤ code.digits
-none-digit code c true l h = absurd (cc)
-none-digit code c false l h = grind (arith, nat_tests)
-
 data Full (code : Code) (c : ℕ) : Type 0 where
   full : is_hex c ≡ true → 6 ≤ code.digits → Full code c
-
-none-on : (code : Code) (c : ℕ) (b : Bool) → is_hex c ≡ b →
-    cond {A = Option Code} b (with_digit code (digit_value c)) (Some record { size = code.size + 1; digits = code.digits; value = code.value }) ≡ None → Full code c
-none-on code c true k h = full k (none-digit code c (nat_lt code.digits 6) refl h)
-none-on code c false k h = absurd (cc)
-
-pub code-many : (text rest after : List ℕ) (code : Code) (c : ℕ) → IsCodeSoFar text code rest → chars rest ≡ c ∷ chars after → is_code c ≡ true →
-    with_code code c ≡ None → 6 < length (code_digits (chars text))
-code-many text rest after code c s k h n =
-    elim (none-on code c (is_hex c) refl n) [
-      | full x few ↦
-          let ds : code_digits (chars rest) ≡ c ∷ code_digits (chars after) = ap code_digits k ∙ digits-next c (chars after) h ∙ ap (λ b. cond b (c ∷ code_digits (chars after)) (code_digits (chars after))) x in
-          let g = s.digits_are in
-          omega (arith, g, few, ap length ds)
-    ]
 
 code-ascii : (c : ℕ) → is_code c ≡ true → c < 128
 code-ascii c h = grind (arith, nat_tests)

@@ -1,5 +1,5 @@
 -- Fronts of a text, by bytes and by characters.
-use Rattle.std.specs.Prelude.{◌≡◌, ℕ, zero, suc, ◌+◌, Bool, true, false, ◌&&◌, List, [], ◌∷◌, ◌++◌, length, take, drop, encode_utf8, refl, cond}
+use Rattle.std.specs.Prelude.{◌≡◌, ℕ, zero, suc, ◌+◌, Bool, true, ◌&&◌, List, [], ◌∷◌, ◌++◌, length, take, drop, encode_utf8, refl, cond}
 use Rattle.std.proofs.Common.{ap, ◌∙◌, sym, subst, arith, length-take, zero-add, append-nil}
 use Rattle.std.proofs.Math.Seq.{take-add, take-append_seam}
 use Rattle.std.proofs.Math.Utf8.{scalar, scalars}
@@ -70,9 +70,6 @@ run-start p text u = record { count = 0; front = front-none text u; rest_is = re
 pub run-pass : (p : ℕ → Bool) (c : ℕ) (cs : List ℕ) → p c ≡ true → run p (c ∷ cs) ≡ suc (run p cs)
 run-pass p c cs h = ap (λ b. cond b (suc (run p cs)) 0) h
 
-pub run-fail : (p : ℕ → Bool) (c : ℕ) (cs : List ℕ) → p c ≡ false → run p (c ∷ cs) ≡ 0
-run-fail p c cs h = ap (λ b. cond b (suc (run p cs)) 0) h
-
 pub run-next : (p : ℕ → Bool) (text rest after : List ℕ) (at c : ℕ) → IsRunSoFar p text at rest → p c ≡ true →
     rest ≡ encode_utf8 c ++ after → chars rest ≡ c ∷ chars after → IsRunSoFar p text (at + len_utf8 c) after
 run-next p text rest after at c r h e k =
@@ -94,13 +91,6 @@ run-end p text rest at r h =
     let s = r.steps in
     let e : r.count ≡ run p (chars text) = omega (arith, h, s) in
     subst P e r.front
-
-pub run-end_text : (p : ℕ → Bool) (text rest : List ℕ) (at : ℕ) → IsRunSoFar p text at rest → rest ≡ [] → IsFront text at (run p (chars text))
-run-end_text p text rest at r h = run-end p text rest at r (ap (run p) (ap chars h ∙ chars-nil))
-
-pub run-end_char : (p : ℕ → Bool) (text rest : List ℕ) (at c : ℕ) (cs : List ℕ) → IsRunSoFar p text at rest → chars rest ≡ c ∷ cs → p c ≡ false →
-    IsFront text at (run p (chars text))
-run-end_char p text rest at c cs r k h = run-end p text rest at r (ap (run p) k ∙ run-fail p c cs h)
 
 -- the bytes of a front
 pub front-length : (text : List ℕ) (at n : ℕ) → IsFront text at n → at ≡ length (encode_utf8_all (take n (chars text)))

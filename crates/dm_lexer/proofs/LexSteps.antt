@@ -21,7 +21,7 @@ use Rattle.dm_lexer.specs.TextFronts.{IsFront, run}
 use Rattle.dm_lexer.specs.Words.{begins_pair}
 use Rattle.dm_lexer.specs.Words as words
 use Rattle.dm_lexer.specs.declared.words.Class.TheVariants.{Line}
-use Rattle.dm_lexer.specs.Blanks.{blank_length, begins_blank_char, block, comment_closing, IsBlank}
+use Rattle.dm_lexer.specs.Blanks.{blank_length, begins_blank_char, block, comment_closing}
 use Rattle.dm_lexer.specs.Rows.{gives, refuses, passes, row, range, Reading, reading, read_front, read_row, with_lexeme, faulty, IsGiven, IsRefusing}
 use Rattle.dm_lexer.specs.Nesting.{nest_all, found, Level, Verdict, are_trees, has_fault, IsNesting, IsNested, IsInnermost, Takes, After, Advances, IsStep, IsTreesOf, IsRefusedWithin, IsRefusalWithin, IsWholeWithin, none_deep, at_end, fault_of, first_deep}
 use Rattle.dm_stream.proofs.Cuts.{drop-more}
@@ -50,9 +50,6 @@ reading-blank at (suc n) (c ∷ cs) h z =
     ap (λ b. read_front at (c ∷ cs) b (row at (c ∷ cs)) (λ more. reading (at + length (encode_utf8 c)) more cs)) h ∙
     ap (λ i. reading (at + length (encode_utf8 c)) i cs) (suc-less n)
 
-reading-unclosed : (at c : ℕ) (cs : List ℕ) → blank_length (c ∷ cs) ≡ Unclosed → reading at 0 (c ∷ cs) ≡ faulty (range at (c ∷ cs) 2)
-reading-unclosed at c cs h = ap (λ b. read_front at (c ∷ cs) b (row at (c ∷ cs)) (λ more. reading (at + length (encode_utf8 c)) more cs)) h
-
 reading-row : (at c : ℕ) (cs : List ℕ) → blank_length (c ∷ cs) ≡ Absent →
     reading at 0 (c ∷ cs) ≡ read_row at (c ∷ cs) (row at (c ∷ cs)) (λ more. reading (at + length (encode_utf8 c)) more cs)
 reading-row at c cs h = ap (λ b. read_front at (c ∷ cs) b (row at (c ∷ cs)) (λ more. reading (at + length (encode_utf8 c)) more cs)) h
@@ -60,11 +57,6 @@ reading-row at c cs h = ap (λ b. read_front at (c ∷ cs) b (row at (c ∷ cs))
 reading-refused : (at c n : ℕ) (cs : List ℕ) → blank_length (c ∷ cs) ≡ Absent → row at (c ∷ cs) ≡ refuses n →
     reading at 0 (c ∷ cs) ≡ faulty (range at (c ∷ cs) n)
 reading-refused at c n cs h r =
-    reading-row at c cs h ∙ ap (λ f. read_row at (c ∷ cs) f (λ more. reading (at + length (encode_utf8 c)) more cs)) r
-
-reading-passed : (at c : ℕ) (cs : List ℕ) → blank_length (c ∷ cs) ≡ Absent → row at (c ∷ cs) ≡ passes →
-    reading at 0 (c ∷ cs) ≡ faulty (range at (c ∷ cs) 1)
-reading-passed at c cs h r =
     reading-row at c cs h ∙ ap (λ f. read_row at (c ∷ cs) f (λ more. reading (at + length (encode_utf8 c)) more cs)) r
 
 pub reading-given : (at n c : ℕ) (cs : List ℕ) (x : Lexeme) → blank_length (c ∷ cs) ≡ Absent → row at (c ∷ cs) ≡ gives x n → 0 < n →
@@ -119,13 +111,6 @@ step-blank old at size count text z b f ls here n = record {
       (reading-blank at count (chars text) b (front-some size count text f z) ∙ reading-front at size count text f);
 }
 
-pub step-size : (old : Nesting) (at size : ℕ) (text : List ℕ) (b : Blank) → IsBlank text b (blank_length (chars text)) → b ≡ Size size →
-    IsStep (progress.Reads size) old old at text
-step-size old at size text b h e =
-    let P : Blank → Type 0 = λ v. IsBlank text v (blank_length (chars text)) in
-    let s : IsBlank text (Size size) (blank_length (chars text)) = subst P e h in
-    step-blank old at size s.1.0 text s.0 s.1.1 s.1.2
-
 fault-steps : (old : Nesting) (at n : ℕ) (text : List ℕ) (s : Span) → reading at 0 (chars text) ≡ faulty (range at (chars text) n) →
     range at (chars text) n ≡ s → IsStep (progress.Fault s) old old at text
 fault-steps old at n text s r q ls here k = ap (nest_all ls here old.deep) r ∙ ap has_fault q
@@ -169,12 +154,6 @@ unclosed-front text u h =
     pair_front_chars text (chars text) 47 42 u (omega arith) (omega arith) refl (unclosed-pair (begins_blank_char (chars text)) (begins_pair 47 47 (chars text)) (begins_pair 47 42 (chars text)) 1
     (2 + run (words.passes Line) (drop 2 (chars text))) (block (comment_closing 0 (drop 2 (chars text)))) h)
 
-pub step-unclosed : (old : Nesting) (at : ℕ) (text : List ℕ) (s : Span) → IsUtf8 text → 0 < length text → blank_length (chars text) ≡ Unclosed →
-    s ≡ record { start = at; «end» = at + 2 } → IsStep (progress.Fault s) old old at text
-step-unclosed old at text s u z b q =
-    fault-steps old at 2 text s (from-chars at 2 text u z (λ c cs e. reading-unclosed at c cs (ap blank_length (sym e) ∙ b)))
-    (range-front at 2 2 text (unclosed-front text u b) ∙ sym q)
-
 pub step-refused : (old : Nesting) (at size : ℕ) (text : List ℕ) (s : Span) → IsUtf8 text → 0 < length text → blank_length (chars text) ≡ Absent →
     IsRefusing (row at (chars text)) size text → s ≡ record { start = at; «end» = at + size } → IsStep (progress.Fault s) old old at text
 step-refused old at size text s u z b r q =
@@ -209,15 +188,6 @@ step-given old new at size text x takes u z b g k e ls here n =
       nested = a.nested;
       steps = ap (nest_all ls here old.deep) (given-goes_on at size text x u z b g) ∙ a.steps rest.lexemes rest.fault;
     }
-
--- a closer closes no group
-pub step-unmatched : (old new last : Nesting) (at size : ℕ) (text : List ℕ) (x : Lexeme) (takes : Option Span) (s : Span) → IsUtf8 text →
-    0 < length text → blank_length (chars text) ≡ Absent → IsGiven (row at (chars text)) x size text → Takes takes old new x → takes ≡ Some s →
-    IsStep (progress.Fault s) old last at text
-step-unmatched old new last at size text x takes s u z b g k e ls here n =
-    let P : Option Span → Type 0 = λ v. Takes v old new x in
-    let rest : Reading = reading (at + size) 0 (chars (drop size text)) in
-    ap (nest_all ls here old.deep) (given-goes_on at size text x u z b g) ∙ subst P e k ls here n rest.lexemes rest.fault
 
 -- the whole text
 

@@ -95,13 +95,6 @@ take-short (suc n) (c ∷ cs) =
     let l : length (encode_utf8_all (take n cs)) ≤ length (encode_utf8_all cs) = take-short n cs in
     omega (arith, l, length-append (encode_utf8 c) (encode_utf8_all (take n cs)), length-append (encode_utf8 c) (encode_utf8_all cs))
 
-drop-short : (n : ℕ) (cs : List ℕ) → length (encode_utf8_all (drop n cs)) ≤ length (encode_utf8_all cs)
-drop-short zero cs = omega arith
-drop-short (suc n) [] = omega arith
-drop-short (suc n) (c ∷ cs) =
-    let l : length (encode_utf8_all (drop n cs)) ≤ length (encode_utf8_all cs) = drop-short n cs in
-    omega (arith, l, length-append (encode_utf8 c) (encode_utf8_all cs))
-
 -- the first lexeme is no longer than what it is read in
 abbrev FirstFits : ℕ → List Lexeme → Type 0
 FirstFits n [] = ⊤
@@ -531,11 +524,6 @@ close-step : (at : ℕ) (d : Delim) (s : Span) (more : List ℕ) → Step at (cl
 close-step at d s more =
     row-step at 1 (close_char d ∷ more) more (lexeme.Close d s) (lexeme.Close d record { start = at; «end» = at + 1 }) (close-no_blank d more) (close-row at d more)
     (omega arith) refl refl
-
-abbrev closes_glued : Delim → Bool
-closes_glued Paren = true
-closes_glued Bracket = true
-closes_glued Brace = false
 
 end-run : (d : Delim) (s : Span) (more rest : List ℕ) (xs : List Lexeme) → ((at : ℕ) → Run at more rest xs) → (at : ℕ) →
     Run at (end_group d more) rest (lexeme.Close d s ∷ xs)

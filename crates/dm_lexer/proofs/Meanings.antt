@@ -188,15 +188,3 @@ kept-next hashes text rest after at c s h e k l =
           s.steps ∙ ap (λ v. take at text ++ encode_utf8_all v) m ∙ sym (append_assoc (take at text) (encode_utf8 c) left) ∙
           ap (λ v. v ++ left) (sym (take-char text after at c (s.so_far.rest_is ∙ e)));
     }
-
-kept-end : (hashes : ℕ) (text rest : List ℕ) (at : ℕ) → IsKeptSoFar hashes text at rest → raw_meaning hashes (chars rest) ≡ [] →
-    take at text ≡ encode_utf8_all (raw_meaning hashes (chars text))
-kept-end hashes text rest at s h = sym (s.steps ∙ ap (λ l. take at text ++ encode_utf8_all l) h ∙ append-nil (take at text))
-
-pub kept-closed : (hashes : ℕ) (text rest after : List ℕ) (at c : ℕ) → IsKeptSoFar hashes text at rest → closes_raw hashes c (chars after) ≡ true →
-    chars rest ≡ c ∷ chars after → take at text ≡ encode_utf8_all (raw_meaning hashes (chars text))
-kept-closed hashes text rest after at c s h k = kept-end hashes text rest at s (ap (raw_meaning hashes) k ∙ raw-as hashes c (chars after) true h)
-
-pub kept-all : (hashes : ℕ) (text rest : List ℕ) (at : ℕ) → IsKeptSoFar hashes text at rest → chars rest ≡ [] →
-    take at text ≡ encode_utf8_all (raw_meaning hashes (chars text))
-kept-all hashes text rest at s k = kept-end hashes text rest at s (ap (raw_meaning hashes) k)

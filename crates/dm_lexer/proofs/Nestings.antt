@@ -327,21 +327,6 @@ place-within n rest o (l ∷ ls, here, h) e =
     let p : length (so_far ls l.before) ≡ o.place = ap (λ x. x.place) (innermost n ls l here rest o h e).1 in
     omega (arith, entries-length n ls l here h, p)
 
-pub nesting-none_open : (old new : Nesting) (d : Delim) (upto : Span) → old.opened.items ≡ [] → Takes (Some upto) old new (lexeme.Close d upto)
-nesting-none_open old new d upto e [] here n xs read = refl
-nesting-none_open old new d upto e (l ∷ ls) here n xs read =
-    absurd (snoc-some (opened_at ls) record { delim = l.delim; from = l.from; place = length (so_far ls l.before) } (sym n.opened_are ∙ e))
-
-pub nesting-other_delim : (old new : Nesting) (d : Delim) (upto : Span) (rest : List OpenGroup) (o : OpenGroup) → old.opened.items ≡ rest ++ o ∷ [] →
-    same_delim o.delim d ≡ false → Takes (Some upto) old new (lexeme.Close d upto)
-unfolding level_opened
-nesting-other_delim old new d upto rest o e h [] here n xs read = refl
-nesting-other_delim old new d upto rest o e h (l ∷ ls) here n xs read =
-    let s : l.delim ≡ o.delim = ap (λ x. x.delim) (innermost old ls l here rest o n e).1 in
-    let f : same_delim l.delim d ≡ false = ap (λ x. same_delim x d) s ∙ h in
-    ap
-    (λ b. if_same b upto (nest ls (join l.before (group l.delim l.from here upto no_trees)) (deeper old.deep (length ls) upto) xs read)) f
-
 pub nesting-close : (old new : Nesting) (d : Delim) (upto : Span) (rest : List OpenGroup) (o : OpenGroup) → old.opened.items ≡ rest ++ o ∷ [] →
     same_delim o.delim d ≡ true → new.opened.items ≡ rest →
     new.entries.items ≡ set old.entries.items o.place (entry.Open o.delim o.from (length old.entries.items - o.place)) ++ entry.Close d upto ∷ [] →

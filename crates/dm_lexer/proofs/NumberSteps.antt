@@ -2,7 +2,6 @@
 use Rattle.std.specs.Prelude.{◌≡◌, ℕ, suc, ◌+◌, ◌*◌, ◌<◌, ◌≤◌, ◌^◌, Bool, true, false, ◌&&◌, nat_lt, Some, None, List, [], ◌∷◌, length, take, drop, refl}
 use Rattle.std.proofs.Common.{ap, ◌∙◌, sym, subst, arith, length-drop}
 use Rattle.std.proofs.Math.Nat.{mul-le-mul_left}
-use Rattle.std.proofs.lemmas.Bool.{and_from}
 use Rattle.std.proofs.lemmas.Bool.Decides.{nat_tests}
 use Rattle.std.specs.Char.{digit_value, is_digit}
 use Rattle.std.specs.Str.{chars, encode_utf8_all, IsUtf8}
@@ -56,21 +55,6 @@ read-start base text u = record {
 
 among-digit : (base : Base) (c : ℕ) (cs ds : List ℕ) → ds ≡ c ∷ cs → is_digit c (radix base) ≡ true → digits_among base ds ≡ c ∷ digits_among base cs
 among-digit base c cs ds k h = ap (digits_among base) k ∙ cond_true _ _ _ h
-
-among-other : (base : Base) (c : ℕ) (cs ds : List ℕ) → ds ≡ c ∷ cs → is_digit c (radix base) ≡ false → digits_among base ds ≡ digits_among base cs
-among-other base c cs ds k h = ap (digits_among base) k ∙ cond_false _ _ _ h
-
-pub read-other : (base : Base) (text rest after : List ℕ) (value c : ℕ) (seen : Bool) → IsReadSoFar base text rest value seen → IsUtf8 after →
-    chars rest ≡ c ∷ chars after → is_digit c (radix base) ≡ false → IsReadSoFar base text after value seen
-read-other base text rest after value c seen r u k h =
-    let e : digits_among base (chars rest) ≡ digits_among base (chars after) = among-other base c (chars after) (chars rest) k h in record {
-      utf8 = u;
-      fits = r.fits;
-      count = r.count;
-      seen_is = r.seen_is;
-      counted = r.counted ∙ ap (λ l. r.count + length l) e;
-      value_is = r.value_is ∙ ap (digits_value_after (radix base) value) e;
-    }
 
 pub read-digit : (base : Base) (text rest after : List ℕ) (value next c : ℕ) (seen : Bool) → IsReadSoFar base text rest value seen → IsUtf8 after →
     chars rest ≡ c ∷ chars after → is_digit c (radix base) ≡ true → next ≡ value * radix base + digit_value c → next < 2 ^ 128 →
@@ -132,22 +116,9 @@ read-none base text rest value seen r k h =
 below : (value : ℕ) → value < 2 ^ 128 → nat_lt value (2 ^ 128) ≡ true
 below value h = grind (arith, nat_tests)
 
-pub read-value : (base : Base) (text rest : List ℕ) (value : ℕ) (seen : Bool) → IsReadSoFar base text rest value seen → chars rest ≡ [] → seen ≡ true →
-    (is_value base (digits_among base (chars text)) ≡ true) × (value ≡ digits_value (radix base) (digits_among base (chars text)))
-read-value base text rest value seen r k h =
-    let n : nat_lt 0 (length (digits_among base (chars text))) ≡ true =
-    ap (nat_lt 0) (read-length base text rest value seen r k) ∙ sym r.seen_is ∙ h in
-    let v : digits_value (radix base) (digits_among base (chars text)) ≡ value =
-    r.value_is ∙ ap (λ cs. digits_value_after (radix base) value (digits_among base cs)) k in
-    (and_from _ _ n (ap (λ i. nat_lt i (2 ^ 128)) v ∙ below value r.fits), sym v)
-
 after-digits : (base : Base) (text after : List ℕ) (size : ℕ) → IsFront text size (digits_length base (chars text)) → after ≡ drop size text →
     chars after ≡ drop (digits_length base (chars text)) (chars text)
 after-digits base text after size f e = ap chars e ∙ f.rest_is
-
-pub number-spoiled : (base : Base) (text after : List ℕ) (size : ℕ) → IsFront text size (digits_length base (chars text)) → after ≡ drop size text →
-    spoils base (chars after) ≡ true → number_behind base (chars text) ≡ None
-number-spoiled base text after size f e h = cond_true _ _ _ (ap (spoils base) (sym (after-digits base text after size f e)) ∙ h)
 
 of-front : (base : Base) (text front : List ℕ) (size : ℕ) → IsUtf8 text → IsFront text size (digits_length base (chars text)) → front ≡ take size text →
     take (digits_length base (chars text)) (chars text) ≡ chars front
@@ -184,12 +155,6 @@ prefix-rest : (text rest : List ℕ) (base : Base) (size : ℕ) → IsBasePrefix
 prefix-rest text rest base size o =
     ap (λ b. number_behind b (chars rest)) o.base_is ∙
     ap (number_behind (base_of (chars text))) (behind-chars text rest size (prefix_length (base_of (chars text))) o.behind)
-
-pub number-none : (text rest : List ℕ) (base : Base) (size : ℕ) → begins_digit (chars text) ≡ true → IsBasePrefix text base size rest →
-    number_behind base (chars rest) ≡ None → number (chars text) ≡ None
-number-none text rest base size d o h =
-    cond_true _ _ _ d ∙
-    ap (behind_prefix (prefix_length (base_of (chars text)))) (sym (prefix-rest text rest base size o) ∙ h)
 
 pub number-prefixed : (text rest : List ℕ) (base : Base) (size more value : ℕ) → begins_digit (chars text) ≡ true → IsBasePrefix text base size rest →
     IsNumber rest more value (number_behind base (chars rest)) → IsNumber text (size + more) value (number (chars text))

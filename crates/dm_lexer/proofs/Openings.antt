@@ -62,9 +62,6 @@ behind-lone : (text rest : List ℕ) (p : Segment) (b : Bool) (n : ℕ) → IsFr
     begins 39 (drop n (chars text)) ≡ b
 behind-lone text rest p b n f e h = ap (begins 39) (sym f.rest_is) ∙ ap (λ l. begins 39 (chars l)) (sym e) ∙ h
 
-pub lone-none : (b : Bool) (text : List ℕ) → lone_segment b (chars text) ≡ None → lone_closing b (chars text) ≡ None
-lone-none b text h = ap (λ v. closed_by_tick v (chars text)) h
-
 pub lone-open : (b : Bool) (text rest : List ℕ) (p : Segment) → IsLoneSegment b text p → rest ≡ drop p.size text → begins 39 (chars rest) ≡ false →
     lone_closing b (chars text) ≡ None
 lone-open b text rest p i e h =
@@ -203,9 +200,6 @@ quoted-whole text rest front o size u h e s t w =
     (o.size + s.0, quoted-as text rest front o size true u h e s t w, quoted-front text rest o size u h e s)
 
 -- a character
-
-pub char-none : (text after : List ℕ) (c : ℕ) → chars text ≡ c ∷ chars after → lone_closing false (chars after) ≡ None → char_length (chars text) ≡ None
-char-none text after c k h = ap char_length k ∙ ap (more 1) h
 
 -- behind a `'`
 pub behind-tick : (text after : List ℕ) (c : ℕ) → text ≡ encode_utf8 c ++ after → chars text ≡ c ∷ chars after → begins 39 (chars text) ≡ true →

@@ -1,5 +1,5 @@
 -- Raw strings, and lines.
-use Rattle.std.specs.Prelude.{◌≡◌, ℕ, suc, ◌+◌, ◌<◌, ◌≤◌, Bool, true, false, List, [], ◌∷◌, ◌++◌, length, drop, encode_utf8, refl, cond, nat_eq, nat_lt, ◌&&◌, Option, Some, None}
+use Rattle.std.specs.Prelude.{◌≡◌, ℕ, suc, ◌+◌, ◌<◌, ◌≤◌, Bool, true, false, List, ◌∷◌, ◌++◌, length, drop, encode_utf8, refl, cond, nat_eq, nat_lt, ◌&&◌, Option, Some}
 use Rattle.std.proofs.Common.{ap, ◌∙◌, sym, subst, arith}
 use Rattle.std.proofs.lemmas.Bool.{and_parts}
 use Rattle.std.proofs.lemmas.Bool.Decides.{nat_tests}
@@ -78,9 +78,6 @@ raw-end hashes text rest after at c s h k =
       s.steps ∙ ap (more s.count) (ap (raw_closing hashes) k ∙ raw-as hashes c (chars after) true h),
       subst P size g,
     )
-
-pub raw-open : (hashes : ℕ) (text rest : List ℕ) (at : ℕ) → IsRawSoFar hashes text at rest → chars rest ≡ [] → raw_closing hashes (chars text) ≡ None
-raw-open hashes text rest at s k = s.steps ∙ ap (λ l. more s.count (raw_closing hashes l)) k
 
 -- lines
 

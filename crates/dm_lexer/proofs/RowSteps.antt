@@ -1,7 +1,6 @@
 -- Rows of the table, in the words of the program.
 use Rattle.std.specs.Prelude.{◌≡◌, ℕ, zero, suc, ◌+◌, ◌<◌, Bool, true, false, ◌&&◌, nat_eq, List, [], ◌∷◌, ◌++◌, length, take, drop, encode_utf8, refl, cond, Option, Some, None}
 use Rattle.std.proofs.Common.{ap, ◌∙◌, sym, subst, arith, length-append}
-use Rattle.std.proofs.lemmas.Bool.{and_from}
 use Rattle.std.proofs.lemmas.Grind.{common_steps}
 use Rattle.std.proofs.lemmas.Bool.Decides.{nat_tests}
 use Rattle.std.proofs.lemmas.List.{drop-take}
@@ -21,7 +20,7 @@ use Rattle.dm_lexer.specs.declared.lexing.Lexeme.TheVariants as lexeme
 use Rattle.dm_lexer.specs.declared.numbers.Base.{Base}
 use Rattle.dm_lexer.specs.TextFronts.{IsFront, IsSized, IsBehind, run}
 use Rattle.std.specs.Str.Parse.{digits_value}
-use Rattle.dm_lexer.specs.Words.{radix, begins_word, word_length, begins_pair, begins_raw_word, raw_word_length, is_never_raw, word_bytes, goes_on, starts_word}
+use Rattle.dm_lexer.specs.Words.{radix, begins_word, word_length, begins_raw_word, raw_word_length, is_never_raw, word_bytes, goes_on, starts_word}
 use Rattle.dm_lexer.specs.Numbers.{begins_digit, number_length, number_with, number_behind, behind_prefix, length_of, spoils, is_value, digits_among, digits_length, base_of, prefix_length, suffix_length}
 use Rattle.dm_lexer.specs.declared.quotes.Opening.{Opening}
 use Rattle.dm_lexer.specs.Quotes.{begins, more, is_hash, opens_raw, plain_opening, raw_opening, second_raw, byte_opening, c_opening, opening, body, whole_lines, in_whole_lines, quoted_length, lone_closing, char_length, is_lifetime, lifetime_length}
@@ -122,9 +121,6 @@ refusing-row r b o make refused size text e h k f = record {
   front = f;
 }
 
-pub passing-row : (b : Bool) (below : Row) → b ≡ false → cond b below passes ≡ passes
-passing-row b below h = ap (λ v. cond v below passes) h
-
 -- words
 
 pub some-only : (b : Bool) (n count : ℕ) → cond b (Some n) None ≡ Some count → (b ≡ true) × (n ≡ count)
@@ -151,13 +147,6 @@ run-positive p c cs h = let e : run p (c ∷ cs) ≡ suc (run p cs) = ap (λ b. 
 pub word-positive : (cs : List ℕ) → begins_word cs ≡ true → 0 < run goes_on cs
 word-positive [] h = absurd (cc)
 word-positive (c ∷ cs) h = run-positive goes_on c cs (starts-goes_on c h)
-
-word_none_by : (b : Bool) (n : ℕ) (r : Row) → cond b (Some n) None ≡ None → cond b r passes ≡ passes
-word_none_by true n r h = absurd (cc)
-word_none_by false n r h = refl
-
-pub word-none : (at : ℕ) (cs : List ℕ) → word_length cs ≡ None → word_row at cs ≡ passes
-word-none at cs h = word_none_by (begins_word cs) (run goes_on cs) (row_of (word_length cs) (word at cs) 1) h
 
 pub word-found : (text : List ℕ) (at size : ℕ) → IsUtf8 text → 0 < length text → IsSized text size (word_length (chars text)) →
     IsGiven (word_row at (chars text)) (lexeme.Token (t.Ident record { name = take size text; raw = false; span = record { start = at; «end» = at + size } })) size text
@@ -195,26 +184,10 @@ pub raw-refused : (text rest : List ℕ) (at : ℕ) → begins_raw_word (chars t
 raw-refused text rest at h b n =
     refusing-row (raw_row at (chars text)) (begins_raw_word (chars text)) (raw_word_length (chars text)) (raw_word at (chars text)) 2 2 text refl h n b.front
 
-left-false : (a b : Bool) → a ≡ false → (a && b) ≡ false
-left-false true b h = absurd (cc)
-left-false false b h = refl
-
 right-false : (a b : Bool) → b ≡ false → (a && b) ≡ false
 right-false a true h = absurd (cc)
 right-false true false h = refl
 right-false false false h = refl
-
-pub raw-begins : (text rest : List ℕ) → begins_pair 114 35 (chars text) ≡ true → IsBehind text 2 2 rest → begins_word (chars rest) ≡ true →
-    begins_raw_word (chars text) ≡ true
-raw-begins text rest p b h = and_from _ _ p (ap begins_word (sym (behind-chars text rest 2 2 b)) ∙ h)
-
-pub raw-no_pair : (at : ℕ) (cs : List ℕ) → begins_pair 114 35 cs ≡ false → raw_row at cs ≡ passes
-raw-no_pair at cs h = passing-row (begins_raw_word cs) _ (left-false (begins_pair 114 35 cs) (begins_word (drop 2 cs)) h)
-
-pub raw-no_word : (text rest : List ℕ) (at : ℕ) → IsBehind text 2 2 rest → begins_word (chars rest) ≡ false → raw_row at (chars text) ≡ passes
-raw-no_word text rest at b h =
-    passing-row (begins_raw_word (chars text)) _
-    (right-false (begins_pair 114 35 (chars text)) (begins_word (drop 2 (chars text))) (ap begins_word (sym (behind-chars text rest 2 2 b)) ∙ h))
 
 -- numbers
 
@@ -257,12 +230,6 @@ number-found text at size u l h (count, e, f) =
     given-row (number_row at (chars text)) (begins_digit (chars text)) (number_length (chars text)) (literal kind.Int at (chars text))
     (run goes_on (chars text)) size count _ text refl h e f (literal-made kind.Int text at size count f)
     (front-positive text size count u f (number-positive (chars text) count e) l)
-
-pub number-refused : (text : List ℕ) (at size : ℕ) → begins_digit (chars text) ≡ true → number_length (chars text) ≡ None →
-    IsFront text size (run goes_on (chars text)) → IsRefusing (number_row at (chars text)) size text
-number-refused text at size h n f =
-    refusing-row (number_row at (chars text)) (begins_digit (chars text)) (number_length (chars text)) (literal kind.Int at (chars text))
-    (run goes_on (chars text)) size text refl h n f
 
 -- literals with quotes
 

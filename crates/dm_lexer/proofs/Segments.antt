@@ -8,7 +8,7 @@ use Rattle.std.specs.Str.{chars, encode_utf8_all, IsUtf8}
 use Rattle.dm_lexer.specs.TextFronts.{IsFront, run}
 use Rattle.dm_lexer.specs.Quotes.{one_more, more}
 use Rattle.dm_stream.proofs.Cuts.{drop-more}
-use Rattle.dm_lexer.proofs.LexChars.{front-none, front-next, run-pass, run-fail}
+use Rattle.dm_lexer.proofs.LexChars.{front-none, front-next, run-pass}
 
 -- a front of one character more, by characters alone
 pub front-char : (text ds : List ℕ) (at n c : ℕ) → IsUtf8 text → IsFront text at n → drop n (chars text) ≡ c ∷ ds → IsFront text (at + len_utf8 c) (suc n)
@@ -58,9 +58,6 @@ pub record IsCountedSoFar (p : ℕ → Bool) (text : List ℕ) (count : ℕ) (re
   pub fits : count + length rest ≤ length text
   pub utf8 : IsUtf8 rest
 
-pub counted-start : (p : ℕ → Bool) (text : List ℕ) → IsUtf8 text → IsCountedSoFar p text 0 text
-counted-start p text u = record { steps = omega arith; fits = omega arith; utf8 = u }
-
 pub counted-next : (p : ℕ → Bool) (text rest after : List ℕ) (count c : ℕ) → IsCountedSoFar p text count rest → chars rest ≡ c ∷ chars after →
     IsUtf8 after → length after < length rest → p c ≡ true → IsCountedSoFar p text (count + 1) after
 counted-next p text rest after count c s k u l h =
@@ -68,17 +65,6 @@ counted-next p text rest after count c s k u l h =
     let a = s.steps in
     let f = s.fits in
     record { steps = omega (arith, a, r); fits = omega (arith, f, l); utf8 = u }
-
-pub counted-end_text : (p : ℕ → Bool) (text rest : List ℕ) (count : ℕ) → IsCountedSoFar p text count rest → chars rest ≡ [] → count ≡ run p (chars text)
-counted-end_text p text rest count s k =
-    let a = s.steps in
-    omega (arith, a, ap (run p) k)
-
-pub counted-end_char : (p : ℕ → Bool) (text rest : List ℕ) (count c : ℕ) (cs : List ℕ) → IsCountedSoFar p text count rest → chars rest ≡ c ∷ cs → p c ≡ false →
-    count ≡ run p (chars text)
-counted-end_char p text rest count c cs s k h =
-    let a = s.steps in
-    omega (arith, a, ap (run p) k ∙ run-fail p c cs h)
 
 suc-add : (n m : ℕ) → suc n + m ≡ suc (n + m)
 suc-add n m = omega arith

@@ -1,5 +1,5 @@
 -- Identifiers.
-use Rattle.std.specs.Prelude.{◌≡◌, ℕ, ◌+◌, ◌<◌, true, false, cond, Some, None, List, ◌∷◌, ◌++◌, take, drop, encode_utf8, refl}
+use Rattle.std.specs.Prelude.{◌≡◌, ℕ, ◌+◌, ◌<◌, true, false, Some, List, ◌∷◌, ◌++◌, take, drop, encode_utf8}
 use Rattle.std.proofs.Common.{ap, ◌∙◌, sym, arith, eq-eqb}
 use Rattle.std.specs.Str.{chars, IsUtf8}
 use Rattle.std.proofs.lemmas.Bool.{and_from}
@@ -36,15 +36,3 @@ sized-raw text rest size pair b h f n =
       cond_true _ _ _ raw ∙ cond_false _ _ _ never ∙ ap (λ l. Some (2 + run goes_on l)) (sym k),
       front-behind text rest 2 size 2 (run goes_on (chars rest)) b f,
     )
-
-pub never-raw : (text rest : List ℕ) (size : ℕ) → IsBehind text 2 2 rest → IsFront rest size (run goes_on (chars rest)) →
-    is_never_raw (take size rest) ≡ true → raw_word_length (chars text) ≡ None
-never-raw text rest size b f n =
-    let cs : List ℕ = chars text in
-    let k : chars rest ≡ drop 2 cs = behind-chars text rest 2 2 b in
-    let never : is_never_raw (word_bytes (drop 2 cs)) ≡ true =
-    ap (λ l. is_never_raw (word_bytes l)) (sym k) ∙ ap is_never_raw (sym f.bytes_are) ∙ n in
-    elim (begins_raw_word cs) as (λ v. cond v (cond (is_never_raw (word_bytes (drop 2 cs))) None (Some (2 + run goes_on (drop 2 cs)))) None ≡ None) [
-      | true ↦ cond_true _ _ _ never
-      | false ↦ refl
-    ]

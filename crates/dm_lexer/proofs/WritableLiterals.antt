@@ -1,5 +1,5 @@
 -- Integers and strings that a program makes are spellable.
-use Rattle.std.specs.Prelude.{◌≡◌, ℕ, suc, ◌+◌, Bool, true, false, ◌||◌, ◌&&◌, nat_eq, nat_lt, cond, Option, Some, None, List, [], ◌∷◌, ◌++◌, length, take, drop, codes, refl}
+use Rattle.std.specs.Prelude.{◌≡◌, ℕ, suc, ◌+◌, Bool, true, false, ◌||◌, ◌&&◌, nat_eq, nat_lt, cond, Option, Some, None, List, [], ◌∷◌, ◌++◌, length, take, drop, refl}
 use Rattle.std.proofs.Common.{ap, ◌∙◌, sym, subst, arith}
 use Rattle.std.proofs.Math.Seq.{take-length}
 use Rattle.std.proofs.Math.Utf8.{scalar, scalars}
@@ -26,7 +26,6 @@ use Rattle.dm_lexer.specs.Quotes.{begins, plain_opening, in_whole_lines, more, q
 use Rattle.dm_lexer.specs.Blanks.{blank_length}
 use Rattle.dm_stream.specs.Trees.{token, no_trees}
 use Rattle.dm_lexer.specs.Rows.{literal}
-use Rattle.dm_stream.specs.Layout.{nowhere}
 use Rattle.dm_lexer.specs.Written.{HasTrees, IsSpellable}
 use Rattle.dm_lexer.proofs.KeptNumbers.{number-if}
 use Rattle.dm_lexer.proofs.KeptRows.{IsKept, kept-number, kept-quoted, no-blank}
@@ -64,7 +63,7 @@ digit-letter c d n h l = grind (arith, nat_tests)
 abbrev base-by : Bool → Bool → Bool → Base
 base-by x y z = cond x Binary (cond y Octal (cond z Hexadecimal Decimal))
 
-digits-base : (cs : List ℕ) → all_ascii_digits cs ≡ true → base_of cs ≡ Decimal
+pub digits-base : (cs : List ℕ) → all_ascii_digits cs ≡ true → base_of cs ≡ Decimal
 digits-base [] h = refl
 digits-base (c ∷ []) h = refl
 digits-base (c ∷ d ∷ cs) h =
@@ -75,7 +74,7 @@ digits-base (c ∷ d ∷ cs) h =
 abbrev with-value : Bool → ℕ → ℕ → Option (ℕ × ℕ)
 with-value b n v = cond b (Some (n, v)) None
 
-digits-behind : (cs : List ℕ) → all_ascii_digits cs ≡ true → is_value Decimal cs ≡ true →
+pub digits-behind : (cs : List ℕ) → all_ascii_digits cs ≡ true → is_value Decimal cs ≡ true →
     number_behind Decimal cs ≡ Some (length cs + 0, digits_value 10 cs)
 digits-behind cs h v =
     let front : digits_among Decimal (take (length cs) cs) ≡ cs = ap (digits_among Decimal) (take-length cs) ∙ digits-among cs h in
@@ -97,7 +96,7 @@ digits-length cs h v b =
 no-value : (b : Bool) → (nat_lt 0 0 && b) ≡ true → ⊥
 no-value b h = cc
 
-digits-begin : (cs : List ℕ) → all_ascii_digits cs ≡ true → is_value Decimal cs ≡ true → begins_digit cs ≡ true
+pub digits-begin : (cs : List ℕ) → all_ascii_digits cs ≡ true → is_value Decimal cs ≡ true → begins_digit cs ≡ true
 digits-begin [] h v = absurd (cc)
 digits-begin (c ∷ cs) h v = (and_parts (is_ascii_digit c) (all_ascii_digits cs) h).0
 
@@ -126,9 +125,6 @@ int-spellable ds s h v =
     let b : begins_digit ds ≡ true = digits-begin ds h v in
     whole-literal kind.Int ds ds s (small-utf8 ds small) (small-chars ds small)
     (kept-number 0 0 (length ds) ds [] (literal kind.Int 0 ds (length ds)) refl (digit-blank ds b) b (digits-length ds h v b) refl)
-
-zero-spellable : IsSpellable (t.Literal record { kind = kind.Int; text = codes "0"; span = nowhere })
-zero-spellable = int-spellable (codes "0") nowhere refl refl
 
 -- strings
 

@@ -1,5 +1,5 @@
 -- Trees that are writable by what they are made of.
-use Rattle.std.specs.Prelude.{◌≡◌, ℕ, suc, ◌<◌, Bool, true, false, ◌||◌, ◌&&◌, nat_eq, nat_lt, cond, if◌then◌else◌, Option, Some, None, List, [], ◌∷◌, ◌++◌, length, take, drop, codes, encode_utf8, refl}
+use Rattle.std.specs.Prelude.{◌≡◌, ℕ, suc, ◌<◌, Bool, true, false, ◌||◌, ◌&&◌, nat_eq, nat_lt, cond, if◌then◌else◌, Option, Some, None, List, [], ◌∷◌, ◌++◌, length, take, drop, encode_utf8, refl}
 use Rattle.std.proofs.Common.{ap, ◌∙◌, sym, subst, arith, append-nil}
 use Rattle.std.proofs.Math.Seq.{take-length}
 use Rattle.std.proofs.Math.Utf8.{scalar, scalars}
@@ -24,7 +24,7 @@ use Rattle.dm_lexer.specs.Blanks.{is_blank_char, blank_length}
 use Rattle.dm_lexer.specs.Lexemes.{is_punct}
 use Rattle.dm_stream.specs.Trees.{Trees, no_trees, token, group, join}
 use Rattle.dm_lexer.specs.Rows.{gives, row, word, punct}
-use Rattle.dm_stream.specs.Layout.{is_joint, nowhere, word_token}
+use Rattle.dm_stream.specs.Layout.{is_joint}
 use Rattle.dm_lexer.specs.Written.{HasTrees, alone, IsSpellable, AreSpellable, may_touch, is_spaced, are_spaced, AreWritable}
 use Rattle.dm_lexer.proofs.Kept.{cut, cut-nothing}
 use Rattle.dm_lexer.proofs.RowSteps.{starts-goes_on, punct-ascii}
@@ -254,7 +254,3 @@ ascii_word-spellable name s h =
     let e : chars name ≡ name = small-chars name small in
     word-spellable name s (small-utf8 name small) (ap begins_word e ∙ word-begins name h)
     (ap (run goes_on) e ∙ go_on-run name (word-goes name h) ∙ ap length (sym e))
-
--- as for each word that an implementation has
-derive_more-spellable : IsSpellable (word_token (codes "derive_more"))
-derive_more-spellable = ascii_word-spellable (codes "derive_more") nowhere refl

@@ -1,6 +1,5 @@
 -- The refusal of a declaration's names by the places where they may not stand.
 use Rattle.std.proofs.Common.{◌≡◌, [], Option, Some, None, option_map, find, refl, sym, ap, ◌∙◌}
-use Rattle.std.proofs.lemmas.Grind.{common_steps}
 use Rattle.dm_stream.specs.declared.tokens.Span.{Span}
 use Rattle.dm_stream.specs.declared.error.Refusal.{Refusal}
 use Rattle.dm_stream.specs.declared.error.Kind.{Kind}
@@ -51,5 +50,3 @@ reserved_refused d s e f g =
 pub names_stand : (d : Declaration) → first_place MacroType (found d) ≡ None → repeated d ≡ None → first_place Reserved (found d) ≡ None → Named d
 names_stand d e f g =
     named_by d (none_again d e f ∙ refused_later ReservedName (find is_reserved (found d)) None (sym (place_found Reserved (found d)) ∙ g))
-
-pub ruleset check_steps = (common_steps, macro_refused, again_refused, reserved_refused, names_stand)

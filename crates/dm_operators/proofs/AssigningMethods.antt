@@ -1,14 +1,13 @@
 -- The method of an assigning operator leaves self as the operator means.
-use Rattle.std.proofs.Common.{◌≡◌, ◌≢◌, ℕ, ℤ, ◌+◌, List, [], ◌∷◌, length, map, Bool, true, false, cond, eqb, Option, Some, None, codes, slice_get, refl, sym, ap, ◌∙◌, subst, arith}
+use Rattle.std.proofs.Common.{◌≡◌, ◌≢◌, ℕ, ℤ, ◌+◌, List, [], ◌∷◌, length, map, Bool, true, false, cond, eqb, Option, Some, codes, slice_get, refl, sym, ap, ◌∙◌, subst, arith}
 use Rattle.std.proofs.lemmas.Bool.{eqb-true}
 use Rattle.dm_ast.specs.Declarations.{Declaration, FieldTree}
-use Rattle.dm_output.specs.Output.{wild, no_expr, some_expr, arms_of, block_body, expr_body, no_stmts, stmts_of, block, last_expr, MethodTree}
+use Rattle.dm_output.specs.Output.{wild, no_expr, arms_of, block_body, expr_body, no_stmts, stmts_of, block}
 use Rattle.dm_output.specs.declared.item.Receiver.TheVariants as receiver
 use Rattle.dm_output.specs.Values.{Value, value_of, mine, theirs, Thing, place, done, Case, cases, field_list, fits_case, IsValue, Input, value_input, term_input}
 use Rattle.dm_output.specs.Fits.{plain, bound}
 use Rattle.dm_output.specs.Calls.{Setting, State, goes, then}
 use Rattle.dm_output.specs.Run.{run, run_arms, run_body, answered, with_receiver, with_param, input_thing, constants_of, setting_of, run_method}
-use Rattle.dm_generics.specs.Words.{word}
 use Rattle.dm_operands.specs.Marked.{MarkedField, MarkedCase, mark_field, mark_case}
 use Rattle.dm_operands.specs.Numbered.{self_name}
 use Rattle.dm_operands.specs.Named.{AreNamed}
@@ -20,12 +19,13 @@ use Rattle.dm_operators.specs.Attributes.{skips, cases_for}
 use Rattle.dm_operators.specs.Meaning.{combined, with_fields, fields_in, changed, after_two, of_any, IsTerm}
 use Rattle.dm_operators.specs.Bodies as bodies
 use Rattle.dm_operators.specs.Bodies.{right_name, arm, binary_given, answer_given, assigning_calls, calls_block, different, binary_body, body_expr}
-use Rattle.dm_operators.specs.Heads.{method_attrs, method_param, returned}
+use Rattle.dm_operators.specs.Heads.{method_param}
 use Rattle.dm_operators.specs.Implementations.{method_in}
 use Rattle.dm_operators.proofs.TableLaws.{known-assigning}
 use Rattle.dm_operators.proofs.OperandLaws.{self-right, right-right, AreAt, first-at, rest-at, all-at, keeps_all, place-term, term-kept}
 use Rattle.dm_operators.proofs.BinaryArms.{left_in, AreOpen, operands, same-case, other-case, any-case}
 use Rattle.dm_operators.proofs.BinaryLaws.{start, value-case}
+use Rattle.dm_operators.proofs.MethodForms.{method_by, method-by}
 use Rattle.dm_operators.proofs.AssigningLaws.{Assigns, AreRight, calls-run}
 
 -- ---- right operands
@@ -139,32 +139,6 @@ module _ (s : Setting) (o : Operator) (is : IsAssigning s o) where
 
 -- ---- methods
 
--- the method with a changing receiver, and nothing returned
-abbrev changing_method : Form → Operator → Declaration → List MarkedCase → MethodTree
-changing_method form o d cs =
-    record {
-      attrs = method_attrs form;
-      is_const = false;
-      name = word o.method;
-      receiver = Some receiver.RefMut;
-      param = method_param form;
-      output = None;
-      body = last_expr (some_expr (body_expr form o d cs));
-    }
-
-changing-method : (form : Form) (o : Operator) (d : Declaration) (cs : List MarkedCase) → o.assigning ≡ true →
-    method_in form o d cs ≡ changing_method form o d cs
-changing-method form o d cs assigns =
-    ap (λ (b : Bool). record {
-      attrs = method_attrs form;
-      is_const = false;
-      name = word o.method;
-      receiver = Some (cond b receiver.RefMut receiver.Value);
-      param = method_param form;
-      output = cond b None (Some (returned form d));
-      body = last_expr (some_expr (body_expr form o d cs));
-    }) assigns
-
 -- self afterwards has the fields that its body leaves
 method-leaves : (form : Form) (o : Operator) (d : Declaration) (os : List Bool) (x : Value) (y : Input) (ts : List Thing) →
     o.assigning ≡ true → constants_of y ≡ [] →
@@ -174,9 +148,9 @@ method-leaves : (form : Form) (o : Operator) (d : Declaration) (os : List Bool) 
     run_method d os (method_in form o d (cases_for o d)) x y ≡ Some (with_fields x ts)
 method-leaves form o d os x y ts assigns none body =
     let s : Setting = setting_of d os (Some receiver.RefMut) y in
-    let m = changing_method form o d (cases_for o d) in
+    let m = method_by true form o d (cases_for o d) in
     let env = plain (with_receiver (Some receiver.RefMut) x (with_param (method_param form) (input_thing (Some receiver.RefMut) y))) in
-    ap (λ m'. run_method d os m' x y) (changing-method form o d (cases_for o d) assigns) ∙
+    ap (λ m'. run_method d os m' x y) (method-by true form o d (cases_for o d) assigns) ∙
     ap (λ (ns : List ℤ). answered s m x.variant (run s (body_expr form o d (cases_for o d)) env
     (record { fields = x.fields; numbers = ns }))) none ∙
     ap (answered s m x.variant) body

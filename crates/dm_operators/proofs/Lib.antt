@@ -4,6 +4,7 @@ pub mod TableLaws
 pub mod OperandLaws
 pub mod BinaryArms
 pub mod BinaryLaws
+pub mod MethodForms
 pub mod ValueMethods
 pub mod AssigningLaws
 pub mod AssigningMethods

@@ -1,5 +1,5 @@
 -- What holds of a declaration that an operator doesn't refuse.
-use Rattle.std.proofs.Common.{◌≡◌, ℕ, zero, suc, List, [], ◌∷◌, map, Bool, true, false, not, ◌||◌, ◌&&◌, Option, Some, None, codes, slice_get, refl, sym, ap, ◌∙◌, subst}
+use Rattle.std.proofs.Common.{◌≡◌, ℕ, zero, suc, List, [], ◌∷◌, map, Bool, true, false, not, ◌||◌, ◌&&◌, Some, None, codes, slice_get, refl, sym, ap, ◌∙◌}
 use Rattle.std.specs.Prelude.{flat_map}
 use Rattle.std.specs.Option.{is_some}
 use Rattle.std.specs.Str.{bytes_eq}
@@ -8,7 +8,6 @@ use Rattle.dm_stream.specs.declared.tokens.Ident.{Ident}
 use Rattle.dm_stream.specs.declared.tokens.Span.{Span}
 use Rattle.dm_stream.specs.declared.error.Kind.{Kind}
 use Rattle.dm_stream.specs.declared.error.Kind.TheVariants.{WrongShape}
-use Rattle.dm_stream.specs.declared.error.Refusal.{Refusal}
 use Rattle.dm_stream.specs.Trees.{Trees, no_trees, token}
 use Rattle.dm_stream.specs.declared.tokens.Token.TheVariants as t
 use Rattle.dm_ast.specs.declared.plain.Attribute.{Attribute}
@@ -26,12 +25,6 @@ use Rattle.dm_operands.proofs.FirstLaws.{AllNone, first-none, none-front, none-b
 use Rattle.dm_operators.proofs.BinaryArms.{AreOpen}
 
 -- ---- lists of refusals
-
-none-in : {A : Type 0} (f : A → List (Option Refusal)) (xs : List A) (n : ℕ) (x : A) → AllNone (flat_map f xs) →
-    slice_get xs n ≡ Some x → AllNone (f x)
-none-in f [] n x h at = absurd cc
-none-in {A} f (y ∷ ys) zero x h at = let same : y ≡ x = cc in subst (λ (z : A). AllNone (f z)) same (none-front (f y) (flat_map f ys) h)
-none-in f (y ∷ ys) (suc n) x h at = none-in f ys n x (none-behind (f y) (flat_map f ys) h) at
 
 pub not-refused : (b : Bool) (k : Kind) (at : Span) → refused_if b k at ≡ None → b ≡ false
 not-refused true k at h = absurd cc

@@ -1,15 +1,15 @@
 -- A declaration is refused nowhere exactly where the operator is derived for it.
-use Rattle.std.proofs.Common.{◌≡◌, ◌≢◌, List, [], ◌∷◌, map, Bool, true, false, not, cond, ◌||◌, ◌&&◌, Option, Some, None, refl, ap}
+use Rattle.std.proofs.Common.{◌≡◌, ◌≢◌, List, [], ◌∷◌, map, Bool, true, false, not, cond, ◌||◌, ◌&&◌, None, refl, ap}
 use Rattle.std.specs.Prelude.{◌↔◌}
 use Rattle.dm_stream.specs.declared.error.Kind.{Kind}
 use Rattle.dm_stream.specs.declared.error.Kind.TheVariants.{WrongShape, AllSkipped, AttrSyntax}
-use Rattle.dm_stream.specs.declared.error.Refusal.{Refusal}
 use Rattle.dm_stream.specs.declared.tokens.Span.{Span}
 use Rattle.dm_ast.specs.declared.plain.Attribute.{Attribute}
 use Rattle.dm_ast.specs.Declarations.{Declaration, FieldTree, VariantTree, ShapeTree, struct_shape, enum_shape, union_shape}
 use Rattle.dm_output.specs.Values.{is_enum, field_list}
-use Rattle.dm_attr.specs.Skips.{Skipping, no, yes, bad, reads_skip, skip_among, skip}
+use Rattle.dm_attr.specs.Skips.{no, yes, bad, reads_skip, skip_among, skip}
 use Rattle.dm_attr.specs.SkipRefusals.{refusal_at}
+use Rattle.dm_attr.proofs.Agreeing.{Agree, agree_none, agree_one, agree_two}
 use Rattle.dm_operators.specs.Operators.{Form, structural, scalar, unary, Operator}
 use Rattle.dm_operators.specs.Attributes.{reads_forward, forward_among, forwards}
 use Rattle.dm_operators.specs.Meaning.{is_unit}
@@ -25,24 +25,6 @@ unrefused-if true k at h = absurd cc
 unrefused-if false k at h = refl
 
 -- ---- attributes
-
--- there is no refusal exactly where it isn't bad
-abbrev Agree : Option Refusal → Skipping → Type 0
-Agree o s = (o ≡ None) ↔ (s ≢ bad)
-
-agree_none : (s : Skipping) → s ≢ bad → Agree None s
-agree_none s h = (λ _. h, λ _. refl)
-
-agree_some : (r : Refusal) → Agree (Some r) bad
-agree_some r = (λ e. absurd cc, λ f. absurd (f refl))
-
-agree_one : (v : Bool) (r : Refusal) → Agree (cond v None (Some r)) (cond v yes bad)
-agree_one true r = agree_none yes (λ e. cc)
-agree_one false r = agree_some r
-
-agree_two : (v : Bool) (r s : Refusal) → Agree (cond v (Some s) (Some r)) bad
-agree_two true r s = agree_some s
-agree_two false r s = agree_some r
 
 agree-skip : (as' : List Attribute) → Agree (reading_refusal reads_skip as') (skip_among as')
 agree-skip [] = agree_none no (λ e. cc)

@@ -1,51 +1,23 @@
 -- The methods of operators that give a value: with a receiver by value, and what is returned.
-use Rattle.std.proofs.Common.{◌≡◌, ◌≢◌, ℕ, ℤ, List, [], length, Bool, true, false, cond, eqb, Option, Some, None, slice_get, refl, sym, ap, ◌∙◌, subst}
+use Rattle.std.proofs.Common.{◌≡◌, ◌≢◌, ℕ, ℤ, List, [], length, Bool, true, false, cond, eqb, Option, Some, slice_get, refl, sym, ap, ◌∙◌, subst}
 use Rattle.std.proofs.lemmas.Bool.{eqb-true}
 use Rattle.dm_ast.specs.Declarations.{Declaration}
-use Rattle.dm_output.specs.Output.{some_expr, last_expr, MethodTree}
 use Rattle.dm_output.specs.declared.item.Receiver.TheVariants as receiver
 use Rattle.dm_output.specs.Values.{Value, value_of, theirs, another, Thing, value, failure, Things, Case, cases, is_enum, field_list, fits_case, IsValue, Input, value_input, term_input}
 use Rattle.dm_output.specs.Fits.{plain}
 use Rattle.dm_output.specs.Calls.{Setting, State, goes, as_term}
 use Rattle.dm_output.specs.Run.{run, answered, with_receiver, with_param, input_thing, constants_of, setting_of, run_method}
-use Rattle.dm_generics.specs.Words.{word}
-use Rattle.dm_operands.specs.Marked.{MarkedCase}
 use Rattle.dm_operands.specs.Named.{AreNamed}
 use Rattle.dm_operands.proofs.BindingLaws.{eqb-same}
 use Rattle.dm_operators.specs.Operators.{Form, structural, scalar, Operator, IsOperator}
 use Rattle.dm_operators.specs.Attributes.{cases_for}
 use Rattle.dm_operators.specs.Meaning.{binary_unit, mismatch, ok_if, is_unit_in, case_of, changed, of_two, of_any, IsTerm}
 use Rattle.dm_operators.specs.Bodies.{body_expr}
-use Rattle.dm_operators.specs.Heads.{method_attrs, method_param, returned}
+use Rattle.dm_operators.specs.Heads.{method_param}
 use Rattle.dm_operators.specs.Implementations.{method_in}
 use Rattle.dm_operators.proofs.BinaryArms.{AreOpen, operands}
+use Rattle.dm_operators.proofs.MethodForms.{method_by, method-by}
 use Rattle.dm_operators.proofs.BinaryLaws.{start, value-case, IsGiving, same-run, other-run, any-run}
-
--- the method with a receiver by value and what is returned
-abbrev value_method : Form → Operator → Declaration → List MarkedCase → MethodTree
-value_method form o d cs =
-    record {
-      attrs = method_attrs form;
-      is_const = false;
-      name = word o.method;
-      receiver = Some receiver.Value;
-      param = method_param form;
-      output = Some (returned form d);
-      body = last_expr (some_expr (body_expr form o d cs));
-    }
-
-value-method : (form : Form) (o : Operator) (d : Declaration) (cs : List MarkedCase) → o.assigning ≡ false →
-    method_in form o d cs ≡ value_method form o d cs
-value-method form o d cs gives =
-    ap (λ (b : Bool). record {
-      attrs = method_attrs form;
-      is_const = false;
-      name = word o.method;
-      receiver = Some (cond b receiver.RefMut receiver.Value);
-      param = method_param form;
-      output = cond b None (Some (returned form d));
-      body = last_expr (some_expr (body_expr form o d cs));
-    }) gives
 
 -- it gives what its body gives, where that is a term
 pub method-gives : (form : Form) (o : Operator) (d : Declaration) (os : List Bool) (x : Value) (y : Input) (t : Thing) →
@@ -57,9 +29,9 @@ pub method-gives : (form : Form) (o : Operator) (d : Declaration) (os : List Boo
     run_method d os (method_in form o d (cases_for o d)) x y ≡ Some t
 method-gives form o d os x y t gives none term body =
     let s : Setting = setting_of d os (Some receiver.Value) y in
-    let m = value_method form o d (cases_for o d) in
+    let m = method_by false form o d (cases_for o d) in
     let env = plain (with_receiver (Some receiver.Value) x (with_param (method_param form) (input_thing (Some receiver.Value) y))) in
-    ap (λ m'. run_method d os m' x y) (value-method form o d (cases_for o d) gives) ∙
+    ap (λ m'. run_method d os m' x y) (method-by false form o d (cases_for o d) gives) ∙
     ap (λ (ns : List ℤ). answered s m x.variant (run s (body_expr form o d (cases_for o d)) env
     (record { fields = x.fields; numbers = ns }))) none ∙
     ap (answered s m x.variant) body ∙ ap (λ (u : Thing). Some u) term

@@ -1,4 +1,6 @@
 //! The output language: implementations as trees, and what their methods give.
+//!
+//! Patterns and expressions drop themselves, so elsewhere none is taken apart by a pattern: parts are read by reference and copied.
 #![tactic(auto)]
 
 mod expr;

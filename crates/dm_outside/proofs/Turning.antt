@@ -5,7 +5,7 @@ use Rattle.std.specs.Io.KnownBytes.{Appends, Keeps}
 use Rattle.std.proofs.KnownBytes.{Appends-kept}
 use Rattle.std.proofs.lemmas.List.{length-append}
 use Rattle.std.proofs.lemmas.List.{drop-drop}
-use Rattle.std.proofs.lemmas.List.Elements.{All-nil, All-push}
+use Rattle.std.proofs.lemmas.List.Elements.{All-push}
 use Rattle.std.proofs.lemmas.List.Sums.{sum_by-append}
 use Rattle.dm_outside.specs.Offers.{Offer, Adds}
 use Rattle.dm_outside.specs.Transfers.{EachTook, TookSome, EachOffersAll, taken_by, OffersAll, OffersPrefix}
@@ -17,11 +17,6 @@ append-nil (x ∷ xs) = ap (λ ys. x ∷ ys) (append-nil xs)
 append-assoc : {A : Type 0} (xs ys zs : List A) → (xs ++ ys) ++ zs ≡ xs ++ (ys ++ zs)
 append-assoc [] ys zs = refl
 append-assoc (x ∷ xs) ys zs = ap (λ l. x ∷ l) (append-assoc xs ys zs)
-
--- nothing is added
-pub adds-none : {A : Type 0} (a : Option (List A)) → Adds a a []
-adds-none None = tt
-adds-none (Some xs) = append-nil xs
 
 -- what is added after what was added
 pub adds-more : {A : Type 0} (a b c : Option (List A)) (xs ys : List A) → Adds a b xs → Adds b c ys → Adds a c (xs ++ ys)
@@ -35,10 +30,6 @@ adds-more (Some us) (Some vs) (Some ws) xs ys p q = q ∙ ap (λ l. l ++ ys) p �
 sum-more : (counts : List ℕ) (n : ℕ) → sum (counts ++ (n ∷ [])) ≡ sum counts + n
 sum-more counts n = let more = sum_by-append (λ x. x) counts (n ∷ []) in omega (arith, more)
 
--- before the first turn
-pub took-none : (a : Option (List ℕ)) → EachTook a a [] 0
-took-none a = record { counts = []; each = All-nil (λ n. 0 < n); told = adds-none a; total_is = refl }
-
 -- one more turn that took bytes
 pub took-more : (a b c : Option (List ℕ)) (total n : ℕ) → EachTook a b [] total → Adds b c (n ∷ []) → 0 < n → EachTook a c [] (total + n)
 took-more a b c total n t more some =
@@ -47,16 +38,6 @@ took-more a b c total n t more some =
       each = All-push (λ n. 0 < n) t.counts n t.each some;
       told = subst (Adds a c) (append-nil (t.counts ++ (n ∷ []))) (adds-more a b c t.counts (n ∷ []) (subst (Adds a b) (sym (append-nil t.counts)) t.told) more);
       total_is = sum-more t.counts n ∙ ap (λ m. m + n) t.total_is;
-    }
-
--- the last turn
-pub took-last : (a b c : Option (List ℕ)) (total : ℕ) (last : List ℕ) → EachTook a b [] total → Adds b c last → EachTook a c last total
-took-last a b c total last t more =
-    record {
-      counts = t.counts;
-      each = t.each;
-      told = adds-more a b c t.counts last (subst (Adds a b) (sym (append-nil t.counts)) t.told) more;
-      total_is = t.total_is;
     }
 
 -- ---- writes
@@ -70,10 +51,6 @@ each-more text (o ∷ os) rest n each is =
 taken-more : (offers : List Offer) (rest : List ℕ) (n : ℕ) → taken_by (offers ++ (record { piece = rest; taken = n } ∷ [])) ≡ taken_by offers + n
 taken-more [] rest n = omega arith
 taken-more (o ∷ os) rest n = let more = taken-more os rest n in omega (arith, more)
-
--- before the first write
-pub offers-none : (a : Option (List Offer)) (text : List ℕ) → OffersAll a a text 0
-offers-none a text = record { offers = []; each = tt; told = adds-none a; taken_is = refl }
 
 -- one more write
 pub offers-more : (a b c : Option (List Offer)) (text rest : List ℕ) (at n : ℕ) → OffersAll a b text at → rest ≡ drop at text →
@@ -91,10 +68,6 @@ offers-more a b c text rest at n o is more =
 -- a read that came before a want of memory
 pub took-some : (a b c : Option (List ℕ)) (total n : ℕ) → EachTook a b [] total → Adds b c (n ∷ []) → 0 < n → TookSome a c
 took-some a b c total n t more some = (total + n, took-more a b c total n t more some)
-
--- a read that failed
-pub took-failed : (a b c : Option (List ℕ)) (total : ℕ) → EachTook a b [] total → Adds b c [] → TookSome a c
-took-failed a b c total t more = (total, took-last a b c total [] t more)
 
 -- bytes that were put to those before, as a test of the result says
 pub grown : {E : Type 0} (r : Result (Unit {0}) E) (failed : Bool) (before now more : List ℕ) →

@@ -1,49 +1,27 @@
 -- A declaration is refused nowhere exactly where it is valid.
-use Rattle.std.proofs.Common.{◌≡◌, ◌≢◌, List, [], ◌∷◌, Bool, true, false, cond, filter, map, codes, Option, Some, None, Result, Ok, Err, refl, sym, ap, ◌∙◌, subst, ◌++◌}
+use Rattle.std.proofs.Common.{◌≡◌, List, [], ◌∷◌, Bool, true, false, cond, filter, map, codes, None, Result, Ok, Err, refl, sym, ap, ◌∙◌, subst, ◌++◌}
 use Rattle.std.specs.Prelude.{◌↔◌, All, flat_map}
 use mathlib.Core.List.{map-map}
 use Rattle.std.proofs.lemmas.List.{map-append}
 use Rattle.dm_stream.specs.declared.error.Error.{Error}
 use Rattle.dm_stream.specs.declared.error.Error.TheVariants.{NoMemory, Refused}
 use Rattle.dm_stream.specs.declared.error.Kind.TheVariants.{AttrSyntax, AttrRepeated}
-use Rattle.dm_stream.specs.declared.error.Refusal.{Refusal}
 use Rattle.dm_ast.specs.declared.plain.Attribute.{Attribute}
 use Rattle.dm_ast.specs.Declarations.{Declaration, FieldTree, ShapeTree, struct_shape, enum_shape, union_shape}
-use Rattle.dm_output.specs.Values.{Text, Case, cases, field_list}
-use Rattle.dm_attr.specs.Skips.{Skipping, no, yes, bad, reads_skip, is_examined, skip_among, skip, or_else, is_skipped}
+use Rattle.dm_output.specs.Values.{Case, cases, field_list}
+use Rattle.dm_attr.specs.Skips.{Skipping, no, yes, bad, reads_skip, is_examined, skip_among, or_else, is_skipped}
 use Rattle.dm_attr.specs.SkipRefusals.{refusal_at, refusal_among, or_those, place_refusal}
+use Rattle.dm_attr.proofs.Agreeing.{Agree, agree_none, agree_one, agree_two}
 use Rattle.dm_operands.specs.Places.{attrs_of, places, refused_union, refusals, refusal, IsWalked}
 use Rattle.dm_operands.proofs.FirstLaws.{AllNone, first-none, none-first, map-none, each-none}
 use Rattle.dm_partial_eq.specs.Checks.{IsGood, IsGoodCase, IsNoUnion, IsValid, IsRefusedIfInvalid}
 
 -- ---- what is refused of a place, and what its attributes say
 
--- there is no refusal exactly where it isn't bad
-abbrev pub Agree : Option Refusal → Skipping → Type 0
-Agree o s = (o ≡ None) ↔ (s ≢ bad)
-
-agree_none : (s : Skipping) → s ≢ bad → Agree None s
-agree_none s h = (λ _. h, λ _. refl)
-
-agree_some : (r : Refusal) → Agree (Some r) bad
-agree_some r = (λ e. absurd cc, λ f. absurd (f refl))
-
-agree_one : (v : Bool) (r : Refusal) → Agree (cond v None (Some r)) (cond v yes bad)
-agree_one true r = agree_none yes (λ e. cc)
-agree_one false r = agree_some r
-
-agree_two : (v : Bool) (r s : Refusal) → Agree (cond v (Some s) (Some r)) bad
-agree_two true r s = agree_some s
-agree_two false r s = agree_some r
-
 agree-among : (xs : List Attribute) → Agree (refusal_among xs) (skip_among xs)
 agree-among [] = agree_none no (λ e. cc)
 agree-among (a ∷ []) = agree_one (reads_skip a.args) (refusal_at AttrSyntax a)
 agree-among (a ∷ b ∷ xs) = agree_two (reads_skip a.args) (refusal_at AttrSyntax a) (refusal_at (cond (reads_skip b.args) AttrRepeated AttrSyntax) b)
-
--- under a name
-pub unrefused-name : (name : Text) (attrs : List Attribute) → (refusal_among (filter (is_examined name) attrs) ≡ None) ↔ (skip attrs name ≢ bad)
-unrefused-name name attrs = agree-among (filter (is_examined name) attrs)
 
 first_counts : (a : Attribute) (xs : List Attribute) (s : Skipping) → or_else (skip_among (a ∷ xs)) s ≡ skip_among (a ∷ xs)
 first_counts a [] s = elim (reads_skip a.args) as (λ v. or_else (cond v yes bad) s ≡ cond v yes bad) [ true ↦ refl | false ↦ refl ]

@@ -6,7 +6,7 @@ use Rattle.dm_stream.specs.Trees.{Trees, join, join_assoc}
 use Rattle.dm_ast.specs.declared.ty.PathSegment.{PathSegment}
 use Rattle.dm_ast.specs.Tree.{segments_of, segment_view}
 use Rattle.dm_ast.specs.TypeTokens.{spaced, colons, each_segment, segment_trees}
-use Rattle.dm_quote.proofs.EmitSteps.{drop_none, drop_later}
+use Rattle.dm_ast.proofs.Split.{drop_none, drop_later}
 
 split_at : (all : List PathSegment) (x : PathSegment) (i : ℕ) → i < length all → x ≡ get_or all i x → drop i all ≡ x ∷ drop (i + 1) all
 split_at all x i h e = drop-cons all i x h ∙ ap (λ y. y ∷ drop (suc i) all) (sym e) ∙ ap (λ k. x ∷ drop k all) (sym (add-one i))

@@ -1,5 +1,5 @@
 -- Steps of the functions that write tokens.
-use Rattle.std.proofs.Common.{◌≡◌, ℕ, suc, ◌+◌, ◌-◌, ◌<◌, ◌≤◌, List, [], ◌∷◌, map, take, drop, Option, Some, refl, ap, ◌∙◌, arith}
+use Rattle.std.proofs.Common.{◌≡◌, ℕ, ◌-◌, map, Option, Some, ap, ◌∙◌}
 use Rattle.std.specs.declared.boxed.Box.{Box}
 use Rattle.std.specs.declared.alloc.Global.{Global}
 use Rattle.dm_stream.specs.declared.seq.Punctuated.{Punctuated}
@@ -15,23 +15,8 @@ use Rattle.dm_ast.specs.declared.ty.QSelf.{QSelf}
 use Rattle.dm_ast.specs.declared.ty.Bound.TheViews.{out-Path}
 use Rattle.dm_ast.specs.Tree.{TypeTree, some_self, path, bounds_of, segments_of, maybe_arguments_view, bound_view, argument_view, node_view, ty_view, segment_view, path_view}
 use Rattle.dm_ast.specs.TypeTokens.{punct, name, listed, node_trees, type_trees, behind_self_trees, each_segment, each_bound, argument_trees, maybe_angle_trees}
+use Rattle.dm_ast.proofs.Split.{take_more, take_none, drop_more, drop_none, drop_later}
 use Rattle.dm_ast.proofs.View.{view_steps, view_TyNode-Path, view_GenericArgument-Constraint, view-QSelf, view-Path}
-
--- one item of the first `n` is at `i`
-pub take_more : {A : Type 0} (n i : ℕ) (x : A) (xs : List A) → i < n → take (n - i) (x ∷ xs) ≡ x ∷ take (n - (i + 1)) xs
-take_more n i x xs h = let e : n - i ≡ suc (n - (i + 1)) = omega arith in rw e refl
-
-pub take_none : {A : Type 0} (n i : ℕ) (xs : List A) → n ≤ i → take (n - i) xs ≡ []
-take_none n i xs h = let e : n - i ≡ 0 = omega arith in rw e refl
-
-pub drop_more : {A : Type 0} (n i : ℕ) (x : A) (xs : List A) → i < n → drop (n - i) (x ∷ xs) ≡ drop (n - (i + 1)) xs
-drop_more n i x xs h = let e : n - i ≡ suc (n - (i + 1)) = omega arith in rw e refl
-
-pub drop_none : {A : Type 0} (n i : ℕ) (xs : List A) → n ≤ i → drop (n - i) xs ≡ xs
-drop_none n i xs h = let e : n - i ≡ 0 = omega arith in rw e refl
-
-pub drop_later : {A : Type 0} (n i : ℕ) (xs : List A) → n ≤ i → drop (n - (i + 1)) xs ≡ xs
-drop_later n i xs h = let e : n - (i + 1) ≡ 0 = omega arith in rw e refl
 
 -- the tokens of a qualified path
 pub qualified_tokens : (s : Span) (b : Box QSelf Global) (p : Path) →

@@ -1,5 +1,5 @@
 //! What is read has just the tokens that were passed.
-#![tactic(auto, using(crate::proofs::ExactSteps::exact_steps))]
+#![tactic(auto)]
 
 ghost use Rattle.std.specs.Prelude.{◌≡◌, IfOk};
 ghost use Rattle.dm_stream.specs.Cursors.{left, sound};

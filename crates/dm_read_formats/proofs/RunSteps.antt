@@ -1,11 +1,10 @@
 -- Values of which nothing is left open.
-use Rattle.std.proofs.Common.{◌≡◌, ◌+◌, ◌&&◌, ◌||◌, not, nat_eq, Bool, true, false, Some, None, refl, sym, ap, ◌∙◌, subst}
+use Rattle.std.proofs.Common.{◌≡◌, ◌&&◌, ◌||◌, not, nat_eq, Bool, true, false, Some, None, refl, sym, ap, ◌∙◌, subst}
 use Rattle.std.proofs.lemmas.Grind.{common_steps}
 use Rattle.dm_stream.specs.declared.tokens.Punct.{Punct}
 use Rattle.dm_stream.specs.declared.tokens.Token.TheVariants as t
 use Rattle.dm_stream.specs.Trees.{Trees, no_trees, token, group}
 use Rattle.dm_stream.specs.Cursors.{first_punct, first_tree}
-use Rattle.dm_stream.specs.Sizes.{size}
 use Rattle.dm_expr.specs.Cuts.{pair_at}
 use Rattle.dm_expr.specs.Reach.{is_there}
 use Rattle.dm_read.proofs.Seeing.{punct_front}
@@ -58,12 +57,6 @@ pub closed_end : (ts : Trees) → first_tree ts ≡ None → is_closed ts ≡ tr
 closed_end no_trees e = refl
 closed_end (token k us) e = absurd (cc)
 closed_end (group d from inside upto us) e = absurd (cc)
-
-pub tree_size : (ts us vs : Trees) → first_tree ts ≡ Some (vs, us) → size ts ≡ size us + 1
-tree_size no_trees us vs e = absurd (cc)
-tree_size (token k ws) us vs e = ap (λ x. size x + 1) (tree_rest (token k ws) us vs (token k no_trees, ws) e)
-tree_size (group d from inside upto ws) us vs e =
-    ap (λ x. size x + 1) (tree_rest (group d from inside upto ws) us vs (group d from inside upto no_trees, ws) e)
 
 -- ---- runs
 

@@ -1,10 +1,11 @@
 //! Heads: what stands between `impl` and the brace.
 #![tactic(auto, using(crate::proofs::HeadSteps::head_steps))]
 
-ghost use Rattle.std.specs.Prelude.{◌≡◌, true, IfOk, map, option_map};
+ghost use Rattle.std.specs.Prelude.{◌≡◌, true, IfOk, map};
 ghost use Rattle.dm_ast.specs.Tree.{ty_view, path_view};
 ghost use Rattle.dm_ast.specs.Declarations.{param_view, predicate_view};
 ghost use Rattle.dm_output.specs.Views.{assoc_view, item_view, method_view};
+ghost use Rattle.dm_read_paths.specs.Bindings.{path_alone};
 ghost use Rattle.dm_read_decl.specs.ShapeViews.{angled_view, clause_view};
 ghost use Rattle.dm_reread.specs.HeadLeaves as plain;
 ghost use Rattle.dm_reread.specs.ExactLeaves.{exact_head};
@@ -14,7 +15,7 @@ ghost use Rattle.dm_read_heads.specs.Heads.{head_view};
 ghost use Rattle.dm_read_heads.specs.Named.{named_view, behind_view};
 
 use crate::assoc::AssocTypes;
-use dm_ast::{GenericParam, Path, Ty, TyNode, WherePredicate};
+use dm_ast::{GenericParam, Path, Ty, WherePredicate};
 use dm_gather::discard;
 use dm_input::Input;
 use dm_input::join::joined;
@@ -24,6 +25,7 @@ use dm_read::token::{behind, sees_word};
 use dm_read_decl::generics::{generics, where_clause};
 use dm_read_exact::exact::exact;
 use dm_read_leaves::ty::front_type;
+use dm_read_paths::path::path_alone;
 use dm_read_places::place::Place;
 use dm_stream::{Error, Punctuated, Seq};
 use std::alloc::{AllocError, Global};
@@ -154,31 +156,6 @@ fn predicates<'a>(place: &mut Place<'_, 'a>) -> Result<Seq<WherePredicate<'a>>, 
 
 // ---- the type, and the trait
 
-/// The path that a type is.
-#[tactic(auto, using(dm_ast::proofs::View::view_steps))]
-fn path_of<'a>(found: Ty<'a>) -> Option<Path<'a>>
-    ensures { option_map path_view result ≡ plain.path_in (ty_view found.entry) }
-{
-    match found.into_node() {
-        TyNode::Path(qself, path) => match qself {
-            Some(_) => None,
-            None => Some(path),
-        },
-        TyNode::Paren(_) => None,
-        TyNode::Tuple(_) => None,
-        TyNode::Slice(_) => None,
-        TyNode::Array(_, _) => None,
-        TyNode::Reference(_, _, _) => None,
-        TyNode::Pointer(_, _) => None,
-        TyNode::BareFn(_) => None,
-        TyNode::TraitObject(_) => None,
-        TyNode::ImplTrait(_) => None,
-        TyNode::Infer => None,
-        TyNode::Never => None,
-        TyNode::Macro(_, _, _) => None,
-    }
-}
-
 /// A type behind `for`, and the path before it.
 fn type_behind<'a>(path: Path<'a>, place: &mut Place<'_, 'a>) -> Result<Named<'a>, Error>
     ensures { Reads named_view (spec.behind_path (path_view path.entry)) place.old result place.new }
@@ -193,9 +170,9 @@ fn type_behind<'a>(path: Path<'a>, place: &mut Place<'_, 'a>) -> Result<Named<'a
 
 /// The same, where the type before `for` is a path.
 fn implementing<'a>(found: Ty<'a>, place: &mut Place<'_, 'a>) -> Result<Named<'a>, Error>
-    ensures { Reads named_view (spec.type_behind (plain.path_in (ty_view found.entry))) place.old result place.new }
+    ensures { Reads named_view (spec.type_behind (path_alone (ty_view found.entry))) place.old result place.new }
 {
-    match path_of(found) {
+    match path_alone(found) {
         Some(path) => type_behind(path, place),
         None => Err(place.refused()),
     }

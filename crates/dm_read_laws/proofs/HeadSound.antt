@@ -24,6 +24,7 @@ use Rattle.dm_same.specs.SameTypes.{all_same, same_entry}
 use Rattle.dm_read.specs.DeclarationReaders as decl
 use Rattle.dm_read.proofs.Deciding.{Covers, covers_then, covers_none, IsRead, Reader, deep_behind}
 use Rattle.dm_read_paths.specs.WholeReaders.{whole_type, parts}
+use Rattle.dm_read_paths.specs.Bindings.{path_alone}
 use Rattle.dm_type_eq.proofs.Cutting.{cut_end}
 use Rattle.dm_type_eq.proofs.Respelling.{Lowered, lowered_within}
 use Rattle.dm_reread.specs.BareTypes.{bare_type, bare_path}
@@ -33,7 +34,7 @@ use Rattle.dm_reread.specs.Leaves.{Answer}
 use Rattle.dm_reread.specs.Reading as reading
 use Rattle.dm_reread.specs.Items.{HeadTree, between_trees}
 use Rattle.dm_reread.specs.TypeLeaves.{top, read_type}
-use Rattle.dm_reread.specs.HeadLeaves.{read_generics, read_where, path_in, trait_first, predicates_in, head_in, read_named, read_head, are_plain, plain_head, is_some_params, listed, clause_of, trait_spelled, head_spelled, IsHead}
+use Rattle.dm_reread.specs.HeadLeaves.{read_generics, read_where, trait_first, predicates_in, head_in, read_named, read_head, are_plain, plain_head, is_some_params, listed, clause_of, trait_spelled, head_spelled, IsHead}
 use Rattle.dm_reread.specs.ExactLeaves.{passed, has_entries, exact_head}
 use Rattle.dm_reread.specs.ReadBack.{leaf_grammar, leaves, item_grammar, item_leaves}
 use Rattle.dm_reread.proofs.TypeLeaf.{decided_answer, whole_decided}
@@ -115,7 +116,7 @@ record IsPath (x : TypeTree) (p : PathTree) : Type 0 where
   range : Span
   is : x ≡ type_tree (path no_self p) range
 
-is_path : (x : TypeTree) (p : PathTree) → path_in x ≡ Some p → IsPath x p
+is_path : (x : TypeTree) (p : PathTree) → path_alone x ≡ Some p → IsPath x p
 is_path (type_tree (path no_self q) range) p e = record { range = range; is = ap (λ o. type_tree (path no_self o) range) (same_Some q p e) }
 is_path _ p e = absurd (cc)
 
@@ -172,10 +173,10 @@ module _ (ts mid us : Trees) (y : TypeTree) (r : IsRead (λ z. type_spelled z fa
   abbrev behind_for : PathTree → Answer Named
   behind_for p = reading.then (read_type (tail mid)) (λ a. Some ((Some p, a.0), a.1))
 
-  with_trait : sees_word (codes "for") mid ≡ true → reading.then (path_in y) behind_for ≡ Some ((o, x), us) → IsNamed o x ts us
+  with_trait : sees_word (codes "for") mid ≡ true → reading.then (path_alone y) behind_for ≡ Some ((o, x), us) → IsNamed o x ts us
   with_trait f e =
       let w = for_word mid f in
-      then_by {A = PathTree} {B = Named × Trees} (path_in y) behind_for ((o, x), us) (IsNamed o x ts us) e
+      then_by {A = PathTree} {B = Named × Trees} (path_alone y) behind_for ((o, x), us) (IsNamed o x ts us) e
       (λ p h e'. then_by {A = TypeTree × Trees} {B = Named × Trees} (read_type (tail mid)) (λ v. Some ((Some p, v.0), v.1)) ((o, x), us)
       (IsNamed o x ts us) e'
       (λ v i e''.
@@ -184,7 +185,7 @@ module _ (ts mid us : Trees) (y : TypeTree) (r : IsRead (λ z. type_spelled z fa
 
   by_for : trait_first y mid ≡ Some ((o, x), us) → IsNamed o x ts us
   by_for e =
-      cond_some {A = Named × Trees} (sees_word (codes "for") mid) (reading.then (path_in y) behind_for) (Some ((None, y), mid)) ((o, x), us)
+      cond_some {A = Named × Trees} (sees_word (codes "for") mid) (reading.then (path_alone y) behind_for) (Some ((None, y), mid)) ((o, x), us)
       (IsNamed o x ts us) e with_trait (λ f. alone)
 
 named_read : (ts us : Trees) (o : Option PathTree) (x : TypeTree) → read_named ts ≡ Some ((o, x), us) → IsNamed o x ts us

@@ -12,6 +12,7 @@ use Rattle.dm_ast.specs.TypeTokens.{type_trees}
 use Rattle.dm_ast.specs.Declarations.{Listed, ParamTree, lifetime_param, type_param, const_param, PredicateTree}
 use Rattle.dm_same.specs.SameTypes.{all_same, same_token, same_entry}
 use Rattle.dm_output.specs.Tokens.{path_expr_trees}
+use Rattle.dm_read_paths.specs.Bindings.{path_alone}
 use Rattle.dm_reread.specs.BareTypes.{bare_type, bare_path}
 use Rattle.dm_reread.specs.Bare.{bare_param, bare_predicate}
 use Rattle.dm_reread.specs.BareReading.{bare_pair, bare_answer, bare_qualified, bare_head, NaturalLeaves, NaturalItems}
@@ -21,7 +22,7 @@ use Rattle.dm_reread.specs.Items.{HeadTree, between_trees}
 use Rattle.dm_reread.specs.TypeLeaves.{read_type}
 use Rattle.dm_reread.specs.PathLeaves.{read_qualified}
 use Rattle.dm_reread.specs.RunLeaves.{read_run, is_closed}
-use Rattle.dm_reread.specs.HeadLeaves.{read_generics, read_where, path_in, head_in, read_named, read_head, is_plain, is_lifetime, are_plain, plain_head}
+use Rattle.dm_reread.specs.HeadLeaves.{read_generics, read_where, head_in, read_named, read_head, is_plain, is_lifetime, are_plain, plain_head}
 use Rattle.dm_reread.specs.ExactLeaves.{passed, has_entries, exactly, closed_run}
 use Rattle.dm_reread.specs.ReadBack.{leaves, item_leaves}
 use Rattle.dm_reread.proofs.BareTypeTokens.{unplaced-join, type-bare}
@@ -86,15 +87,15 @@ between_bare h = simp (params-bare, trait-bare, type-bare, where-bare, unplaced-
 
 -- ---- heads
 
-path_in_bare : (x : TypeTree) → path_in (bare_type x) ≡ option_map bare_path (path_in x)
-path_in_bare (type_tree (path no_self p) range) = refl
-path_in_bare _ = refl
+path_alone_bare : (x : TypeTree) → path_alone (bare_type x) ≡ option_map bare_path (path_alone x)
+path_alone_bare (type_tree (path no_self p) range) = refl
+path_alone_bare _ = refl
 
 abbrev bare_named : Option PathTree × TypeTree → Option PathTree × TypeTree
 bare_named = both (option_map bare_path) bare_type
 
 named_natural : (ts : Trees) → read_named (unplaced ts) ≡ bare_answer bare_named (read_named ts)
-named_natural ts = simp (type_natural, path_in_bare, tail_bare, word_blind, passing)
+named_natural ts = simp (type_natural, path_alone_bare, tail_bare, word_blind, passing)
 
 head_in_bare : (ps : Listed ParamTree) (x : Option PathTree × TypeTree) (c : Option (Listed PredicateTree)) →
     head_in (bare_items_of bare_param ps) (bare_named x) (option_map (bare_items_of bare_predicate) c) ≡ bare_head (head_in ps x c)

@@ -189,10 +189,6 @@ reads_within v ts =
     ((read_word (codes "in") v next read_plain v) ts)
     (reads_next (keyword v (codes "in")) (plain_path v) (read_word (codes "in") v) (read_plain v) (reads_word (codes "in") v) (reads_plain v) ts))))
 
--- a restriction that is spelled is seen
-word_whole : (v : Where) (word : List ℕ) (ts : Trees) (m : Marks) → keyword v word ts no_trees m → (range : Span) × (ts ≡ token (t.Ident (the_word word range)) no_trees)
-word_whole v word ts m s = (s.range, s.there.spelled)
-
 whole_by : (range : Span) (rest : Trees) → behind_plain rest ≡ Some no_trees → is_restriction (token (t.Ident (the_word (codes "in") range)) rest) ≡ true
 whole_by range no_trees e = absurd (cc)
 whole_by range (token k rest) e = ap is_whole e

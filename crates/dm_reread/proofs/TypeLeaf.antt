@@ -1,14 +1,13 @@
 -- A type comes back from its tokens.
-use Rattle.std.proofs.Common.{◌≡◌, ℕ, Bool, true, false, List, codes, Some, None, Ok, Err, T, refl, ◌∙◌, subst, arith}
+use Rattle.std.proofs.Common.{◌≡◌, false, Some, None, Ok, Err, T, refl, ◌∙◌, subst, arith}
 use Rattle.dm_stream.specs.declared.tokens.Span.{Span}
 use Rattle.dm_stream.specs.declared.error.Kind.{Kind}
 use Rattle.dm_stream.specs.declared.error.Kind.TheVariants.{TooDeep, Syntax}
 use Rattle.dm_stream.specs.Trees.{Trees, no_trees, join, join-no_trees}
-use Rattle.dm_stream.specs.Layout.{nowhere}
-use Rattle.dm_ast.specs.Tree.{TypeTree, type_tree, TypeNode, pointer, trait_object, impl_trait, path, no_self, some_self, PathTree, BoundTrees, no_bounds, bound_then}
-use Rattle.dm_ast.specs.Spelling.{Where, deeper, Marks, Spelling, first_too_deep, ◌then◌, keyword}
-use Rattle.dm_ast.specs.TypeGrammar.{type_spelled, node, path_spelled, some_bounds}
-use Rattle.dm_ast.specs.TypeTokens.{type_trees, path_trees}
+use Rattle.dm_ast.specs.Tree.{TypeTree}
+use Rattle.dm_ast.specs.Spelling.{Marks, Spelling, first_too_deep}
+use Rattle.dm_ast.specs.TypeGrammar.{type_spelled}
+use Rattle.dm_ast.specs.TypeTokens.{type_trees}
 use Rattle.dm_ast.specs.Readers.{Outcome}
 use Rattle.dm_read.proofs.Deciding.{IsRefused, Decides, Reader}
 use Rattle.dm_read_paths.specs.WholeReaders.{whole_type}
@@ -18,6 +17,7 @@ use Rattle.dm_type_eq.specs.Spelled.{IsSpelled}
 use Rattle.dm_type_eq.proofs.Cutting.{cut_end}
 use Rattle.dm_type_eq.proofs.Respelling.{Again, lowered_within}
 use Rattle.dm_type_eq.proofs.RespelledTypes.{again_type}
+use Rattle.dm_type_eq.proofs.SameSpelled.{type_whole}
 use Rattle.dm_reread.specs.Next.{next}
 use Rattle.dm_reread.specs.Leaves.{ends_type}
 use Rattle.dm_reread.specs.TypeLeaves.{top, answer_of, read_type, IsType}
@@ -38,39 +38,6 @@ pub decided_answer : {A : Type 0} (S : A → Spelling) (ts others : Trees) (x : 
     first_too_deep m ≡ None → answer_of o ≡ Some (x, others)
 decided_answer S ts others x m (Ok p) h s w = let e = h.only x others m s in rw (e.value, e.left) refl
 decided_answer S ts others x m (Err r) h s w = absurd (refused_not S ts others x m r.kind r.span h s w)
-
--- ---- one bound and nothing behind it is also a list of bounds
-
-other_rest : {A B C : Spelling} (ts o : Trees) (m : Marks) → (s : (A then B) ts o m) → C s.middle o s.rest_marks → (A then C) ts o m
-other_rest ts o m s c =
-    record { middle = s.middle; first_marks = s.first_marks; rest_marks = s.rest_marks; first = s.first; rest = c; marks = s.marks }
-
-bounds_whole : (bs : BoundTrees) (w : Where) (ts : Trees) (m : Marks) → some_bounds bs true w ts no_trees m →
-    some_bounds bs false w ts no_trees m
-bounds_whole no_bounds w ts m s = absurd s.fact
-bounds_whole (bound_then b no_bounds) w ts m s = other_rest ts no_trees m s (record { part = s.rest.part; fact = refl })
-bounds_whole (bound_then b (bound_then c bs)) w ts m s = let e = s.rest.fact in absurd (cc)
-
--- behind `dyn` or `impl`
-behind_word : (bs : BoundTrees) (word : List ℕ) (w : Where) (ts : Trees) (m : Marks) →
-    (keyword w word then some_bounds bs true (deeper w)) ts no_trees m →
-    (keyword w word then some_bounds bs false (deeper w)) ts no_trees m
-behind_word bs word w ts m s = other_rest ts no_trees m s (bounds_whole bs (deeper w) s.middle s.rest_marks s.rest)
-
-node_whole : (n : TypeNode) (w : Where) (ts : Trees) (m : Marks) → node n true w ts no_trees m → node n false w ts no_trees m
-node_whole (trait_object bs u) w ts m s = record { fact = s.fact; part = behind_word bs (codes "dyn") w ts m s.part }
-node_whole (impl_trait bs u) w ts m s = record { fact = s.fact; part = behind_word bs (codes "impl") w ts m s.part }
-node_whole (pointer true t) w ts m s = s
-node_whole (pointer false t) w ts m s = s
-node_whole (path no_self p) w ts m s = s
-node_whole (path (some_self t n) p) w ts m s = s
-node_whole _ w ts m s = s
-
-type_whole : (t : TypeTree) (single : Bool) (w : Where) (ts : Trees) (m : Marks) → type_spelled t single w ts no_trees m →
-    type_spelled t false w ts no_trees m
-type_whole t false w ts m s = s
-type_whole (type_tree n range) true w ts m s =
-    record { part = record { fact = s.part.fact; part = node_whole n w ts m s.part.part }; is_range = s.is_range }
 
 -- ---- a type's own tokens spell it
 
@@ -97,13 +64,6 @@ own_like t h rest stop =
 
 pub own_type : (t : TypeTree) → IsType t → (rest : Trees) → Stop rest → IsOwn t rest
 own_type t h rest stop = subst (λ u. IsOwn u rest) (h.spelled.same ∙ h.unplaced) (own_like t h.spelled rest stop)
-
--- the same of a path that is a type
-pub own_path : (p : PathTree) → IsType (type_tree (path no_self p) nowhere) → (rest : Trees) → Stop rest →
-    (m : Marks) × path_spelled p top (join (path_trees nowhere p) rest) rest m × (first_too_deep m ≡ None)
-own_path p h rest stop =
-    let own : IsOwn (type_tree (path no_self p) nowhere) rest = own_type (type_tree (path no_self p) nowhere) h rest stop in
-    (own.marks, own.spelled.part.part, own.within)
 
 -- ---- and so it is read back
 

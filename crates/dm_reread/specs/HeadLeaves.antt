@@ -1,13 +1,14 @@
 -- The reader of what stands between `impl` and the brace, by the readers of declarations. And which heads it reads back.
 use Rattle.std.specs.Prelude.{◌≡◌, Bool, true, false, not, ◌&&◌, ◌||◌, cond, codes, List, [], ◌∷◌, Option, Some, None}
 use Rattle.dm_stream.specs.Trees.{Trees, no_trees}
-use Rattle.dm_ast.specs.Tree.{TypeTree, type_tree, path, no_self, PathTree}
+use Rattle.dm_ast.specs.Tree.{TypeTree, PathTree}
 use Rattle.dm_ast.specs.Declarations.{Listed, ParamTree, lifetime_param, type_param, const_param, PredicateTree}
 use Rattle.dm_ast.specs.Spelling.{Where, Marks, Spelling, first_too_deep, sees_word, Nothing, ◌then◌, keyword}
 use Rattle.dm_ast.specs.TypeGrammar.{type_spelled, path_spelled}
 use Rattle.dm_ast.specs.DeclarationGrammar.{generics, where_clause}
 use Rattle.dm_ast.specs.Readers.{tail}
 use Rattle.dm_read.specs.DeclarationReaders as decl
+use Rattle.dm_read_paths.specs.Bindings.{path_alone}
 use Rattle.dm_read_paths.specs.WholeReaders.{parts}
 use Rattle.dm_reread.specs.Leaves.{Answer}
 use Rattle.dm_reread.specs.Reading as reading
@@ -22,16 +23,11 @@ read_generics ts = answer_of (decl.read_generics parts top ts)
 abbrev pub read_where : Trees → Answer (Option (Listed PredicateTree))
 read_where ts = answer_of (decl.read_where parts top ts)
 
--- the path that a type is
-abbrev pub path_in : TypeTree → Option PathTree
-path_in (type_tree (path no_self p) range) = Some p
-path_in _ = None
-
 -- a trait is a path before `for`
 abbrev pub trait_first : TypeTree → Trees → Answer (Option PathTree × TypeTree)
 trait_first x ts =
     cond (sees_word (codes "for") ts)
-    (reading.then (path_in x) (λ p. reading.then (read_type (tail ts)) (λ a. Some ((Some p, a.0), a.1))))
+    (reading.then (path_alone x) (λ p. reading.then (read_type (tail ts)) (λ a. Some ((Some p, a.0), a.1))))
     (Some ((None, x), ts))
 
 -- without `where` there are no predicates

@@ -1,5 +1,5 @@
 -- The lines of a sample, and the words that ask for one.
-use Rattle.std.proofs.Common.{◌≡◌, ℕ, ◌≤◌, ◌<◌, ◌+◌, List, [], ◌∷◌, ◌++◌, Option, map, length, drop, get_or, String, string_bytes, codes, inl, inr, refl, sym, ap, subst, ◌∙◌, arith}
+use Rattle.std.proofs.Common.{◌≡◌, ℕ, ◌≤◌, ◌<◌, ◌+◌, List, [], ◌∷◌, ◌++◌, map, length, drop, get_or, String, codes, inl, inr, refl, sym, ap, subst, ◌∙◌, arith}
 use Rattle.std.proofs.lemmas.List.{append-nil, append_assoc, drop_all, drop_more}
 use Rattle.std.proofs.lemmas.Fmt.{decimal_injective}
 use Rattle.std.specs.Prelude.{◌↔◌}
@@ -9,9 +9,7 @@ use Rattle.dm_operators.specs.Table.{operator_view}
 use Rattle.dm_sample.specs.Samples.{IsSample}
 use Rattle.dm_sample.specs.Summaries.{told_line}
 use Rattle.dm_sample.specs.declared.summary.Told.{Told}
-use Rattle.dm_run.specs.Runs.{Ran}
-use Rattle.dm_run.specs.Sampled.{AreLines, AreWords, IsTold, Sampled, names_of}
-use Rattle.dm_outside.specs.declared.exit.Status.{Status}
+use Rattle.dm_run.specs.Sampled.{AreLines, AreWords, IsTold, names_of}
 use Rattle.dm_outside.specs.declared.exit.Status.TheVariants.{Usage}
 
 -- ---- lines
@@ -19,10 +17,6 @@ use Rattle.dm_outside.specs.declared.exit.Status.TheVariants.{Usage}
 -- these lines of all of the names stand in front of those of some that are left
 abbrev pub IsFront : List ℕ → List ℕ → List (List ℕ) → List (List ℕ) → Type 0
 IsFront text front left all = (rest : List ℕ) → AreLines left text rest → AreLines all text (front ++ rest)
-
--- at first none are written
-pub no_front : (text : List ℕ) (all : List (List ℕ)) → IsFront text [] all all
-no_front text all = λ rest h. h
 
 -- one more is written
 pub one_line_more : (text front : List ℕ) (name : List ℕ) (left all : List (List ℕ)) (t : Told) → IsTold name text t →
@@ -60,27 +54,12 @@ all_operators text lines before os i behind now = (
 
 -- ---- words
 
--- no words are none that ask for a sample
-pub empty_asks : (words : List (String Global)) (n : ℕ) → words ≡ [] → IsSample words n → ⊥
-empty_asks words n none s = let both : [] ≡ codes "sample" ∷ s.size ∷ [] = sym (ap (map string_bytes) none) ∙ s.words_are in cc
-
 -- words ask for one sample
 pub one_sample : (words : List (String Global)) (m n : ℕ) → IsSample words m → IsSample words n → n ≡ m
 one_sample words m n a b =
     let both : codes "sample" ∷ b.size ∷ [] ≡ codes "sample" ∷ a.size ∷ [] = sym b.words_are ∙ a.words_are in
     let size : b.size ≡ a.size = cc in
     decimal_injective n m (omega (arith, b.is_size.most)) (omega (arith, a.is_size.most)) (sym b.is_size.is ∙ size ∙ a.is_size.is)
-
--- a run without words ends with no word on them
-pub usage-ran : (words : List (String Global)) (l l' w w' : Option (List ℕ)) (status : Status) → words ≡ [] → Ran l l' w w' status →
-    status ≡ Usage ↔ ¬ (AreWords words)
-usage-ran words l l' w w' status none ran = ((λ is. absurd (subst (Ran l l' w w') is ran)), (λ unknown. absurd (unknown (inl none))))
-
--- and so does one that is asked for a sample
-pub usage-sampled : (words : List (String Global)) (n : ℕ) (w w' : Option (List ℕ)) (status : Status) → IsSample words n → Sampled n w w' status →
-    status ≡ Usage ↔ ¬ (AreWords words)
-usage-sampled words n w w' status asked ran =
-    ((λ is. absurd (subst (Sampled n w w') is ran)), (λ unknown. absurd (unknown (inr (n, asked)))))
 
 -- other words are unknown
 pub usage-unknown : (words : List (String Global)) → (words ≡ [] → ⊥) → ((n : ℕ) → ¬ (IsSample words n)) → Usage ≡ Usage ↔ ¬ (AreWords words)

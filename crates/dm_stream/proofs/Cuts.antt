@@ -1,10 +1,10 @@
 -- Trees that are taken one by one.
-use Rattle.std.specs.Prelude.{◌≡◌, ℕ, zero, suc, ◌<◌, ◌≤◌, ◌+◌, ◌-◌, Option, None, Some, List, [], ◌++◌, length, refl}
+use Rattle.std.specs.Prelude.{◌≡◌, ℕ, zero, suc, ◌<◌, ◌≤◌, ◌+◌, ◌-◌, Option, None, Some, List, ◌++◌, length, refl}
 use Rattle.std.proofs.Common.{ap, ◌∙◌, sym, subst, take, drop, arith, length-drop, length-take, take-append-drop}
 use Rattle.std.proofs.Math.Seq.{take-add, drop-append-add, take-length}
 use Rattle.dm_stream.specs.declared.tokens.Entry.{Entry}
 use Rattle.dm_stream.specs.Trees.{Trees, no_trees, token, group, join, unflatten, join-no_trees}
-use Rattle.dm_stream.specs.Cursors.{first_tree, split_trees, before, IsFlat, IsTreeLen, IsCutAfter}
+use Rattle.dm_stream.specs.Cursors.{first_tree, split_trees, before, IsTreeLen, IsCutAfter}
 use Rattle.dm_stream.proofs.Trees.{flat-append, unflatten-append}
 
 pub drop-more : {X : Type 0} (i n : ℕ) (xs : List X) → i ≤ length xs → drop (i + n) xs ≡ drop n (drop i xs)
@@ -30,18 +30,6 @@ split_trees-step n no_trees a b h = absurd (cc)
 split_trees-step n (token k r) a b h = of_first (token k no_trees) r a b n (cc)
 split_trees-step n (group d x i u r) a b h = of_first (group d x i u no_trees) r a b n (cc)
 
-before-none : (o : Option (Trees × Trees)) → o ≡ before no_trees o
-before-none None = refl
-before-none (Some r) = refl
-
-pub cut-start : (es : List Entry) (count : ℕ) → IsFlat es → IsCutAfter es count count 0
-cut-start es count h = record {
-  fits = omega arith;
-  front_is_flat = refl;
-  back_is_flat = h;
-  go_on = before-none (split_trees count (unflatten es));
-}
-
 pub cut-step : (es : List Entry) (count more at n : ℕ) → IsCutAfter es count (suc more) at → IsTreeLen (drop at es) n →
     IsCutAfter es count more (at + n)
 cut-step es count more at n c t =
@@ -63,11 +51,6 @@ cut-step es count more at n c t =
 pub cut-end : (es : List Entry) (count at : ℕ) → IsCutAfter es count 0 at →
     split_trees count (unflatten es) ≡ Some (unflatten (take at es), unflatten (drop at es))
 cut-end es count at c = c.go_on ∙ ap (λ t. Some (t, unflatten (drop at es))) (join-no_trees (unflatten (take at es)))
-
-pub cut-none : (es : List Entry) (count more at : ℕ) → IsCutAfter es count more at → 0 < more → drop at es ≡ [] →
-    split_trees count (unflatten es) ≡ None
-cut-none es count zero at c p e = absurd (omega arith)
-cut-none es count (suc m) at c p e = c.go_on ∙ ap (λ l. before (unflatten (take at es)) (split_trees (suc m) (unflatten l))) e
 
 -- `&es[at..]` as a proof sees it
 pub rest_whole : {X : Type 0} (xs : List X) (at : ℕ) → take (length xs - at) (drop at xs) ≡ drop at xs

@@ -147,11 +147,6 @@ tokens no_trees k rest h = absurd (cc)
 tokens (token t us) k rest h = (us, cc)
 tokens (group e f i u o) k rest h = absurd (cc)
 
-pub tree_len-token : (es rest : List Entry) (k : Token) → flatten (unflatten es) ≡ es → es ≡ entry.Token k ∷ rest → IsTreeLen es 1
-tree_len-token es rest k h e =
-    let o : (us : Trees) × (unflatten es ≡ token k us) = tokens (unflatten es) k rest (h ∙ e) in
-    seam (token k no_trees) o.0 es 1 h o.1 refl (omega arith) refl
-
 pub tree_len-group : (d : Delim) (from : Span) (n : ℕ) (es rest : List Entry) → flatten (unflatten es) ≡ es →
     es ≡ entry.Open d from n ∷ rest → IsTreeLen es (n + 1)
 tree_len-group d from n es rest h e =

@@ -137,9 +137,6 @@ pub and_kept : (x y z : Bool) → (y ≡ false → z ≡ false) → (x && y) ≡
 and_kept true y z f h = f h
 and_kept false y z f h = refl
 
-pub unseen_if : {p : Trees → Bool} (b : Bool) → Unseen p → Unseen (λ ts. b && p ts)
-unseen_if {p} b f us ts k h = and_kept b (p ts) (p us) (f us ts k) h
-
 pub unseen_or : {p q : Trees → Bool} → Unseen p → Unseen q → Unseen (λ ts. p ts || q ts)
 unseen_or {p} {q} f g us ts k h = let e = or_parts (p ts) (q ts) h in or_from (p us) (q us) (f us ts k e.0) (g us ts k e.1)
 

@@ -61,7 +61,7 @@ node_whole (path no_self p) w ts m s = s
 node_whole (path (some_self t n) p) w ts m s = s
 node_whole _ w ts m s = s
 
-type_whole : (t : TypeTree) (single : Bool) (w : Where) (ts : Trees) (m : Marks) → type_spelled t single w ts no_trees m → type_spelled t false w ts no_trees m
+pub type_whole : (t : TypeTree) (single : Bool) (w : Where) (ts : Trees) (m : Marks) → type_spelled t single w ts no_trees m → type_spelled t false w ts no_trees m
 type_whole t false w ts m s = s
 type_whole (type_tree n range) true w ts m s =
     record { part = record { fact = s.part.fact; part = node_whole n w ts m s.part.part }; is_range = s.is_range }

@@ -6,11 +6,11 @@ use Rattle.std.specs.Prelude.{IsErrAnd}
 use denote.Ref.{Bor}
 use Rattle.dm_stream.specs.declared.tokens.Span.{Span}
 use Rattle.dm_stream.specs.declared.tokens.Entry.{Entry}
+use Rattle.dm_ast.proofs.Split.{take_more, take_none}
 use Rattle.dm_type_levels.specs.Passing.{pass, Passes}
 use Rattle.dm_type_levels.specs.TypeLevels.{grouped_levels, spaced_levels}
 use Rattle.dm_type_levels.proofs.Grouped.{pass_next}
 use Rattle.dm_type_levels.proofs.TypePasses.{passes_next, pass_stops, passes_failed}
-use Rattle.dm_type_levels.proofs.TypeSteps.{take_more, take_none}
 
 -- ---- two parts, or three
 

@@ -24,12 +24,12 @@ use Rattle.dm_ast.specs.declared.ty.TraitBound.{TraitBound}
 use Rattle.dm_ast.specs.declared.ty.Ty.{Ty}
 use Rattle.dm_ast.specs.declared.ty.Bound.TheViews.{out-Path, out-TraitBound, out-BareFn}
 use Rattle.dm_ast.specs.Tree.{path, some_self, some_type, maybe_type, inputs_of, segments_of, arguments_of, bounds_of, maybe_self_view, bound_view, argument_view, node_view, fn_view, input_view, segment_view, path_view, trait_view, ty_view}
+use Rattle.dm_ast.proofs.Split.{drop_none, drop_later}
 use Rattle.dm_ast.proofs.View.{view_TyNode-Path, view_GenericArgument-AssocTy, view_GenericArgument-AssocConst, view_GenericArgument-Constraint, view-Path, view-TraitBound, view-BareFn, view-some_self}
 use Rattle.dm_type_levels.specs.Passing.{pass, pass_then, Passes, given}
 use Rattle.dm_type_levels.specs.TypeLevels.{two, grouped_levels, spaced_levels, listed_levels, angle_levels, for_levels, const_levels, abi_levels, as_levels, bare_levels, type_levels, node_levels, each_bound, trait_bound_levels, fn_levels, each_input, output_levels, path_levels, each_segment, segment_levels, each_argument, argument_levels}
 use Rattle.dm_type_levels.proofs.Passes.{pass_both}
 use Rattle.dm_type_levels.proofs.Grouped.{pass_next, passes_as, passes_group}
-use Rattle.dm_type_levels.proofs.TypeSteps.{drop_none, drop_later}
 
 -- ---- steps in general
 

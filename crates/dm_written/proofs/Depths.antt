@@ -87,12 +87,6 @@ within_join n d no_trees us h k = k
 within_join n d (token j rest) us h k = (h.0, within_join n d rest us h.1 k)
 within_join n d (group e from inside upto rest) us h k = (h.0, h.1, within_join n d rest us h.2 k)
 
-pub within_more : (n m d : ℕ) → n ≤ m → (ts : Trees) → IsWithin n d ts → IsWithin m d ts
-within_more n m d le no_trees h = tt
-within_more n m d le (token j rest) h = (omega (arith, le, h.0), within_more n m d le rest h.1)
-within_more n m d le (group e from inside upto rest) h =
-    (omega (arith, le, h.0), within_more n m (suc d) le inside h.1, within_more n m d le rest h.2)
-
 -- one group around all of them
 pub within_deeper : (n m d : ℕ) → n < m → (ts : Trees) → IsWithin n d ts → IsWithin m (suc d) ts
 within_deeper n m d le no_trees h = tt

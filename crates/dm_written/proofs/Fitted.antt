@@ -1,5 +1,5 @@
 -- Trees that fit in a text by what they are made of.
-use Rattle.std.specs.Prelude.{◌≡◌, ℕ, ◌-◌, ◌<◌, ◌≤◌, Bool, true, false, not, List, [], ◌∷◌, map, refl}
+use Rattle.std.specs.Prelude.{◌≡◌, ℕ, ◌-◌, ◌<◌, Bool, true, false, not, List, [], ◌∷◌, map, refl}
 use Rattle.std.proofs.Common.{arith}
 use Rattle.std.proofs.lemmas.Bool.{and_from}
 use Rattle.dm_stream.specs.declared.tokens.Delim.{Delim}
@@ -18,14 +18,7 @@ use Rattle.dm_lexer.proofs.Writables.{writable-join, writable-none, writable-gro
 use Rattle.dm_ast.specs.TypeTokens.{one, name, literal, lifetime, grouped, given, spaced}
 use Rattle.dm_output.specs.Tokens.{punct, comma, colon, semicolon, assigns, joint, word, ended, in_turn}
 use Rattle.dm_written.specs.Fitting.{Fits, Each}
-use Rattle.dm_written.proofs.Depths.{shallow_from, within_from, within_join, within_more, within_deeper}
-
--- where more groups may stand around
-pub fits_more : (n m : ℕ) {ts : Trees} → n ≤ m → Fits n ts → Fits m ts
-fits_more n m {ts} le h = record {
-  writable = h.writable;
-  shallow = shallow_from m ts (within_more n m 0 le ts (within_from n ts h.shallow));
-}
+use Rattle.dm_written.proofs.Depths.{shallow_from, within_from, within_join, within_deeper}
 
 -- ---- no trees, one list behind another, and a group
 

@@ -10,7 +10,8 @@ use Rattle.dm_levels.specs.Levels.{opaque_levels, ended_levels, list_levels, exp
 use Rattle.dm_type_levels.specs.Passing.{given}
 use Rattle.dm_type_levels.specs.TypeLevels.{grouped_levels, spaced_levels, path_expr_levels}
 use Rattle.dm_type_levels.proofs.TypePasses.{passes_equal, passes_next}
-use Rattle.dm_levels.proofs.ExprPasses.{first_stops, second_stops, third_passes, expr_shown, expr_passes, first_passes, first_fails, left_passes, left_fails}
+use Rattle.dm_type_levels.proofs.PartPasses.{first_stops, second_stops, third_passes}
+use Rattle.dm_levels.proofs.ExprPasses.{expr_shown, expr_passes, first_passes, first_fails, left_passes, left_fails}
 use Rattle.dm_levels.proofs.expr.+expr.Goals as goal
 
 abbrev chain_levels : ℕ → List Expr → List ℕ

@@ -9,7 +9,7 @@ use Rattle.dm_levels.specs.Levels.{ended_levels, binding_levels, pattern_levels,
 use Rattle.dm_type_levels.specs.Passing.{given}
 use Rattle.dm_type_levels.specs.TypeLevels.{grouped_levels, path_levels}
 use Rattle.dm_type_levels.proofs.TypePasses.{passes_equal, passes_next}
-use Rattle.dm_levels.proofs.ExprPasses.{first_stops, second_stops, third_passes}
+use Rattle.dm_type_levels.proofs.PartPasses.{first_stops, second_stops, third_passes}
 use Rattle.dm_levels.proofs.pattern.+pattern.Goals as goal
 
 pattern_shown : (k : ℕ) (x y : Pattern) (v : PatternTree) → x ≡ y → pattern_view y ≡ v → pattern_levels k (pattern_view x) ≡ pattern_levels

@@ -2,10 +2,11 @@ use Rattle.std.proofs.Common.{arith, ◌∙◌}
 use Rattle.std.proofs.lemmas.List.{drop_all, drop_more, get_or_default, get_or_read}
 use Rattle.std.proofs.lemmas.Bool.Decides.{nat_tests}
 use Rattle.dm_stream.specs.Trees.{join_assoc, join-no_trees}
+use Rattle.dm_ast.proofs.Split.{take_more, take_none}
 use Rattle.dm_ast.proofs.View.{view-Ty, view_TyNode-Paren, view_TyNode-Tuple, view_TyNode-Slice, view_TyNode-Array, view_TyNode-Reference, view_TyNode-Pointer, view_TyNode-BareFn, view_TyNode-TraitObject, view_TyNode-ImplTrait, view_TyNode-Infer, view_TyNode-Never, view_TyNode-Path, view_TyNode-Macro, view_Bound-Lifetime, view_Bound-Trait, view-TraitBound, view-BareFn, view-FnArg, view-Path, view-PathSegment, view_PathArguments-Absent, view_PathArguments-Angle, view_PathArguments-Paren, view_GenericArgument-Lifetime, view_GenericArgument-Ty, view_GenericArgument-Const, view_GenericArgument-AssocTy, view_GenericArgument-AssocConst}
 use Rattle.dm_quote.proofs.EmitArguments.{constraint_none, constraint_some}
 use Rattle.dm_quote.proofs.EmitLater.{later_kept}
-use Rattle.dm_quote.proofs.EmitSteps.{take_more, take_none, qualified_tokens}
+use Rattle.dm_quote.proofs.EmitSteps.{qualified_tokens}
 use Rattle.dm_quote.proofs.emit.+emit.Goals as goal
 
 pub write_type-returns : goal.write_type-returns
