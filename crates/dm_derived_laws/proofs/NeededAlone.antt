@@ -23,7 +23,7 @@ use Rattle.dm_ast.specs.Readers.{tail}
 use Rattle.dm_ast.specs.Parsed.{SpelledBy}
 use Rattle.dm_output.specs.Values.{Case, cases, field_list}
 use Rattle.dm_read.proofs.Tokens.{word_is}
-use Rattle.dm_reread.specs.BareTypes.{bare_stream, bare_ident, bare_abi, bare_inputs, bare_maybe_type, bare_lifetimes, bare_plain, bare_type, bare_path}
+use Rattle.dm_type_eq.specs.Unplaced.{unplaced_abi, unplaced_ident, unplaced_inputs, unplaced_lifetimes, unplaced_maybe_type, unplaced_path, unplaced_plain, unplaced_stream, unplaced_type}
 use Rattle.dm_reread.specs.Bare.{bare_listed, bare_predicate}
 use Rattle.dm_reread.specs.TypeLeaves.{top}
 use Rattle.dm_reread.proofs.HeadLeaf.{first_within, rest_within}
@@ -37,7 +37,7 @@ use Rattle.dm_derived_laws.proofs.BeforeColon.{Gone, colon_before, go_type}
 
 -- a path that its own tokens spell
 abbrev pub PathAlone : PathTree → Type 0
-PathAlone p = parts.Alone (path_spelled (bare_path p)) top (spell.path_trees nowhere (bare_path p))
+PathAlone p = parts.Alone (path_spelled (unplaced_path p)) top (spell.path_trees nowhere (unplaced_path p))
 
 -- ---- no `for` in front
 
@@ -110,13 +110,13 @@ type_begins (type_tree (macro_type p d o) r) single w ts others m s h =
 
 -- the trait's tokens, as those of bounds
 abbrev trait_only : PathTree → Trees
-trait_only p = join (join (spell.path_trees nowhere (bare_path p)) no_trees) no_trees
+trait_only p = join (join (spell.path_trees nowhere (unplaced_path p)) no_trees) no_trees
 
 trait_stands : (p : PathTree) → PathAlone p → Stands (bound_list top (bare_listed (only_trait p))) (trait_only p) no_trees
 trait_stands p h =
-    let own : Trees = spell.path_trees nowhere (bare_path p) in
-    let b = path_begins (bare_path p) top own no_trees h.marks h.spelled in
-    let x : Stands (path_spelled (bare_path p) top) own no_trees = record { marks = h.marks; spelled = h.spelled; within = h.within } in
+    let own : Trees = spell.path_trees nowhere (unplaced_path p) in
+    let b = path_begins (unplaced_path p) top own no_trees h.marks h.spelled in
+    let x : Stands (path_spelled (unplaced_path p) top) own no_trees = record { marks = h.marks; spelled = h.spelled; within = h.within } in
     stands_as {us = own} (join-no_trees (join own no_trees) ∙ join-no_trees own)
     (stands_then (stands_then (none_stands (sees 63) own b.0) (stands_then (none_stands (sees_word (codes "for")) own b.1) x))
     (none_stands (sees 43) no_trees refl))
@@ -130,15 +130,15 @@ type_before x h more =
 
 -- ---- a type that no `for` stands in front of
 
-plain_alone : (p : PathTree) (x : TypeTree) → PathAlone p → TypeAlone (bare_type x) → starts_for (bare_type x) ≡ false →
+plain_alone : (p : PathTree) (x : TypeTree) → PathAlone p → TypeAlone (unplaced_type x) → starts_for (unplaced_type x) ≡ false →
     PredicateAlone (bare_predicate (type_predicate None x (only_trait p)))
 plain_alone p x a h e =
-    let own : Trees = spell.type_trees (bare_type x) in
+    let own : Trees = spell.type_trees (unplaced_type x) in
     let more : Trees = trait_only p in
     let all : Trees = join own (colon_before more) in
-    let s = type_before (bare_type x) h more in
+    let s = type_before (unplaced_type x) h more in
     let y : Stands (predicate (bare_predicate (type_predicate None x (only_trait p))) top) all no_trees =
-    stands_then (none_stands (sees_word (codes "for")) all (type_begins (bare_type x) false top all (colon_before more) s.marks s.spelled e))
+    stands_then (none_stands (sees_word (codes "for")) all (type_begins (unplaced_type x) false top all (colon_before more) s.marks s.spelled e))
     (stands_then s (stands_then (colon_stands top more refl) (trait_stands p a))) in
     record { marks = y.marks; spelled = y.spelled; within = y.within }
 
@@ -274,14 +274,14 @@ range_left w m a k h e x =
 
 function_alone : (p : PathTree) (ls : _) (b : Bool) (abi : Option (Option Literal)) (is : InputTrees) (u : Bool) (out : MaybeType) (range : Span) →
     PathAlone p →
-    TypeAlone (bare_type (type_tree (bare_fn (fn_tree (Some ls) b abi is u out)) range)) →
+    TypeAlone (unplaced_type (type_tree (bare_fn (fn_tree (Some ls) b abi is u out)) range)) →
     PredicateAlone (bare_predicate (bounded p (type_tree (bare_fn (fn_tree (Some ls) b abi is u out)) range)))
 function_alone p ls b abi is u out range a h =
-    let x : TypeTree = bare_type (type_tree (bare_fn (fn_tree (Some ls) b abi is u out)) range) in
-    let abi' = bare_abi abi in
-    let is' = bare_inputs is in
-    let out' = bare_maybe_type out in
-    let ls' : Lifetimes = bare_lifetimes (Some ls) in
+    let x : TypeTree = unplaced_type (type_tree (bare_fn (fn_tree (Some ls) b abi is u out)) range) in
+    let abi' = unplaced_abi abi in
+    let is' = unplaced_inputs is in
+    let out' = unplaced_maybe_type out in
+    let ls' : Lifetimes = unplaced_lifetimes (Some ls) in
     let more : Trees = trait_only p in
     let own : Trees = behind_trees b abi' is' u out' in
     let all : Trees = join own (colon_before more) in
@@ -323,12 +323,12 @@ function_alone p ls b abi is u out range a h =
 
 -- ---- any type
 
-first_bare : (is : List Ident) → first_for (map bare_ident is) ≡ first_for is
+first_bare : (is : List Ident) → first_for (map unplaced_ident is) ≡ first_for is
 first_bare [] = refl
 first_bare (i ∷ is) = refl
 
 -- the predicate of a type and a trait that are spelled alone, where the type calls no macro `for!`
-pub bounded_alone : (p : PathTree) (x : TypeTree) → PathAlone p → TypeAlone (bare_type x) → calls_for x ≡ false →
+pub bounded_alone : (p : PathTree) (x : TypeTree) → PathAlone p → TypeAlone (unplaced_type x) → calls_for x ≡ false →
     PredicateAlone (bare_predicate (bounded p x))
 bounded_alone p (type_tree (bare_fn (fn_tree (Some ls) b abi is u out)) r) a h e = function_alone p ls b abi is u out r a h
 bounded_alone p (type_tree (bare_fn (fn_tree None b abi is u out)) r) a h e =
@@ -340,7 +340,7 @@ bounded_alone p x a h e = plain_alone p x a h refl
 -- the condition on calls can't be left out: with such a type the predicate isn't spelled alone
 call_front : (b : Bool) (names : List Ident) (us : Trees) →
     sees_word (codes "for")
-    (join (join (spell.given b (spell.colons nowhere)) (spell.spaced (spell.colons nowhere) true (map spell.name (map bare_ident names))))
+    (join (join (spell.given b (spell.colons nowhere)) (spell.spaced (spell.colons nowhere) true (map spell.name (map unplaced_ident names))))
     (join (spell.punct 33 nowhere) us)) ≡
     (not b && first_for names)
 call_front true names us = refl
@@ -350,13 +350,13 @@ call_front false (i ∷ is) us = refl
 pub call_refused : (p : PathTree) (q : PlainPath) (d : Delim) (o : Stream) (r : Span) → begins_for q ≡ true →
     PredicateAlone (bare_predicate (bounded p (type_tree (macro_type q d o) r))) → ⊥
 call_refused p q d o r e h =
-    let bare : TypeTree = bare_type (type_tree (macro_type q d o) r) in
-    let us : Trees = spell.grouped d (bare_stream o).trees in
+    let bare : TypeTree = unplaced_type (type_tree (macro_type q d o) r) in
+    let us : Trees = spell.grouped d (unplaced_stream o).trees in
     let f = call_front q.leading_colon q.segments (join us (colon_before (trait_only p))) in
-    let own : Trees = join (spell.plain_trees nowhere (bare_plain q)) (join (spell.punct 33 nowhere) (join us (colon_before (trait_only p)))) in
-    let g : spell.type_trees bare ≡ join (spell.plain_trees nowhere (bare_plain q)) (join (spell.punct 33 nowhere) us) = refl in
+    let own : Trees = join (spell.plain_trees nowhere (unplaced_plain q)) (join (spell.punct 33 nowhere) (join us (colon_before (trait_only p)))) in
+    let g : spell.type_trees bare ≡ join (spell.plain_trees nowhere (unplaced_plain q)) (join (spell.punct 33 nowhere) us) = refl in
     let k : join (spell.type_trees bare) (colon_before (trait_only p)) ≡ own =
-    join_assoc (spell.plain_trees nowhere (bare_plain q)) (join (spell.punct 33 nowhere) us) (colon_before (trait_only p)) in
+    join_assoc (spell.plain_trees nowhere (unplaced_plain q)) (join (spell.punct 33 nowhere) us) (colon_before (trait_only p)) in
     let n : false ≡ true =
     sym (ap (sees_word (codes "for")) h.spelled.first.part.spelled ∙ h.spelled.first.fact) ∙ (ap (sees_word (codes "for")) k ∙ (f ∙ e)) in
     cc
@@ -369,7 +369,7 @@ for_call =
     (record { trees = no_trees; limit = 0 }))
     nowhere
 
-for_call_alone : TypeAlone (bare_type for_call)
+for_call_alone : TypeAlone (unplaced_type for_call)
 unfolding for_call
 for_call_alone =
     let more : Trees = join (spell.punct 33 nowhere) (spell.grouped Paren no_trees) in
@@ -426,7 +426,7 @@ for_call_alone =
       within = refl;
     }
 
-pub for_call_refused : (p : PathTree) → TypeAlone (bare_type for_call) × (PredicateAlone (bare_predicate (bounded p for_call)) → ⊥)
+pub for_call_refused : (p : PathTree) → TypeAlone (unplaced_type for_call) × (PredicateAlone (bare_predicate (bounded p for_call)) → ⊥)
 unfolding for_call
 for_call_refused p =
     let q : PlainPath = record { leading_colon = false; segments = record { name = codes "for"; raw = false; span = nowhere } ∷ [] } in
@@ -437,7 +437,7 @@ for_call_refused p =
 
 -- the type of a field and the trait that is asked of it are spelled alone, and the type calls no such macro
 abbrev pub AskedAlone : Asking → TypeTree → Type 0
-AskedAlone a x = TypeAlone (bare_type x) × PathAlone (a.path x) × (calls_for x ≡ false)
+AskedAlone a x = TypeAlone (unplaced_type x) × PathAlone (a.path x) × (calls_for x ≡ false)
 
 -- where one is asked for
 abbrev pub FieldAlone : Asking → Wanted → TypeTree → Type 0
@@ -506,7 +506,7 @@ pub both_fields : {P Q R : TypeTree → Type 0} → ((x : TypeTree) → P x → 
 both_fields f d h k = both_each (λ c x y. both_each (λ g u v. f g.ty u v) (field_list c.fields) x y) (cases d) h k
 
 module _ (d : Declaration) (limit : ℕ) (ts : Trees) (m : Marks) (s : SpelledBy d limit ts m) (within : first_too_deep m ≡ None) where
-  pub needed_declared : (a : Asking) (leaves_out : List Attribute → Bool) → ((x : TypeTree) → TypeAlone (bare_type x) → PathAlone (a.path x)) →
+  pub needed_declared : (a : Asking) (leaves_out : List Attribute → Bool) → ((x : TypeTree) → TypeAlone (unplaced_type x) → PathAlone (a.path x)) →
       EachField (λ x. a.asks (wanted_of d) x ≡ true → calls_for x ≡ false) d →
       Each PredicateAlone (map bare_predicate (needed_by a d (marked leaves_out d)))
   needed_declared a leaves_out paths plain =

@@ -15,7 +15,7 @@ use Rattle.dm_ast.specs.TypeGrammar.{name, is_path_word, sees_arguments, type_sp
 use Rattle.dm_ast.specs.TypeTokens as spell
 use Rattle.dm_ast.specs.Implementors.{segments, plain_path}
 use Rattle.dm_generics.specs.Words.{word, plain_segments}
-use Rattle.dm_reread.specs.BareTypes.{bare_ident, bare_type, bare_segments, bare_arguments_of, bare_argument, bare_arguments}
+use Rattle.dm_type_eq.specs.Unplaced.{unplaced_argument, unplaced_arguments, unplaced_arguments_of, unplaced_ident, unplaced_segments, unplaced_type}
 use Rattle.dm_reread.specs.TypeLeaves.{top}
 use Rattle.dm_reread.proofs.TypeLeafEnds.{Stop, stop_punct}
 use Rattle.dm_reread.proofs.TypeLeafCalls.{calm_end}
@@ -32,14 +32,14 @@ InnerAlone x = parts.Alone (type_spelled x false) inner (spell.type_trees x)
 -- ---- tokens
 
 word_stands : (i : Ident) → IsTrue (is_path_word i) → (us : Trees) →
-    Stands (grammar.word top (bare_ident i)) (token (t.Ident (bare_ident i)) us) us
+    Stands (grammar.word top (unplaced_ident i)) (token (t.Ident (unplaced_ident i)) us) us
 word_stands i h us = record {
   marks = (0, nowhere) ∷ [];
   spelled = record { fact = h; part = record { spelled = refl; marks = refl } };
   within = refl;
 }
 
-name_stands : (i : Ident) → IsTrue (is_name i) → (us : Trees) → Stands (name inner (bare_ident i)) (token (t.Ident (bare_ident i)) us) us
+name_stands : (i : Ident) → IsTrue (is_name i) → (us : Trees) → Stands (name inner (unplaced_ident i)) (token (t.Ident (unplaced_ident i)) us) us
 name_stands i h us = record {
   marks = (1, nowhere) ∷ [];
   spelled = record { fact = h; part = record { spelled = refl; marks = refl } };
@@ -82,8 +82,8 @@ nothing_stands us = record { marks = []; spelled = record { spelled = refl; mark
 
 -- types, and `NAME = TYPE`
 abbrev pub ArgumentAlone : ArgumentTree → Type 0
-ArgumentAlone (type_arg x) = InnerAlone (bare_type x)
-ArgumentAlone (assoc_type i arguments_absent x) = IsTrue (is_name i) × InnerAlone (bare_type x)
+ArgumentAlone (type_arg x) = InnerAlone (unplaced_type x)
+ArgumentAlone (assoc_type i arguments_absent x) = IsTrue (is_name i) × InnerAlone (unplaced_type x)
 ArgumentAlone _ = ⊥
 
 abbrev pub EachArgumentAlone : ArgumentTrees → Type 0
@@ -100,19 +100,19 @@ module _ (o : Trees) (stop : Stop o) (free : (sees_equals o || sees_colon o) ≡
       }
 
   argument_stands : (g : ArgumentTree) → ArgumentAlone g →
-      Stands (argument (bare_argument g) inner) (join (spell.argument_trees nowhere (bare_argument g)) o) o
+      Stands (argument (unplaced_argument g) inner) (join (spell.argument_trees nowhere (unplaced_argument g)) o) o
   argument_stands (type_arg x) h =
-      let s = inner_type (bare_type x) h in
+      let s = inner_type (unplaced_type x) h in
       record { marks = s.marks; spelled = record { part = s.spelled; fact = free }; within = s.within }
   argument_stands (assoc_type i arguments_absent x) h =
-      let us : Trees = join (spell.type_trees (bare_type x)) o in
+      let us : Trees = join (spell.type_trees (unplaced_type x)) o in
       let more : Trees = join (spell.punct 61 nowhere) us in
       stands_then (name_stands i h.0 more)
-      (stands_then (nothing_stands more) (stands_then (equals_stands us) (inner_type (bare_type x) h.1)))
+      (stands_then (nothing_stands more) (stands_then (equals_stands us) (inner_type (unplaced_type x) h.1)))
   argument_stands _ h = absurd h
 
 abbrev left_trees : ArgumentTrees → Trees
-left_trees gs = spell.spaced (spell.punct 44 nowhere) false (spell.each_argument nowhere (bare_arguments gs))
+left_trees gs = spell.spaced (spell.punct 44 nowhere) false (spell.each_argument nowhere (unplaced_arguments gs))
 
 abbrev closing : Trees → Trees
 closing us = join (spell.punct 62 nowhere) us
@@ -130,20 +130,20 @@ left_free no_arguments us = refl
 left_free (argument_then g gs) us = refl
 
 left_stands : (gs : ArgumentTrees) → EachArgumentAlone gs → (us : Trees) →
-    Stands (arguments_left (bare_arguments gs) false inner) (join (left_trees gs) (closing us)) (closing us)
+    Stands (arguments_left (unplaced_arguments gs) false inner) (join (left_trees gs) (closing us)) (closing us)
 left_stands no_arguments h us = none_stands (sees 44) (closing us) refl
 left_stands (argument_then g gs) h us =
-    let x : Trees = spell.argument_trees nowhere (bare_argument g) in
+    let x : Trees = spell.argument_trees nowhere (unplaced_argument g) in
     let more : Trees = join (left_trees gs) (closing us) in
     stands_as {us = join (spell.punct 44 nowhere) (join x more)} (ap (join (spell.punct 44 nowhere)) (join_assoc x (left_trees gs) (closing us)))
     (stands_then (punct_stands inner 44 (join x more) refl)
     (stands_then (argument_stands more (left_stop gs us) (left_free gs us) g h.0) (left_stands gs h.1 us)))
 
 arguments_stand : (g : ArgumentTree) (gs : ArgumentTrees) → EachArgumentAlone (argument_then g gs) → (us : Trees) →
-    Stands (grammar.arguments (bare_arguments (argument_then g gs)) false inner)
-    (join (join (join (spell.argument_trees nowhere (bare_argument g)) (left_trees gs)) no_trees) (closing us)) (closing us)
+    Stands (grammar.arguments (unplaced_arguments (argument_then g gs)) false inner)
+    (join (join (join (spell.argument_trees nowhere (unplaced_argument g)) (left_trees gs)) no_trees) (closing us)) (closing us)
 arguments_stand g gs h us =
-    let x : Trees = spell.argument_trees nowhere (bare_argument g) in
+    let x : Trees = spell.argument_trees nowhere (unplaced_argument g) in
     let more : Trees = join (left_trees gs) (closing us) in
     stands_as {us = join x more}
     (ap (λ z. join z (closing us)) (join-no_trees (join x (left_trees gs))) ∙ join_assoc x (left_trees gs) (closing us))
@@ -157,11 +157,11 @@ ArgumentsAlone (angle false (argument_then g gs) false) = EachArgumentAlone (arg
 ArgumentsAlone _ = ⊥
 
 behind_stands : (a : ArgumentsTree) → ArgumentsAlone a →
-    Stands (arguments_of_segment (bare_arguments_of a) top) (spell.arguments_trees nowhere (bare_arguments_of a)) no_trees
+    Stands (arguments_of_segment (unplaced_arguments_of a) top) (spell.arguments_trees nowhere (unplaced_arguments_of a)) no_trees
 behind_stands absent h = none_stands sees_arguments no_trees refl
 behind_stands (angle false (argument_then g gs) false) h =
     let own : Trees =
-    join (join (spell.argument_trees nowhere (bare_argument g)) (left_trees gs)) no_trees in
+    join (join (spell.argument_trees nowhere (unplaced_argument g)) (left_trees gs)) no_trees in
     let all : Trees = join own (spell.punct 62 nowhere) in
     stands_then (none_stands sees_colons (join (spell.punct 60 nowhere) all) refl)
     (stands_then (punct_stands top 60 all refl)
@@ -177,13 +177,13 @@ WordsAlone (segment_then (segment i absent) (segment_then s ss)) = IsTrue (is_pa
 WordsAlone _ = ⊥
 
 abbrev words_trees : Bool → SegmentTrees → Trees
-words_trees first ss = spell.spaced (spell.colons nowhere) first (spell.each_segment nowhere (bare_segments ss))
+words_trees first ss = spell.spaced (spell.colons nowhere) first (spell.each_segment nowhere (unplaced_segments ss))
 
-words_stand : (ss : SegmentTrees) → WordsAlone ss → Stands (grammar.segments (bare_segments ss) top) (words_trees true ss) no_trees
+words_stand : (ss : SegmentTrees) → WordsAlone ss → Stands (grammar.segments (unplaced_segments ss) top) (words_trees true ss) no_trees
 words_stand no_segments h = absurd h
 words_stand (segment_then (segment i a) no_segments) h =
-    let own : Trees = spell.arguments_trees nowhere (bare_arguments_of a) in
-    stands_as {us = token (t.Ident (bare_ident i)) own} (ap (token (t.Ident (bare_ident i))) (join-no_trees own))
+    let own : Trees = spell.arguments_trees nowhere (unplaced_arguments_of a) in
+    stands_as {us = token (t.Ident (unplaced_ident i)) own} (ap (token (t.Ident (unplaced_ident i))) (join-no_trees own))
     (stands_then (stands_then (word_stands i h.0 own) (behind_stands a h.1)) (none_stands sees_colons no_trees refl))
 words_stand (segment_then (segment i absent) (segment_then (segment j a) ss)) h =
     let all : Trees = words_trees true (segment_then (segment j a) ss) in

@@ -9,7 +9,7 @@ use Rattle.dm_output.specs.Output.{ExprTree, return_expr, or_expr, and_expr, equ
 use Rattle.dm_output.specs.Values.{Text}
 use Rattle.dm_output.specs.Calls.{discriminant_names, unreachable_names}
 use Rattle.dm_generics.specs.Words.{word, words}
-use Rattle.dm_reread.specs.BareTypes.{bare_path}
+use Rattle.dm_type_eq.specs.Unplaced.{unplaced_path}
 use Rattle.dm_reread.specs.Bare.{bare_patterns, bare_expr, bare_exprs, bare_maybe, bare_arms, bare_body, bare_block}
 use Rattle.dm_reread.specs.Grammar as grammar
 use Rattle.dm_reread.specs.Grammar.{at_and, at_cmp, at_pre, Fits, IsPlainPath, is_some_pattern, ArePatterns, IsExpr, IsMaybe, AreArms, IsBody, IsBlock}
@@ -40,11 +40,11 @@ other_word : IsTrue (is_path_word (word (codes "__other")))
 unfolding is_keyword
 other_word = refl
 
-discriminant_path : IsPlainPath (bare_path (plain_path (words discriminant_names)))
+discriminant_path : IsPlainPath (unplaced_path (plain_path (words discriminant_names)))
 unfolding is_keyword
 discriminant_path = (tt, (refl, (refl, (refl, (refl, tt)))))
 
-unreachable_path : IsPlainPath (bare_path (plain_path (words unreachable_names)))
+unreachable_path : IsPlainPath (unplaced_path (plain_path (words unreachable_names)))
 unfolding is_keyword
 unreachable_path = (tt, (refl, (refl, (refl, (refl, tt)))))
 

@@ -29,12 +29,11 @@ use Rattle.dm_generics.specs.Lists.{separated, items_in}
 use Rattle.dm_generics.specs.Bounds as operator_bounds
 use Rattle.dm_generics.specs.Bounds.{op_output}
 use Rattle.dm_generics.specs.Additions.{bounded}
-use Rattle.dm_reread.specs.BareTypes.{bare_ident, bare_type, bare_bound, bare_path}
+use Rattle.dm_type_eq.specs.Unplaced.{unplaced_bound, unplaced_bounds, unplaced_ident, unplaced_path, unplaced_type}
 use Rattle.dm_reread.specs.Bare.{bare_listed, bare_param, bare_predicate, bare_item}
 use Rattle.dm_reread.specs.Items.{head_of}
 use Rattle.dm_reread.specs.HeadLeaves.{is_plain, is_lifetime, are_plain, IsHead}
 use Rattle.dm_reread.specs.TypeLeaves.{top}
-use Rattle.dm_type_eq.specs.Unplaced.{unplaced_bound, unplaced_bounds, unplaced_path}
 use Rattle.dm_type_eq.proofs.Cutting.{and_kept, are_colons, unseen_sees}
 use Rattle.dm_type_eq.proofs.Respelling.{Lower, RespellsIf, respells_then, respells_flag, plain, respells_punct, respells_for}
 use Rattle.dm_type_eq.proofs.RespelledTypes.{again_type, again_bounds}
@@ -42,7 +41,6 @@ use Rattle.dm_reread.proofs.TypeLeafEnds.{stop_end}
 use Rattle.dm_reread.proofs.TypeLeafParts.{Listed, ExtendsIf, Extends, ext_before, ext_then, ext_if, ext_nothing, ext_where, ext_facing, ext_provided, ext_ranged, ext_absent, ext_flag, ext_perhaps, ext_token, ext_punct, ext_word, ext_pair, ext_lone, ext_group, ext_angles, Ends, angle_over, ext_none, ext_last, last_before, ext_items, listed_punct}
 use Rattle.dm_reread.proofs.TypeLeafCalls.{idents_stay, no_mark, Calm, calm_listed, uncalled_path}
 use Rattle.dm_reread.proofs.HeadLeaf.{first_within}
-use Rattle.dm_read_laws.proofs.TypeSound.{same_bounds}
 use Rattle.dm_attr.specs.Skips.{is_skipped}
 use Rattle.dm_operands.specs.Marked.{marked}
 use Rattle.dm_bounds.specs.Needed.{needing, needed_by}
@@ -115,9 +113,9 @@ abbrev TraitNamed : Operator → Type 0
 TraitNamed o = IsTrue (is_path_word (word o.trait_name))
 
 -- the parameter that stands for any right side
-right_inner : InnerAlone (bare_type right_type)
+right_inner : InnerAlone (unplaced_type right_type)
 right_inner =
-    written_alone (type_spelled (bare_type right_type) false) inner (spell.type_trees (bare_type right_type))
+    written_alone (type_spelled (unplaced_type right_type) false) inner (spell.type_trees (unplaced_type right_type))
     (right_written inner refl refl)
 
 implemented_arguments : (form : Form) → ArgumentsAlone (angled (right_argument form))
@@ -133,7 +131,7 @@ implemented_alone form o n =
 abbrev output_if : Bool → TypeTree → List ArgumentTree
 output_if b x = cond b [] (assoc_type (word (codes "Output")) arguments_absent x ∷ [])
 
-asked_arguments : (form : Form) (b : Bool) (x : TypeTree) → InnerAlone (bare_type x) →
+asked_arguments : (form : Form) (b : Bool) (x : TypeTree) → InnerAlone (unplaced_type x) →
     ArgumentsAlone (angled (right_argument form ++ output_if b x))
 unfolding is_keyword
 asked_arguments structural true x h = tt
@@ -143,7 +141,7 @@ asked_arguments scalar false x h = (right_inner, ((refl, h), tt))
 asked_arguments unary true x h = tt
 asked_arguments unary false x h = ((refl, h), tt)
 
-asked_alone : (form : Form) (o : Operator) → TraitNamed o → (x : TypeTree) → InnerAlone (bare_type x) →
+asked_alone : (form : Form) (o : Operator) → TraitNamed o → (x : TypeTree) → InnerAlone (unplaced_type x) →
     PathAlone (asked form o x)
 asked_alone form o n x h =
     ending_alone ops_words ops_named (word o.trait_name) n (angled (right_argument form ++ output_if o.assigning x))
@@ -161,9 +159,9 @@ copy_alone =
     words_alone (word (codes "derive_more")) (words (codes "core" ∷ codes "marker" ∷ codes "Copy" ∷ []))
     (refl, (refl, (refl, (refl, tt))))
 
-right_alone : TypeAlone (bare_type right_type)
+right_alone : TypeAlone (unplaced_type right_type)
 right_alone =
-    written_alone (type_spelled (bare_type right_type) false) top (spell.type_trees (bare_type right_type)) (right_written top refl refl)
+    written_alone (type_spelled (unplaced_type right_type) false) top (spell.type_trees (unplaced_type right_type)) (right_written top refl refl)
 
 copies_if : (b : Bool) → Each PredicateAlone (map bare_predicate (cond b (right_copies ∷ []) []))
 copies_if true = (bounded_alone copy_path right_type copy_alone right_alone refl, tt)
@@ -559,20 +557,20 @@ module _ (more : Trees) where
 -- ---- bounds between `<` and `>`: where each is spelled alone, so are all of them with `+` between
 
 abbrev own_bound : BoundTree → Trees
-own_bound b = spell.bound_trees nowhere (bare_bound b)
+own_bound b = spell.bound_trees nowhere (unplaced_bound b)
 
 abbrev BoundAlone : BoundTree → Type 0
-BoundAlone b = parts.Alone (bound (bare_bound b)) inner (own_bound b)
+BoundAlone b = parts.Alone (bound (unplaced_bound b)) inner (own_bound b)
 
 abbrev own_bounds : List BoundTree → List Trees
-own_bounds bs = spell.each_bound nowhere (bounds_of (map bare_bound bs))
+own_bounds bs = spell.each_bound nowhere (bounds_of (map unplaced_bound bs))
 
 -- the tokens behind the first one
 abbrev left_trees : List BoundTree → Trees
 left_trees bs = spell.spaced (spell.punct 43 nowhere) false (own_bounds bs)
 
 bound_stands : (b : BoundTree) (bs : List BoundTree) → BoundAlone b →
-    Stands (bound (bare_bound b) inner) (join (own_bound b) (left_trees bs)) (left_trees bs)
+    Stands (bound (unplaced_bound b) inner) (join (own_bound b) (left_trees bs)) (left_trees bs)
 bound_stands b [] h =
     stands_as (join-no_trees (own_bound b))
     (record { marks = h.marks; spelled = h.spelled; within = h.within })
@@ -580,12 +578,12 @@ bound_stands b (c ∷ bs) h =
     let more : Trees = join (own_bound c) (left_trees bs) in
     record {
       marks = h.marks;
-      spelled = go_bound more (bare_bound b) inner (own_bound b) no_trees h.marks h.spelled tt;
+      spelled = go_bound more (unplaced_bound b) inner (own_bound b) no_trees h.marks h.spelled tt;
       within = h.within;
     }
 
 left_stand : (bs : List BoundTree) → Each BoundAlone bs →
-    Stands (bounds_left (bounds_of (map bare_bound bs)) false inner) (left_trees bs) no_trees
+    Stands (bounds_left (bounds_of (map unplaced_bound bs)) false inner) (left_trees bs) no_trees
 left_stand [] h = none_stands (sees 43) no_trees refl
 left_stand (b ∷ bs) h =
     stands_then (punct_stands inner 43 (join (own_bound b) (left_trees bs)) refl)
@@ -608,7 +606,7 @@ type_param_alone : (i : Ident) → IsTrue (is_name i) → (b : BoundTree) (bs : 
 type_param_alone i n b bs h =
     let own : Trees = maybe_bounds_trees (Some (own_list b bs)) in
     let s =
-    stands_then (none_stands (sees 35) (join (spell.name (bare_ident i)) (join own no_trees)) refl)
+    stands_then (none_stands (sees 35) (join (spell.name (unplaced_ident i)) (join own no_trees)) refl)
     (stands_then (written_stands (written_name inner refl i n (join own no_trees)))
     (stands_then (stands_as (join-no_trees own) (bounds_stand b bs h)) (none_stands sees_equals no_trees refl))) in
     record { marks = s.marks; spelled = s.spelled; within = s.within }
@@ -624,24 +622,14 @@ op_output_alone : (l : List ℕ) → IsTrue (is_path_word (word l)) → (i : Ide
 unfolding is_keyword
 op_output_alone l n i k =
     let p : PathTree = path_tree false (segments_of (plain_segments ops_words ++ segment (word l) (operator_bounds.output i) ∷ [])) in
-    let own : Trees = spell.path_trees nowhere (bare_path p) in
-    written_alone (bound (bare_bound (op_output l i))) inner own
+    let own : Trees = spell.path_trees nowhere (unplaced_path p) in
+    written_alone (bound (unplaced_bound (op_output l i))) inner own
     (written_then (written_absent (sees 63) own refl)
     (written_then (written_absent (sees_word (codes "for")) own refl)
     (written_ending inner refl refl ops_words ops_named (word l) n (operator_bounds.output i)
     ((refl, written_name_type (deeper inner) refl refl i k), tt))))
 
 -- ---- each bound that is declared is spelled alone
-
-abbrev UnplacedAlone : BoundTree → Type 0
-UnplacedAlone b = parts.Alone (bound b) inner (spell.bound_trees nowhere b)
-
--- without ranges in the words of the output language
-bound_as : (b : BoundTree) → UnplacedAlone (unplaced_bound b) → BoundAlone b
-bound_as b h =
-    let e : bound_then (bare_bound b) no_bounds ≡ bound_then (unplaced_bound b) no_bounds = same_bounds (bound_then b no_bounds) in
-    let f : unplaced_bound b ≡ bare_bound b = cc in
-    subst UnplacedAlone f h
 
 module _ {w : Where} (l : Lower inner w) where
   -- before what is no call
@@ -680,13 +668,12 @@ module _ {w : Where} (l : Lower inner w) where
       let s = a.spelled in
       let all : Trees = join (join own no_trees) no_trees in
       let e : all ≡ own = join-no_trees (join own no_trees) ∙ join-no_trees own in
-      bound_as b
-      (record {
+      record {
         marks = s.first_marks;
         spelled = subst (λ z. bound (unplaced_bound b) inner z no_trees s.first_marks) e
             (subst (λ z. bound (unplaced_bound b) inner all z s.first_marks) s.rest.part.spelled s.first);
         within = first_within s a.within;
-      })
+      }
 
   -- before a `+`
   followed_alone : (b : BoundTree) (ts : Trees) → (x : From (bound b w) ts) → Listed x.others → BoundAlone b

@@ -1,6 +1,6 @@
 -- The associated types, parameters and outputs that operators and `PartialEq` emit are of the grammar. Their types are made of words,
 -- perhaps with arguments between `<` and `>`, so they are written without ranges at every place that isn't too deep.
-use Rattle.std.proofs.Common.{◌≡◌, ℕ, Bool, true, false, ◌||◌, cond, nat_lt, List, [], ◌∷◌, ◌++◌, map, codes, Some, None, option_map, IsTrue, refl, sym, ap, ap₂, ◌∙◌, subst}
+use Rattle.std.proofs.Common.{◌≡◌, ℕ, Bool, true, false, ◌||◌, cond, nat_lt, List, [], ◌∷◌, ◌++◌, map, codes, Some, None, option_map, IsTrue, refl, sym, ap, ◌∙◌, subst}
 use Rattle.std.specs.Prelude.{⊤}
 use Rattle.std.proofs.lemmas.Bool.{or_left}
 use Rattle.dm_stream.specs.declared.tokens.Span.{Span}
@@ -24,12 +24,12 @@ use Rattle.dm_ast.specs.Implementors as implementors
 use Rattle.dm_output.specs.Output.{BlockTree}
 use Rattle.dm_output.specs.Values.{is_enum}
 use Rattle.dm_generics.specs.Words.{word, words, plain_segments, self_type, ref_self}
-use Rattle.dm_type_eq.specs.Unplaced.{unplaced_type, unplaced_arguments_of, unplaced_argument, unplaced_arguments}
-use Rattle.dm_reread.specs.BareTypes.{bare_ident, bare_lifetime, bare_type, bare_path, bare_segments, bare_arguments_of, bare_argument, bare_arguments}
+use Rattle.dm_type_eq.specs.Unplaced.{unplaced_argument, unplaced_arguments, unplaced_arguments_of, unplaced_ident, unplaced_lifetime, unplaced_path, unplaced_segments, unplaced_type}
 use Rattle.dm_reread.specs.Bare.{bare_param, bare_assoc, bare_param_of, bare_method}
 use Rattle.dm_reread.specs.ItemGrammar.{AreAssocs, IsParam, IsOutput}
 use Rattle.dm_reread.specs.ReadBack.{leaf_grammar}
 use Rattle.dm_reread.specs.TypeLeaves.{top, IsType}
+use Rattle.dm_reread.proofs.TypeLeafUnplaced.{once_type}
 use Rattle.dm_reread.proofs.TypeLeafEnds.{Stop, stop_end, stop_punct}
 use Rattle.dm_reread.proofs.TypeLeafCalls.{calm_end, uncalled_path}
 use Rattle.dm_reread.proofs.TypeLeafTypes.{ext_type}
@@ -92,12 +92,12 @@ module _ (w : Where) (h : Shallow w) where
     flat = (h, refl, tt);
   }
 
-  written_lifetime : (l : Lifetime) (ts : Trees) → Written (lifetime w (bare_lifetime l)) (join (spell.lifetime (bare_lifetime l)) ts) ts
+  written_lifetime : (l : Lifetime) (ts : Trees) → Written (lifetime w (unplaced_lifetime l)) (join (spell.lifetime (unplaced_lifetime l)) ts) ts
   written_lifetime l ts =
       record { marks = (w.level, nowhere) ∷ []; spelled = record { spelled = refl; marks = refl }; flat = (h, refl, tt) }
 
   written_word : (i : Ident) → IsTrue (is_path_word i) → (ts : Trees) →
-      Written (grammar.word w (bare_ident i)) (join (spell.name (bare_ident i)) ts) ts
+      Written (grammar.word w (unplaced_ident i)) (join (spell.name (unplaced_ident i)) ts) ts
   written_word i n ts = record {
     marks = (w.level, nowhere) ∷ [];
     spelled = record { fact = n; part = record { spelled = refl; marks = refl } };
@@ -105,7 +105,7 @@ module _ (w : Where) (h : Shallow w) where
   }
 
   pub written_name : (i : Ident) → IsTrue (is_name i) → (ts : Trees) →
-      Written (name w (bare_ident i)) (join (spell.name (bare_ident i)) ts) ts
+      Written (name w (unplaced_ident i)) (join (spell.name (unplaced_ident i)) ts) ts
   written_name i n ts = record {
     marks = (w.level, nowhere) ∷ [];
     spelled = record { fact = n; part = record { spelled = refl; marks = refl } };
@@ -137,10 +137,10 @@ module _ (w : Where) (h : Shallow w) where
 -- ---- paths of words, of which the last one may have lifetimes, types and `NAME = TYPE` between `<` and `>`, and types of such a path
 
 abbrev pub TypeWritten : TypeTree → Where → Type 0
-TypeWritten x w = Written (type_spelled (bare_type x) false w) (spell.type_trees (bare_type x)) no_trees
+TypeWritten x w = Written (type_spelled (unplaced_type x) false w) (spell.type_trees (unplaced_type x)) no_trees
 
 abbrev pub PathWritten : PathTree → Where → Type 0
-PathWritten p w = Written (path_spelled (bare_path p) w) (spell.path_trees nowhere (bare_path p)) no_trees
+PathWritten p w = Written (path_spelled (unplaced_path p) w) (spell.path_trees nowhere (unplaced_path p)) no_trees
 
 abbrev pub ArgumentWritten : ArgumentTree → Where → Type 0
 ArgumentWritten (lifetime_arg l) w = ⊤
@@ -165,7 +165,7 @@ WordsWritten _ w = ⊥
 
 -- what stands between `<` and `>`
 abbrev left_trees : ArgumentTrees → Trees
-left_trees gs = spell.spaced (spell.punct 44 nowhere) false (spell.each_argument nowhere (bare_arguments gs))
+left_trees gs = spell.spaced (spell.punct 44 nowhere) false (spell.each_argument nowhere (unplaced_arguments gs))
 
 abbrev closing : Trees → Trees
 closing us = join (spell.punct 62 nowhere) us
@@ -182,31 +182,31 @@ left_free (argument_then g gs) us = refl
 module _ (w : Where) (h : Shallow w) where
   module _ (o : Trees) (stop : Stop o) (free : (sees_equals o || sees_colon o) ≡ false) where
     type_before : (x : TypeTree) → TypeWritten x w →
-        Written (type_spelled (bare_type x) false w) (join (spell.type_trees (bare_type x)) o) o
+        Written (type_spelled (unplaced_type x) false w) (join (spell.type_trees (unplaced_type x)) o) o
     type_before x s =
         record {
           marks = s.marks;
-          spelled = ext_type o stop (bare_type x) false w (spell.type_trees (bare_type x)) no_trees s.marks s.spelled (calm_end o stop);
+          spelled = ext_type o stop (unplaced_type x) false w (spell.type_trees (unplaced_type x)) no_trees s.marks s.spelled (calm_end o stop);
           flat = s.flat;
         }
 
     written_argument : (g : ArgumentTree) → ArgumentWritten g w →
-        Written (argument (bare_argument g) w) (join (spell.argument_trees nowhere (bare_argument g)) o) o
+        Written (argument (unplaced_argument g) w) (join (spell.argument_trees nowhere (unplaced_argument g)) o) o
     written_argument (lifetime_arg l) k = written_lifetime w h l o
     written_argument (type_arg x) k =
         let s = type_before x k in record { marks = s.marks; spelled = record { part = s.spelled; fact = free }; flat = s.flat }
     written_argument (assoc_type i arguments_absent x) k =
-        let us : Trees = join (spell.type_trees (bare_type x)) o in
+        let us : Trees = join (spell.type_trees (unplaced_type x)) o in
         let more : Trees = join (spell.punct 61 nowhere) us in
         written_then (written_name w h i k.0 more)
         (written_then (written_nothing more) (written_then (written_equals w h us) (type_before x k.1)))
     written_argument _ k = absurd k
 
   written_left : (gs : ArgumentTrees) → EachArgumentWritten gs w → (us : Trees) →
-      Written (arguments_left (bare_arguments gs) false w) (join (left_trees gs) (closing us)) (closing us)
+      Written (arguments_left (unplaced_arguments gs) false w) (join (left_trees gs) (closing us)) (closing us)
   written_left no_arguments k us = written_absent (sees 44) (closing us) refl
   written_left (argument_then g gs) k us =
-      let x : Trees = spell.argument_trees nowhere (bare_argument g) in
+      let x : Trees = spell.argument_trees nowhere (unplaced_argument g) in
       let more : Trees = join (left_trees gs) (closing us) in
       written_as {us = join (spell.punct 44 nowhere) (join x more)}
       (ap (join (spell.punct 44 nowhere)) (join_assoc x (left_trees gs) (closing us)))
@@ -214,35 +214,35 @@ module _ (w : Where) (h : Shallow w) where
       (written_then (written_argument more (left_stop gs us) (left_free gs us) g k.0) (written_left gs k.1 us)))
 
   written_arguments : (g : ArgumentTree) (gs : ArgumentTrees) → EachArgumentWritten (argument_then g gs) w → (us : Trees) →
-      Written (grammar.arguments (bare_arguments (argument_then g gs)) false w)
-      (join (join (join (spell.argument_trees nowhere (bare_argument g)) (left_trees gs)) no_trees) (closing us)) (closing us)
+      Written (grammar.arguments (unplaced_arguments (argument_then g gs)) false w)
+      (join (join (join (spell.argument_trees nowhere (unplaced_argument g)) (left_trees gs)) no_trees) (closing us)) (closing us)
   written_arguments g gs k us =
-      let x : Trees = spell.argument_trees nowhere (bare_argument g) in
+      let x : Trees = spell.argument_trees nowhere (unplaced_argument g) in
       let more : Trees = join (left_trees gs) (closing us) in
       written_as {us = join x more}
       (ap (λ z. join z (closing us)) (join-no_trees (join x (left_trees gs))) ∙ join_assoc x (left_trees gs) (closing us))
       (written_then (written_argument more (left_stop gs us) (left_free gs us) g k.0) (written_left gs k.1 us))
 
 abbrev words_trees : Bool → SegmentTrees → Trees
-words_trees first ss = spell.spaced (spell.colons nowhere) first (spell.each_segment nowhere (bare_segments ss))
+words_trees first ss = spell.spaced (spell.colons nowhere) first (spell.each_segment nowhere (unplaced_segments ss))
 
 module _ (w : Where) (h : Shallow w) (k : Shallow (deeper w)) where
   written_behind : (a : ArgumentsTree) → ArgumentsWritten a w →
-      Written (arguments_of_segment (bare_arguments_of a) w) (spell.arguments_trees nowhere (bare_arguments_of a)) no_trees
+      Written (arguments_of_segment (unplaced_arguments_of a) w) (spell.arguments_trees nowhere (unplaced_arguments_of a)) no_trees
   written_behind absent e = written_absent sees_arguments no_trees refl
   written_behind (angle false (argument_then g gs) false) e =
-      let own : Trees = join (join (spell.argument_trees nowhere (bare_argument g)) (left_trees gs)) no_trees in
+      let own : Trees = join (join (spell.argument_trees nowhere (unplaced_argument g)) (left_trees gs)) no_trees in
       let all : Trees = join own (spell.punct 62 nowhere) in
       written_then (written_absent sees_colons (join (spell.punct 60 nowhere) all) refl)
       (written_then (written_punct w h 60 all)
       (written_then (written_arguments (deeper w) k g gs e no_trees) (written_punct w h 62 no_trees)))
   written_behind _ e = absurd e
 
-  written_words : (ss : SegmentTrees) → WordsWritten ss w → Written (grammar.segments (bare_segments ss) w) (words_trees true ss) no_trees
+  written_words : (ss : SegmentTrees) → WordsWritten ss w → Written (grammar.segments (unplaced_segments ss) w) (words_trees true ss) no_trees
   written_words no_segments e = absurd e
   written_words (segment_then (segment i a) no_segments) e =
-      let own : Trees = spell.arguments_trees nowhere (bare_arguments_of a) in
-      written_as {us = token (t.Ident (bare_ident i)) own} (ap (token (t.Ident (bare_ident i))) (join-no_trees own))
+      let own : Trees = spell.arguments_trees nowhere (unplaced_arguments_of a) in
+      written_as {us = token (t.Ident (unplaced_ident i)) own} (ap (token (t.Ident (unplaced_ident i))) (join-no_trees own))
       (written_then (written_then (written_word w h i e.0 own) (written_behind a e.1)) (written_absent sees_colons no_trees refl))
   written_words (segment_then (segment i absent) (segment_then (segment j a) ss)) e =
       let all : Trees = words_trees true (segment_then (segment j a) ss) in
@@ -276,11 +276,11 @@ module _ (w : Where) (h : Shallow w) (k : Shallow (deeper w)) where
 
   -- a path that is a type
   written_type : (p : PathTree) (r : Span) (single : Bool) → PathWritten p w →
-      Written (type_spelled (bare_type (type_tree (path no_self p) r)) single w) (spell.path_trees nowhere (bare_path p)) no_trees
+      Written (type_spelled (unplaced_type (type_tree (path no_self p) r)) single w) (spell.path_trees nowhere (unplaced_path p)) no_trees
   written_type p r single s =
-      let own : Trees = spell.path_trees nowhere (bare_path p) in
+      let own : Trees = spell.path_trees nowhere (unplaced_path p) in
       let called : sees_macro (join own no_trees) ≡ false =
-      uncalled_path no_trees stop_end (bare_path p) w own no_trees s.marks s.spelled (calm_end no_trees stop_end) in
+      uncalled_path no_trees stop_end (unplaced_path p) w own no_trees s.marks s.spelled (calm_end no_trees stop_end) in
       record {
         marks = s.marks;
         spelled = record {
@@ -300,7 +300,7 @@ module _ (w : Where) (h : Shallow w) (k : Shallow (deeper w)) where
 -- ---- the types that emitted code has beside those of the declaration
 
 pub self_written : (w : Where) → Shallow w → Shallow (deeper w) → (single : Bool) →
-    Written (type_spelled (bare_type self_type) single w) (spell.type_trees (bare_type self_type)) no_trees
+    Written (type_spelled (unplaced_type self_type) single w) (spell.type_trees (unplaced_type self_type)) no_trees
 unfolding is_keyword
 self_written w h k single =
     written_type w h k (plain_path (word (codes "Self") ∷ [])) nowhere single
@@ -308,7 +308,7 @@ self_written w h k single =
 
 ref_self_written : TypeWritten ref_self top
 ref_self_written =
-    let own : Trees = spell.type_trees (bare_type self_type) in
+    let own : Trees = spell.type_trees (unplaced_type self_type) in
     let s =
     written_then (written_punct top refl 38 own)
     (written_then (written_absent sees_lifetime own refl)
@@ -382,7 +382,7 @@ abbrev type_of : Ident → List ParamTree → TypeTree
 type_of i ps = type_tree (path no_self (path_tree false (segment_then (segment i (arguments ps)) no_segments))) nowhere
 
 -- its name
-type_named : (i : Ident) (ps : List ParamTree) → TypeAlone (bare_type (type_of i ps)) → IsTrue (is_path_word i)
+type_named : (i : Ident) (ps : List ParamTree) → TypeAlone (unplaced_type (type_of i ps)) → IsTrue (is_path_word i)
 type_named i ps a = a.spelled.part.part.rest.first.first.fact
 
 abbrev each_argument : List ParamTree → ArgumentTrees
@@ -403,44 +403,19 @@ arguments_written : (w : Where) → Shallow (deeper w) → Shallow (deeper (deep
 arguments_written w h k [] n = tt
 arguments_written w h k (p ∷ ps) n = each_written (deeper w) h k (p ∷ ps) n
 
--- without ranges twice is once
-once_argument : (p : ParamTree) → unplaced_argument (bare_argument (implementors.argument p)) ≡ bare_argument (implementors.argument p)
-once_argument (lifetime_param as' l bs) = refl
-once_argument (type_param as' i bs d) = refl
-once_argument (const_param as' i x d) = refl
-
-once_each : (ps : List ParamTree) → unplaced_arguments (bare_arguments (each_argument ps)) ≡ bare_arguments (each_argument ps)
-once_each [] = refl
-once_each (p ∷ ps) = ap₂ (λ g gs. argument_then g gs) (once_argument p) (once_each ps)
-
-once_arguments : (ps : List ParamTree) → unplaced_arguments_of (bare_arguments_of (arguments ps)) ≡ bare_arguments_of (arguments ps)
-once_arguments [] = refl
-once_arguments (p ∷ ps) = ap (λ gs. angle false gs false) (once_each (p ∷ ps))
-
-abbrev Once : TypeTree → Type 0
-Once x = unplaced_type (bare_type x) ≡ bare_type x
-
-once_implementor : (d : Declaration) → Once (implementor d)
-once_implementor d =
-    ap (λ a. type_tree (path no_self (path_tree false (segment_then (segment (bare_ident d.ident) a) no_segments))) nowhere)
-    (once_arguments (params_of d))
-
-once_fallible : (x : TypeTree) (l : List ℕ) → Once x → Once (fallible x l)
-once_fallible x l e = ap (λ y. fallible y l) e
-
 -- ---- types of the output language
 
 -- those that their own tokens spell where nothing follows them
-is_type : (x : TypeTree) → Once x → TypeWritten x top → IsType (bare_type x)
-is_type x e s =
+is_type : (x : TypeTree) → TypeWritten x top → IsType (unplaced_type x)
+is_type x s =
     record {
-      unplaced = e;
+      unplaced = once_type x;
       spelled = record {
-        like = bare_type x;
+        like = unplaced_type x;
         same = refl;
         single = false;
         place = top;
-        trees = spell.type_trees (bare_type x);
+        trees = spell.type_trees (unplaced_type x);
         others = no_trees;
         marks = s.marks;
         spelled = s.spelled;
@@ -448,18 +423,18 @@ is_type x e s =
       };
     }
 
-either_type : (b : Bool) (x y : TypeTree) → IsType (bare_type x) → IsType (bare_type y) → IsType (bare_type (cond b x y))
+either_type : (b : Bool) (x y : TypeTree) → IsType (unplaced_type x) → IsType (unplaced_type y) → IsType (unplaced_type (cond b x y))
 either_type true x y h k = h
 either_type false x y h k = k
 
-self_is_type : IsType (bare_type self_type)
-self_is_type = is_type self_type refl (self_written top refl refl false)
+self_is_type : IsType (unplaced_type self_type)
+self_is_type = is_type self_type (self_written top refl refl false)
 
 -- what the operator of two values gives
-binary_type : (b : Bool) → IsType (bare_type (binary_output b))
+binary_type : (b : Bool) → IsType (unplaced_type (binary_output b))
 unfolding is_keyword
 binary_type true =
-    is_type (fallible self_type (codes "BinaryError")) (once_fallible self_type (codes "BinaryError") refl)
+    is_type (fallible self_type (codes "BinaryError"))
     (fallible_written self_type (codes "BinaryError") (self_written inner refl refl false) refl)
 binary_type false = self_is_type
 
@@ -469,7 +444,7 @@ binary_type false = self_is_type
 pub comparison_types : (c : _) (b : BlockTree) →
     IsParam leaf_grammar (bare_method (method_with c b)).param × IsOutput leaf_grammar (bare_method (method_with c b)).output
 unfolding is_keyword
-comparison_types c b = ((refl, is_type ref_self refl ref_self_written), is_type (name_type (word (codes "bool"))) refl bool_written)
+comparison_types c b = ((refl, is_type ref_self ref_self_written), is_type (name_type (word (codes "bool"))) bool_written)
 
 -- ---- operators
 
@@ -477,17 +452,17 @@ comparison_types c b = ((refl, is_type ref_self refl ref_self_written), is_type 
 pub operator_param : (form : Form) → IsParam leaf_grammar (option_map bare_param_of (method_param form))
 unfolding is_keyword
 operator_param structural = (refl, self_is_type)
-operator_param scalar = (refl, is_type right_type refl (right_written top refl refl))
+operator_param scalar = (refl, is_type right_type (right_written top refl refl))
 operator_param unary = tt
 
 -- what isn't there, or of the grammar
-either_assocs : (b : Bool) (x : TypeTree) → IsType (bare_type x) →
+either_assocs : (b : Bool) (x : TypeTree) → IsType (unplaced_type x) →
     AreAssocs leaf_grammar (map bare_assoc (cond b [] (record { name = word (codes "Output"); ty = x } ∷ [])))
 unfolding is_keyword
 either_assocs true x h = tt
 either_assocs false x h = ((refl, h), tt)
 
-either_output : (b : Bool) (x : TypeTree) → IsType (bare_type x) → IsOutput leaf_grammar (option_map bare_type (cond b None (Some x)))
+either_output : (b : Bool) (x : TypeTree) → IsType (unplaced_type x) → IsOutput leaf_grammar (option_map unplaced_type (cond b None (Some x)))
 either_output true x h = tt
 either_output false x h = h
 
@@ -502,22 +477,22 @@ module _ (d : Declaration) (limit : ℕ) (ts : Trees) (m : Marks) (s : SpelledBy
       ))
 
   -- what the operator of one value gives
-  unary_type : IsType (bare_type (unary_output d))
+  unary_type : IsType (unplaced_type (unary_output d))
   unfolding is_keyword
   unary_type =
       either_type (has_unit d) (fallible (implementor d) (codes "UnitError")) (implementor d)
-      (is_type (fallible (implementor d) (codes "UnitError")) (once_fallible (implementor d) (codes "UnitError") (once_implementor d))
+      (is_type (fallible (implementor d) (codes "UnitError"))
       (fallible_written (implementor d) (codes "UnitError") (implementor_written inner refl refl refl) refl))
-      (is_type (implementor d) (once_implementor d) (implementor_written top refl refl refl))
+      (is_type (implementor d) (implementor_written top refl refl refl))
 
-  output_is_type : (form : Form) → IsType (bare_type (output_type form d))
+  output_is_type : (form : Form) → IsType (unplaced_type (output_type form d))
   output_is_type structural = binary_type (is_enum d)
   output_is_type scalar = self_is_type
   output_is_type unary = unary_type
 
-  returned_is_type : (form : Form) → IsType (bare_type (returned form d))
-  returned_is_type structural = is_type own_output refl own_output_written
-  returned_is_type scalar = is_type own_output refl own_output_written
+  returned_is_type : (form : Form) → IsType (unplaced_type (returned form d))
+  returned_is_type structural = is_type own_output own_output_written
+  returned_is_type scalar = is_type own_output own_output_written
   returned_is_type unary = unary_type
 
   -- the associated type
@@ -525,12 +500,12 @@ module _ (d : Declaration) (limit : ℕ) (ts : Trees) (m : Marks) (s : SpelledBy
   operator_assocs form o = either_assocs o.assigning (output_type form d) (output_is_type form)
 
   -- the output
-  pub operator_output : (form : Form) (o : Operator) → IsOutput leaf_grammar (option_map bare_type (method_output form o d))
+  pub operator_output : (form : Form) (o : Operator) → IsOutput leaf_grammar (option_map unplaced_type (method_output form o d))
   operator_output form o = either_output o.assigning (returned form d) (returned_is_type form)
 
   -- all of them
   pub operator_types : (o : Operator) →
       AreAssocs leaf_grammar (map bare_assoc (assocs (form_in o d) o d)) ×
       IsParam leaf_grammar (option_map bare_param_of (method_param (form_in o d))) ×
-      IsOutput leaf_grammar (option_map bare_type (method_output (form_in o d) o d))
+      IsOutput leaf_grammar (option_map unplaced_type (method_output (form_in o d) o d))
   operator_types o = (operator_assocs (form_in o d) o, operator_param (form_in o d), operator_output (form_in o d) o)

@@ -10,7 +10,7 @@ use Rattle.dm_output.specs.Output.{PatternTree, patterns_of, named_of}
 use Rattle.dm_output.specs.Values.{Text, is_enum}
 use Rattle.dm_generics.specs.Words.{word}
 use Rattle.dm_generics.specs.Numerals.{numeral}
-use Rattle.dm_reread.specs.BareTypes.{bare_path, bare_segments}
+use Rattle.dm_type_eq.specs.Unplaced.{unplaced_path, unplaced_segments}
 use Rattle.dm_reread.specs.Bare.{bare_pattern, bare_patterns, bare_named}
 use Rattle.dm_reread.specs.Grammar.{IsName, ArePlain, IsPlainPath, is_single, IsPattern, ArePatterns, AreNamedPatterns}
 use Rattle.dm_reread.proofs.Words.{name-path}
@@ -41,12 +41,12 @@ other_names n = underscored_name (codes "other_" ++ numeral n)
 
 -- ---- paths of words
 
-pub plain_words : (is : List Ident) → Each (λ i. IsTrue (is_path_word i)) is → ArePlain (bare_segments (segments is))
+pub plain_words : (is : List Ident) → Each (λ i. IsTrue (is_path_word i)) is → ArePlain (unplaced_segments (segments is))
 plain_words [] h = tt
 plain_words (i ∷ is) h = (h.0, plain_words is h.1)
 
 pub plain_path_of : (i : Ident) (is : List Ident) → Each (λ j. IsTrue (is_path_word j)) (i ∷ is) →
-    IsPlainPath (bare_path (plain_path (i ∷ is)))
+    IsPlainPath (unplaced_path (plain_path (i ∷ is)))
 plain_path_of i is h = (tt, plain_words (i ∷ is) h)
 
 -- `Self` is a word of a path, but no name
@@ -54,13 +54,13 @@ pub type_word : IsTrue (is_path_word (word (codes "Self")))
 unfolding is_keyword
 type_word = refl
 
-type_binds_nothing : is_single (bare_path (plain_path (word (codes "Self") ∷ []))) ≡ false
+type_binds_nothing : is_single (unplaced_path (plain_path (word (codes "Self") ∷ []))) ≡ false
 unfolding is_keyword
 type_binds_nothing = refl
 
 -- the path of a pattern, which is no name alone
 abbrev pub IsCasePath : PathTree → Type 0
-IsCasePath p = IsPlainPath (bare_path p) × (is_single (bare_path p) ≡ false)
+IsCasePath p = IsPlainPath (unplaced_path p) × (is_single (unplaced_path p) ≡ false)
 
 -- `Self::V`, or `Self`
 pub case_path_plain : (enum : Bool) (i : Ident) → IsName i →

@@ -19,7 +19,7 @@ use Rattle.dm_operands.specs.Sides.{bindings, named_bindings, field_ident, case_
 use Rattle.dm_operators.specs.Operators as ops
 use Rattle.dm_operators.specs.Operators.{Operator, method_names}
 use Rattle.dm_operators.specs.Bodies.{operation_call, call_of, in_ok, in_err, new_error, binary_error, binary_unit, mismatch, unary_unit, parts, named_parts, in_parens, constructor, right_operand, binary_call, binary_part, assigning_calls, arm, keep, whole, bound_in, sides, value_given, is_unit_form, answer_given, binary_pattern, binary_given, binary_arm, different_body, different, has_rest, rest, subject, inner_part, variant_path, some_unit_form, unary_given, unary_arm, member_of, own_part, binary_body, unary_enum, unary_struct, body_expr}
-use Rattle.dm_reread.specs.BareTypes.{bare_path}
+use Rattle.dm_type_eq.specs.Unplaced.{unplaced_path}
 use Rattle.dm_reread.specs.Bare.{bare_member, bare_pattern, bare_patterns, bare_named, bare_expr, bare_exprs, bare_named_exprs, bare_arms, bare_body, bare_stmts, bare_block}
 use Rattle.dm_reread.specs.Leaves.{LeafGrammar}
 use Rattle.dm_reread.specs.Grammar as grammar
@@ -63,7 +63,7 @@ right_word = refl
 -- ---- paths, which have no arguments
 
 abbrev IsBarePath : PathTree → Type 0
-IsBarePath p = IsPlainPath (bare_path p)
+IsBarePath p = IsPlainPath (unplaced_path p)
 
 name_path : (x : Text) → IsTrue (is_path_word (word x)) → IsBarePath (plain_path (word x ∷ []))
 name_path x h = (tt, (h, tt))
@@ -106,7 +106,7 @@ method_path o h = (tt, (refl, (refl, (refl, (h.trait_named, (name-path (word o.m
 
 -- a path of a case: it is no single name
 abbrev IsCasePath : PathTree → Type 0
-IsCasePath p = IsBarePath p × (is_single (bare_path p) ≡ false)
+IsCasePath p = IsBarePath p × (is_single (unplaced_path p) ≡ false)
 
 self_path : IsCasePath (plain_path (word (codes "Self") ∷ []))
 unfolding is_keyword

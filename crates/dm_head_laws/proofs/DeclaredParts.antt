@@ -28,14 +28,13 @@ use Rattle.dm_output.specs.Tokens.{param_trees, predicate_trees}
 use Rattle.dm_read.proofs.Deciding.{deep_behind}
 use Rattle.dm_type_eq.proofs.Cutting.{Cut, cut_end}
 use Rattle.dm_type_eq.proofs.Respelling.{Lower, Again, RespellsIf, Respells, Left, respells_then, respells_name, respells_lifetime, respells_word, respells_colon, lowered_within}
-use Rattle.dm_reread.specs.BareTypes.{bare_ident, bare_lifetime, bare_type, bare_argument, bare_arguments, bare_arguments_of}
+use Rattle.dm_type_eq.specs.Unplaced.{unplaced_argument, unplaced_arguments, unplaced_arguments_of, unplaced_ident, unplaced_lifetime, unplaced_type}
 use Rattle.dm_reread.specs.Bare.{bare_param, bare_predicate}
 use Rattle.dm_reread.specs.HeadLeaves.{are_plain}
 use Rattle.dm_reread.specs.TypeLeaves.{top, IsType}
 use Rattle.dm_reread.proofs.HeadLeaf.{first_within, rest_within}
 use Rattle.dm_reread.proofs.TypeLeafCalls.{no_call}
 use Rattle.dm_reread.proofs.TypeLeafUnplaced.{read_is_type}
-use Rattle.dm_read_laws.proofs.TypeSound.{same_type}
 use Rattle.dm_read_laws.proofs.HeadAgain.{again_bare, maybe_lifetimes, maybe_list, predicate_again}
 use Rattle.dm_head_laws.specs.Parts as parts
 use Rattle.dm_head_laws.specs.Parts.{inner, ParamAlone, PredicateAlone, TypeAlone, Each}
@@ -168,12 +167,12 @@ predicate_alone p w ts x =
 
 -- a type that is spelled somewhere
 abbrev Known : TypeTree → Type 0
-Known x = IsType (bare_type x) × TypeAlone (bare_type x)
+Known x = IsType (unplaced_type x) × TypeAlone (unplaced_type x)
 
 type_known : (x : TypeTree) (w : Where) (ts : Trees) → From (type_spelled x false w) ts → Known x
 type_known x w ts s = (
-  subst IsType (sym (same_type x)) (read_is_type x false w ts s.others s.marks s.spelled s.within),
-  spelled_alone (type_spelled (bare_type x) false) top (spell.type_trees (bare_type x)) (again_bare (lower_top w) x) ts s tt,
+  read_is_type x false w ts s.others s.marks s.spelled s.within,
+  spelled_alone (type_spelled (unplaced_type x) false) top (spell.type_trees (unplaced_type x)) (again_bare (lower_top w) x) ts s tt,
 )
 
 -- ---- parameters, without attributes and defaults
@@ -447,10 +446,10 @@ module _ (w : Where) (h : nat_lt deepest w.level ≡ false) where
     flat = (h, refl, tt);
   }
 
-  written_lifetime : (l : Lifetime) (o : Trees) → Written (lifetime w (bare_lifetime l)) (spell.lifetime (bare_lifetime l)) o
+  written_lifetime : (l : Lifetime) (o : Trees) → Written (lifetime w (unplaced_lifetime l)) (spell.lifetime (unplaced_lifetime l)) o
   written_lifetime l o = record { marks = (w.level, nowhere) ∷ []; spelled = record { spelled = refl; marks = refl }; flat = (h, refl, tt) }
 
-  written_word : (i : Ident) → IsTrue (is_name i) → (o : Trees) → Written (grammar.word w (bare_ident i)) (spell.name (bare_ident i)) o
+  written_word : (i : Ident) → IsTrue (is_name i) → (o : Trees) → Written (grammar.word w (unplaced_ident i)) (spell.name (unplaced_ident i)) o
   written_word i n o = record {
     marks = (w.level, nowhere) ∷ [];
     spelled = record { fact = or_left (is_name i) _ n; part = record { spelled = refl; marks = refl } };
@@ -468,11 +467,11 @@ module _ (w : Where) (h : nat_lt deepest w.level ≡ false) (i : Ident) (n : IsT
 
   written_type : Written (grammar.arguments_of_segment gs w) (spell.arguments_trees nowhere gs) o → sees_colons o ≡ false →
       is_call (Some (behind_idents (join behind_name o))) ≡ false →
-      Written (type_spelled (type_of (bare_ident i) gs) false w) (spell.type_trees (type_of (bare_ident i) gs)) o
+      Written (type_spelled (type_of (unplaced_ident i) gs) false w) (spell.type_trees (type_of (unplaced_ident i) gs)) o
   written_type x c k =
-      let q : PathTree = path_tree false (segment_then (segment (bare_ident i) gs) no_segments) in
+      let q : PathTree = path_tree false (segment_then (segment (unplaced_ident i) gs) no_segments) in
       let p : Written (grammar.path_spelled q w) (spell.path_trees nowhere q) o =
-      written_then (written_absent sees_colons (token (t.Ident (bare_ident i)) (join behind_name o)) refl)
+      written_then (written_absent sees_colons (token (t.Ident (unplaced_ident i)) (join behind_name o)) refl)
       (written_then (written_then (written_word w h i n (join (spell.arguments_trees nowhere gs) o)) x) (written_absent sees_colons o c)) in
       record {
         marks = p.marks;
@@ -510,13 +509,13 @@ after_end : (o : Trees) → After (punct_before 62 o)
 after_end o = record { colons = refl; call = no_call (lone 62) o refl refl; more = refl; binding = refl }
 
 abbrev bare_argument_of : ParamTree → ArgumentTree
-bare_argument_of p = bare_argument (argument p)
+bare_argument_of p = unplaced_argument (argument p)
 
 abbrev all_bare : List ParamTree → ArgumentTrees
-all_bare ps = bare_arguments (arguments_of (map argument ps))
+all_bare ps = unplaced_arguments (arguments_of (map argument ps))
 
 named_argument : (i : Ident) → IsTrue (is_name i) → (o : Trees) → After o →
-    Written (grammar.argument (type_arg (type_of (bare_ident i) absent)) inner) (spell.type_trees (type_of (bare_ident i) absent)) o
+    Written (grammar.argument (type_arg (type_of (unplaced_ident i) absent)) inner) (spell.type_trees (type_of (unplaced_ident i) absent)) o
 named_argument i n o a =
     let x = written_type inner refl i n absent o (written_absent sees_arguments o a.more) a.colons a.call in
     record { marks = x.marks; spelled = record { part = x.spelled; fact = a.binding }; flat = x.flat }
@@ -555,10 +554,10 @@ module _ (o : Trees) where
 
 -- `<` and `>` around the arguments, where there are any
 abbrev given_trees : List ParamTree → Trees
-given_trees ps = spell.arguments_trees nowhere (bare_arguments_of (arguments ps))
+given_trees ps = spell.arguments_trees nowhere (unplaced_arguments_of (arguments ps))
 
 given_arguments : (ps : List ParamTree) → Each HasName ps →
-    Written (grammar.arguments_of_segment (bare_arguments_of (arguments ps)) top) (given_trees ps) no_trees
+    Written (grammar.arguments_of_segment (unplaced_arguments_of (arguments ps)) top) (given_trees ps) no_trees
 given_arguments [] e = written_absent sees_arguments no_trees refl
 given_arguments (p ∷ ps) e =
     written_then (written_absent sees_colons _ refl)
@@ -568,10 +567,10 @@ no_call_behind : (ps : List ParamTree) → is_call (Some (behind_idents (join (j
 no_call_behind [] = refl
 no_call_behind (p ∷ ps) = no_call (lone 60) _ refl refl
 
-named_alone : (i : Ident) → IsTrue (is_name i) → (ps : List ParamTree) → Each HasName ps → TypeAlone (bare_type (type_of i (arguments ps)))
+named_alone : (i : Ident) → IsTrue (is_name i) → (ps : List ParamTree) → Each HasName ps → TypeAlone (unplaced_type (type_of i (arguments ps)))
 named_alone i n ps e =
-    let gs : ArgumentsTree = bare_arguments_of (arguments ps) in
-    let y : TypeTree = type_of (bare_ident i) gs in
+    let gs : ArgumentsTree = unplaced_arguments_of (arguments ps) in
+    let y : TypeTree = type_of (unplaced_ident i) gs in
     let x = written_type top refl i n gs no_trees (given_arguments ps e) refl (no_call_behind ps) in
     record {
       marks = x.marks;
@@ -609,15 +608,15 @@ module _ (d : Declaration) (limit : ℕ) (ts : Trees) (m : Marks) (s : SpelledBy
       (each_predicate (λ p. PredicateAlone (bare_predicate p)) place (λ p us x. predicate_alone p place us x) d.generics.where_clause
       c.front c.there)
 
-  pub declared_cases : Each (λ c. Each (λ f. IsType (bare_type f.ty) × TypeAlone (bare_type f.ty)) (field_list c.fields)) (cases d)
+  pub declared_cases : Each (λ c. Each (λ f. IsType (unplaced_type f.ty) × TypeAlone (unplaced_type f.ty)) (field_list c.fields)) (cases d)
   declared_cases =
       cases_hold Known (λ x w n ts s. type_known x (inside_of w n) ts s) d.attrs d.ident d.generics place d.shape there.front there.there
 
   pub declared_types : (n k : ℕ) (c : Case) (f : FieldTree) → slice_get (cases d) n ≡ Some c → slice_get (field_list c.fields) k ≡ Some f →
-      IsType (bare_type f.ty) × TypeAlone (bare_type f.ty)
+      IsType (unplaced_type f.ty) × TypeAlone (unplaced_type f.ty)
   declared_types n k c f g h = each_get KnownField (field_list c.fields) k f (each_get KnownCase (cases d) n c declared_cases g) h
 
-  pub implementor_alone : TypeAlone (bare_type (implementor d))
+  pub implementor_alone : TypeAlone (unplaced_type (implementor d))
   implementor_alone =
       let n = name_stands d.ident d.generics place d.shape there.front there.there in
       named_alone d.ident n.there.spelled.fact (params_of d) (each_of_params HasName (λ p us x. param_named p (deeper place) us x))

@@ -7,7 +7,7 @@ use Rattle.dm_lexer.specs.Written.{unplaced}
 use Rattle.dm_output.specs.Output.{FmtArgTree, FmtTree, PatternTree, wild, bind, str_pattern, path_pattern, tuple_pattern, named_pattern, pair_pattern, PatternTrees, no_patterns, pattern_then, NamedPatterns, no_named, named_then, ExprTree, return_expr, or_expr, and_expr, equal, unequal, ref_opaque, ref_expr, deref, member, method_call, map_expr, map_err, question, path_expr, call, build, build_named, paren, tuple, opaque_call, str_expr, bool, match_expr, unsafe_expr, write_expr, format_args, ExprTrees, no_exprs, expr_then, NamedExprs, no_named_exprs, named_expr_then, MaybeExpr, no_expr, some_expr, ArmTrees, no_arms, arm_then, ArmBodyTree, block_body, expr_body, StmtTree, let_stmt, check_stmt, import_stmt, do_stmt, const_stmt, StmtTrees, no_stmts, stmt_then, BlockTree, block}
 use Rattle.dm_type_levels.specs.TypeLevels.{spaced_levels}
 use Rattle.dm_levels.specs.Levels.{opaque_levels, pattern_levels, each_pattern, each_named, alias_levels, fmt_arg_levels, fmt_levels, macro_levels, base_levels, expr_levels, each_expr, each_named_expr, maybe_expr_levels, guard_levels, arms_levels, body_levels, stmt_levels, stmts_levels, inside_levels, block_levels}
-use Rattle.dm_reread.specs.BareTypes.{bare_ident}
+use Rattle.dm_type_eq.specs.Unplaced.{unplaced_ident}
 use Rattle.dm_reread.specs.Bare.{bare_fmt_arg, bare_fmt, bare_pattern, bare_patterns, bare_named, bare_expr, bare_exprs, bare_named_exprs, bare_maybe, bare_arms, bare_body, bare_stmt, bare_stmts, bare_block}
 use Rattle.dm_level_laws.proofs.BareTypeLevels.{map_same, trees_same, type_same, path_same, path_expr_same}
 
@@ -16,7 +16,7 @@ use Rattle.dm_level_laws.proofs.BareTypeLevels.{map_same, trees_same, type_same,
 pub opaque_same : (k : ℕ) (o : Trees) → opaque_levels k (unplaced o) ≡ opaque_levels k o
 opaque_same k o = simp (trees_same (k + 1) o)
 
-alias_same : (k : ℕ) (i : Option Ident) → alias_levels k (option_map bare_ident i) ≡ alias_levels k i
+alias_same : (k : ℕ) (i : Option Ident) → alias_levels k (option_map unplaced_ident i) ≡ alias_levels k i
 alias_same k None = refl
 alias_same k (Some i) = refl
 

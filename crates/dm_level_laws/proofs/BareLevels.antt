@@ -11,7 +11,7 @@ use Rattle.dm_output.specs.declared.item.Receiver.{Receiver}
 use Rattle.dm_type_levels.specs.Passing.{first_span, behind_first, pass}
 use Rattle.dm_type_levels.specs.TypeLevels.{grouped_levels, spaced_levels, param_levels, predicate_levels}
 use Rattle.dm_levels.specs.Levels.{in_turn, params_levels, where_levels, trait_levels, assoc_levels, inputs_levels, output_levels, signature_levels, method_levels, head_levels, item_levels, items_levels, too_deep, deep_in}
-use Rattle.dm_reread.specs.BareTypes.{bare_type, bare_path}
+use Rattle.dm_type_eq.specs.Unplaced.{unplaced_path, unplaced_type}
 use Rattle.dm_reread.specs.Bare.{bare_param, bare_predicate, bare_assoc, bare_param_of, bare_method, bare_item}
 use Rattle.dm_reread.specs.Unplaced.{bare_items}
 use Rattle.dm_levels.specs.Low.{AllLow}
@@ -31,7 +31,7 @@ where_same k [] = refl
 where_same k (p ∷ ps) =
     ap (λ ls. k ∷ spaced_levels (k ∷ []) true ls) (map_same (predicate_levels k) bare_predicate (predicate_same k) (p ∷ ps))
 
-pub trait_same : (k : ℕ) (p : Option PathTree) → trait_levels k (option_map bare_path p) ≡ trait_levels k p
+pub trait_same : (k : ℕ) (p : Option PathTree) → trait_levels k (option_map unplaced_path p) ≡ trait_levels k p
 trait_same k None = refl
 trait_same k (Some p) = simp (path_same k p)
 
@@ -50,7 +50,7 @@ inputs_same k None (Some p) = simp (type_same k p.ty)
 inputs_same k (Some r) None = refl
 inputs_same k (Some r) (Some p) = simp (type_same k p.ty)
 
-pub output_same : (k : ℕ) (t : Option TypeTree) → output_levels k (option_map bare_type t) ≡ output_levels k t
+pub output_same : (k : ℕ) (t : Option TypeTree) → output_levels k (option_map unplaced_type t) ≡ output_levels k t
 output_same k None = refl
 output_same k (Some t) = simp (type_same k t)
 

@@ -16,22 +16,20 @@ use Rattle.dm_output.specs.Tokens.{maybe_bounds_trees, maybe_lifetimes_trees, pa
 use Rattle.dm_type_eq.proofs.Cutting.{Cut, unseen_sees, unseen_word, unseen_lifetime, unseen_colon, unseen_equals, ends_kept}
 use Rattle.dm_type_eq.proofs.Respelling.{Lower, below, RespellsIf, Respells, Ending, respells_then, respells_provided, respells_nothing, respells_absent, respells_flag, respells_lifetime, respells_word, IsPlain, plain, respells_colon, Left, respells_last, respells_none, respells_first, respells_next, respells_angles, respells_attributes, respells_for, respells_name}
 use Rattle.dm_type_eq.proofs.RespelledTypes.{again_type, again_bounds}
-use Rattle.dm_reread.specs.BareTypes.{bare_lifetime, bare_lifetimes, bare_type}
+use Rattle.dm_type_eq.specs.Unplaced.{unplaced_lifetime, unplaced_lifetimes, unplaced_type}
 use Rattle.dm_reread.specs.Bare.{bare_listed, bare_punctuated, bare_param, bare_predicate}
 use Rattle.dm_reread.specs.HeadLeaves.{is_plain, is_lifetime, are_plain}
-use Rattle.dm_read_laws.proofs.TypeSound.{same_type, same_bounds}
 use Rattle.dm_read_laws.proofs.NaturalTypes.{bounds_of_bare}
 use Rattle.dm_read_laws.proofs.NaturalDeclarations.{bare_items_of}
 
 -- ---- types and lifetimes, without ranges in the words of the output language
 
 pub again_bare : {v w : Where} → Lower v w → (x : TypeTree) →
-    Respells (type_spelled x false w) (type_spelled (bare_type x) false v) (spell.type_trees (bare_type x))
-again_bare {v} {w} l x =
-    subst (λ y. Respells (type_spelled x false w) (type_spelled y false v) (spell.type_trees y)) (sym (same_type x)) (again_type x false l)
+    Respells (type_spelled x false w) (type_spelled (unplaced_type x) false v) (spell.type_trees (unplaced_type x))
+again_bare l x = again_type x false l
 
 again_for : {v w : Where} → Lower v w → (f : Lifetimes) →
-    Respells (for_lifetimes w f) (for_lifetimes v (bare_lifetimes f)) (spell.for_trees nowhere (bare_lifetimes f))
+    Respells (for_lifetimes w f) (for_lifetimes v (unplaced_lifetimes f)) (spell.for_trees nowhere (unplaced_lifetimes f))
 again_for l None = respells_for l None
 again_for l (Some ls) = respells_for l (Some ls)
 
@@ -71,12 +69,12 @@ again_lifetimes : {v w : Where} → Lower v w → (ls : Punctuated Lifetime) →
     (maybe_lifetimes_trees (Some (bare_punctuated ls)))
 again_lifetimes {v} {w} l ls =
     respells_then (respells_colon l) (λ ts others m s o c h.
-    items_again (lifetime w) (lifetime v) bare_lifetime spell.lifetime 43 (plain 43 refl) no_lifetime l ls.items ls.trailing
-    (each_again (lifetime w) (lifetime v) bare_lifetime spell.lifetime (respells_lifetime l) ls.items) ts others m s o c (lifetime_ends o others c))
+    items_again (lifetime w) (lifetime v) unplaced_lifetime spell.lifetime 43 (plain 43 refl) no_lifetime l ls.items ls.trailing
+    (each_again (lifetime w) (lifetime v) unplaced_lifetime spell.lifetime (respells_lifetime l) ls.items) ts others m s o c (lifetime_ends o others c))
 
 pub maybe_lifetimes : {v w : Where} → Lower v w → (bs : Option (Punctuated Lifetime)) →
     Respells (perhaps sees_colon bs (λ ls. colon w then lifetime_bounds w ls))
-    (perhaps sees_colon (bare_lifetimes bs) (λ ls. colon v then lifetime_bounds v ls)) (maybe_lifetimes_trees (bare_lifetimes bs))
+    (perhaps sees_colon (unplaced_lifetimes bs) (λ ls. colon v then lifetime_bounds v ls)) (maybe_lifetimes_trees (unplaced_lifetimes bs))
 maybe_lifetimes l None = respells_absent unseen_colon
 maybe_lifetimes l (Some ls) = again_lifetimes l ls
 
@@ -87,7 +85,7 @@ again_list {v} {w} l bs =
     (subst
     (λ x.
     Respells (bounds (bounds_of bs.items) bs.trailing w) (bounds x bs.trailing v) (spell.listed 43 nowhere (spell.each_bound nowhere x) bs.trailing))
-    (sym (same_bounds (bounds_of bs.items)) ∙ sym (bounds_of_bare bs.items))
+    (sym (bounds_of_bare bs.items))
     (λ ts others m s o c h. again_bounds (bounds_of bs.items) bs.trailing l ts others m s o c (ends_kept o others c)))
 
 pub maybe_list : {v w : Where} → Lower v w → (bs : Option (Listed BoundTree)) →
@@ -169,7 +167,7 @@ before_for_trees None = no_trees
 before_for_trees (Some x) = join (spell.type_trees x) (spell.word (codes "for") nowhere)
 
 before_for_again : {v w : Where} → Lower v w → (o : Option TypeTree) →
-    Respells (before_for o w) (before_for (option_map bare_type o) v) (before_for_trees (option_map bare_type o))
+    Respells (before_for o w) (before_for (option_map unplaced_type o) v) (before_for_trees (option_map unplaced_type o))
 before_for_again l None = respells_nothing
 before_for_again l (Some x) = respells_then (again_bare l x) (respells_word l (codes "for"))
 
@@ -182,8 +180,8 @@ all_trees angled ps o x c = join (generic_trees angled ps) (join (before_for_tre
 pub between_again : {v w : Where} → Lower v w → (angled : Bool) (ps : Listed ParamTree) (o : Option TypeTree) (x : TypeTree) →
     (c : Option (Listed PredicateTree)) → are_plain true ps.items ≡ true →
     RespellsIf (Ending ends_where) (between angled ps o x c w)
-    (between angled (bare_params ps) (option_map bare_type o) (bare_type x) (bare_clause c) v)
-    (all_trees angled (bare_params ps) (option_map bare_type o) (bare_type x) (bare_clause c))
+    (between angled (bare_params ps) (option_map unplaced_type o) (unplaced_type x) (bare_clause c) v)
+    (all_trees angled (bare_params ps) (option_map unplaced_type o) (unplaced_type x) (bare_clause c))
 between_again l angled ps o x c e =
     respells_then (generics_again l angled ps e)
     (respells_then (before_for_again l o) (respells_then (again_bare l x) (clause_again l c)))

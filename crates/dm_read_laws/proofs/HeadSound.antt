@@ -27,7 +27,7 @@ use Rattle.dm_read_paths.specs.WholeReaders.{whole_type, parts}
 use Rattle.dm_read_paths.specs.Bindings.{path_alone}
 use Rattle.dm_type_eq.proofs.Cutting.{cut_end}
 use Rattle.dm_type_eq.proofs.Respelling.{Lowered, lowered_within}
-use Rattle.dm_reread.specs.BareTypes.{bare_type, bare_path}
+use Rattle.dm_type_eq.specs.Unplaced.{unplaced_path, unplaced_type}
 use Rattle.dm_reread.specs.Bare.{bare_param, bare_predicate}
 use Rattle.dm_reread.specs.BareReading.{NaturalItems, bare_head}
 use Rattle.dm_reread.specs.Leaves.{Answer}
@@ -388,7 +388,7 @@ clause_plain : (c : Clause) → map bare_predicate (predicates_in c) ≡ predica
 clause_plain None e = refl
 clause_plain (Some ps) e = ap (λ x. Some (record { items = x; trailing = ps.trailing })) e
 
-trait_plain : (range : Span) (o : Option PathTree) → option_map bare_path o ≡ o → option_map bare_type (as_type range o) ≡ as_type nowhere o
+trait_plain : (range : Span) (o : Option PathTree) → option_map unplaced_path o ≡ o → option_map unplaced_type (as_type range o) ≡ as_type nowhere o
 trait_plain range None e = refl
 trait_plain range (Some p) e = ap (as_type nowhere) e
 
@@ -466,20 +466,20 @@ module _ (h : HeadTree) (ts us : Trees) (r : IsHeadRead h ts us) (bare : bare_he
   clause_same =
       clause_plain r.clause (ap (map bare_predicate) r.predicates_are ∙ ap (λ (x : HeadTree). x.predicates) bare ∙ sym r.predicates_are)
 
-  type_same : bare_type h.ty ≡ h.ty
+  type_same : unplaced_type h.ty ≡ h.ty
   type_same = ap (λ (x : HeadTree). x.ty) bare
 
-  trait_same : option_map bare_type read_trait ≡ own_trait
+  trait_same : option_map unplaced_type read_trait ≡ own_trait
   trait_same = trait_plain r.range h.trait_path (ap (λ (x : HeadTree). x.trait_path) bare)
 
   abbrev trees_again : Trees
-  trees_again = all_trees r.angled (bare_params r.params) (option_map bare_type read_trait) (bare_type h.ty) (bare_clause r.clause)
+  trees_again = all_trees r.angled (bare_params r.params) (option_map unplaced_type read_trait) (unplaced_type h.ty) (bare_clause r.clause)
 
   abbrev Again : Trees → Marks → Type 0
   Again own m =
-      between r.angled (bare_params r.params) (option_map bare_type read_trait) (bare_type h.ty) (bare_clause r.clause) top own no_trees m
+      between r.angled (bare_params r.params) (option_map unplaced_type read_trait) (unplaced_type h.ty) (bare_clause r.clause) top own no_trees m
 
-  own_plain : IsOwn r.angled (bare_params r.params) (option_map bare_type read_trait) (bare_type h.ty) (bare_clause r.clause) (length r.marks)
+  own_plain : IsOwn r.angled (bare_params r.params) (option_map unplaced_type read_trait) (unplaced_type h.ty) (bare_clause r.clause) (length r.marks)
   own_plain =
       let x =
       between_again {v = top} {w = top} (record { level = omega arith; limit = refl }) r.angled r.params read_trait h.ty r.clause
@@ -495,8 +495,8 @@ module _ (h : HeadTree) (ts us : Trees) (r : IsHeadRead h ts us) (bare : bare_he
   own =
       subst (λ z. IsOwn r.angled ps own_trait h.ty z (length r.marks)) clause_same
       (subst (λ z. IsOwn r.angled ps own_trait z (bare_clause r.clause) (length r.marks)) type_same
-      (subst (λ z. IsOwn r.angled ps z (bare_type h.ty) (bare_clause r.clause) (length r.marks)) trait_same
-      (subst (λ z. IsOwn r.angled z (option_map bare_type read_trait) (bare_type h.ty) (bare_clause r.clause) (length r.marks)) params_plain
+      (subst (λ z. IsOwn r.angled ps z (unplaced_type h.ty) (bare_clause r.clause) (length r.marks)) trait_same
+      (subst (λ z. IsOwn r.angled z (option_map unplaced_type read_trait) (unplaced_type h.ty) (bare_clause r.clause) (length r.marks)) params_plain
       own_plain)))
 
   covered : Covers ts us r.marks

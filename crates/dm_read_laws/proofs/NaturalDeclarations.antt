@@ -16,7 +16,7 @@ use Rattle.dm_read_paths.specs.TypeReaders as types
 use Rattle.dm_read.specs.DeclarationReaders as decl
 use Rattle.dm_read.specs.DeclarationReaders.{Parts, read_name, to_listed, read_listed, read_bound_list, ends_lifetimes, read_lifetime_bounds, to_params, read_lifetime_param, read_const_param, read_type_param, read_param_behind, read_param, read_lifetime_predicate, read_type_predicate, read_predicate}
 use Rattle.dm_read_paths.specs.WholeReaders.{whole_type, whole_bound, parts}
-use Rattle.dm_reread.specs.BareTypes.{bare_ident, bare_attribute, bare_lifetimes, bare_constant, bare_type, bare_bound}
+use Rattle.dm_type_eq.specs.Unplaced.{unplaced_attribute, unplaced_bound, unplaced_constant, unplaced_ident, unplaced_lifetimes, unplaced_type}
 use Rattle.dm_reread.specs.Bare.{bare_listed, bare_punctuated, bare_param, bare_predicate}
 use Rattle.dm_reread.specs.BareReading.{bare_answer}
 use Rattle.dm_reread.specs.TypeLeaves.{read_type}
@@ -32,14 +32,14 @@ use Rattle.dm_read_laws.proofs.NaturalTypes.{ends_bounds_blind, colon_blind, nat
 abbrev pub bare_items_of : {A : Type 0} → (A → A) → Listed A → Listed A
 bare_items_of a xs = record { items = map a xs.items; trailing = xs.trailing }
 
-natural_name : Natural bare_ident read_name
+natural_name : Natural unplaced_ident read_name
 natural_name = natural_ident is_name (λ i. refl)
 
 natural_listed : {A : Type 0} {a : A → A} (ends : Trees → Bool) → Blind ends → (item : Where → Parser A) → Natural a item →
     Natural (bare_items_of a) (read_listed ends item)
 natural_listed ends e item h l m = alike_gives (alike_list l m 44 ends e (h l m)) to_listed (λ v. refl)
 
-natural_bound_list : (one : Where → Parser BoundTree) → Natural bare_bound one → Natural bare_listed (read_bound_list one)
+natural_bound_list : (one : Where → Parser BoundTree) → Natural unplaced_bound one → Natural bare_listed (read_bound_list one)
 natural_bound_list one h l m = alike_gives (alike_list l m 43 ends_bounds ends_bounds_blind (h l m)) to_listed (λ v. refl)
 
 ends_lifetimes_blind : Blind ends_lifetimes
@@ -59,44 +59,44 @@ to_params_bare (Some ps) = refl
 
 -- the parts that parameters and predicates have
 record AreNatural (p : Parts) : Type 0 where
-  types : Natural bare_type p.types
+  types : Natural unplaced_type p.types
   bounds : Natural bare_listed p.bounds
-  attributes : Natural (map bare_attribute) p.attributes
-  lifetimes : Natural bare_lifetimes p.lifetimes
-  constant : Natural bare_constant p.constant
+  attributes : Natural (map unplaced_attribute) p.attributes
+  lifetimes : Natural unplaced_lifetimes p.lifetimes
+  constant : Natural unplaced_constant p.constant
 
 module _ (p : Parts) (h : AreNatural p) where
   -- ---- generics
 
   natural_lifetime_param : (attrs : List Attribute) (l m : ℕ) →
-      Alike bare_param (read_lifetime_param p attrs (ending l m)) (read_lifetime_param p (map bare_attribute attrs) (ending l 0))
+      Alike bare_param (read_lifetime_param p attrs (ending l m)) (read_lifetime_param p (map unplaced_attribute attrs) (ending l 0))
   natural_lifetime_param attrs l m =
       alike_gives_by
       (alike_and (natural_lifetime l m)
       (alike_by (alike_perhaps sees_colon colon_blind (alike_next (natural_colon l m) (natural_lifetime_bounds l m))) bare_lifetimes_are))
-      (λ v. lifetime_param attrs v.0 v.1) (λ v. lifetime_param (map bare_attribute attrs) v.0 v.1) (λ v. refl)
+      (λ v. lifetime_param attrs v.0 v.1) (λ v. lifetime_param (map unplaced_attribute attrs) v.0 v.1) (λ v. refl)
 
   natural_const_param : (attrs : List Attribute) (l m : ℕ) →
-      Alike bare_param (read_const_param p attrs (ending l m)) (read_const_param p (map bare_attribute attrs) (ending l 0))
+      Alike bare_param (read_const_param p attrs (ending l m)) (read_const_param p (map unplaced_attribute attrs) (ending l 0))
   natural_const_param attrs l m =
       alike_gives_by
       (alike_next (natural_word (codes "const") l m)
       (alike_and (natural_name l m)
       (alike_next (natural_colon l m)
       (alike_and (h.types l m) (alike_perhaps sees_equals equals_blind (alike_next (natural_equals l m) (h.constant l m)))))))
-      (λ v. const_param attrs v.0 v.1.0 v.1.1) (λ v. const_param (map bare_attribute attrs) v.0 v.1.0 v.1.1) (λ v. refl)
+      (λ v. const_param attrs v.0 v.1.0 v.1.1) (λ v. const_param (map unplaced_attribute attrs) v.0 v.1.0 v.1.1) (λ v. refl)
 
   natural_type_param : (attrs : List Attribute) (l m : ℕ) →
-      Alike bare_param (read_type_param p attrs (ending l m)) (read_type_param p (map bare_attribute attrs) (ending l 0))
+      Alike bare_param (read_type_param p attrs (ending l m)) (read_type_param p (map unplaced_attribute attrs) (ending l 0))
   natural_type_param attrs l m =
       alike_gives_by
       (alike_and (natural_name l m)
       (alike_and (alike_perhaps sees_colon colon_blind (alike_next (natural_colon l m) (h.bounds l m)))
       (alike_perhaps sees_equals equals_blind (alike_next (natural_equals l m) (h.types l m)))))
-      (λ v. type_param attrs v.0 v.1.0 v.1.1) (λ v. type_param (map bare_attribute attrs) v.0 v.1.0 v.1.1) (λ v. refl)
+      (λ v. type_param attrs v.0 v.1.0 v.1.1) (λ v. type_param (map unplaced_attribute attrs) v.0 v.1.0 v.1.1) (λ v. refl)
 
   natural_param_behind : (attrs : List Attribute) (l m : ℕ) →
-      Alike bare_param (read_param_behind p attrs (ending l m)) (read_param_behind p (map bare_attribute attrs) (ending l 0))
+      Alike bare_param (read_param_behind p attrs (ending l m)) (read_param_behind p (map unplaced_attribute attrs) (ending l 0))
   natural_param_behind attrs l m =
       alike_either sees_lifetime lifetime_blind (natural_lifetime_param attrs l m)
       (alike_either (sees_word (codes "const")) (word_blind (codes "const")) (natural_const_param attrs l m) (natural_type_param attrs l m))
@@ -134,11 +134,11 @@ module _ (p : Parts) (h : AreNatural p) where
 
 -- ---- the readers of the program
 
-natural_whole_type : Natural bare_type whole_type
+natural_whole_type : Natural unplaced_type whole_type
 unfolding whole_type
 natural_whole_type l m = natural_type 129 Whole l m
 
-natural_whole_bound : Natural bare_bound whole_bound
+natural_whole_bound : Natural unplaced_bound whole_bound
 unfolding whole_bound
 natural_whole_bound l m =
     natural_bound (types.read_type 129) (natural_type 129) (types.inner_path (types.read_type 129))
@@ -156,7 +156,7 @@ natural_parts =
 
 -- ---- what stands at the top
 
-pub type_natural : (ts : Trees) → read_type (unplaced ts) ≡ bare_answer bare_type (read_type ts)
+pub type_natural : (ts : Trees) → read_type (unplaced ts) ≡ bare_answer unplaced_type (read_type ts)
 type_natural ts = (natural_whole_type 0 0).at ts
 
 pub generics_natural : (ts : Trees) →

@@ -13,7 +13,7 @@ use Rattle.dm_ast.specs.Declarations.{Listed, ParamTree, lifetime_param, type_pa
 use Rattle.dm_same.specs.SameTypes.{all_same, same_token, same_entry}
 use Rattle.dm_output.specs.Tokens.{path_expr_trees}
 use Rattle.dm_read_paths.specs.Bindings.{path_alone}
-use Rattle.dm_reread.specs.BareTypes.{bare_type, bare_path}
+use Rattle.dm_type_eq.specs.Unplaced.{unplaced_path, unplaced_type}
 use Rattle.dm_reread.specs.Bare.{bare_param, bare_predicate}
 use Rattle.dm_reread.specs.BareReading.{bare_pair, bare_answer, bare_qualified, bare_head, NaturalLeaves, NaturalItems}
 use Rattle.dm_reread.specs.Leaves.{Answer}
@@ -87,12 +87,12 @@ between_bare h = simp (params-bare, trait-bare, type-bare, where-bare, unplaced-
 
 -- ---- heads
 
-path_alone_bare : (x : TypeTree) → path_alone (bare_type x) ≡ option_map bare_path (path_alone x)
+path_alone_bare : (x : TypeTree) → path_alone (unplaced_type x) ≡ option_map unplaced_path (path_alone x)
 path_alone_bare (type_tree (path no_self p) range) = refl
 path_alone_bare _ = refl
 
 abbrev bare_named : Option PathTree × TypeTree → Option PathTree × TypeTree
-bare_named = both (option_map bare_path) bare_type
+bare_named = both (option_map unplaced_path) unplaced_type
 
 named_natural : (ts : Trees) → read_named (unplaced ts) ≡ bare_answer bare_named (read_named ts)
 named_natural ts = simp (type_natural, path_alone_bare, tail_bare, word_blind, passing)
@@ -140,7 +140,7 @@ closed_natural ts =
 natural_leaves : NaturalLeaves leaves
 natural_leaves =
     record {
-      type = natural_exactly bare_type type_trees type-bare read_type type_natural;
+      type = natural_exactly unplaced_type type_trees type-bare read_type type_natural;
       qualified = natural_exactly bare_qualified (λ q. path_expr_trees q.0 q.1) (λ q. path-expr-bare q.0 q.1) read_qualified qualified_natural;
       run = closed_natural;
     }

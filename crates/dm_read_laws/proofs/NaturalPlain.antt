@@ -13,7 +13,7 @@ use Rattle.dm_ast.specs.Spelling.{Where, is_joint, at_end, sees, sees_word, sees
 use Rattle.dm_ast.specs.TypeGrammar.{is_truth, behind_idents, behind_colons, behind_first, behind_plain, is_call, sees_macro}
 use Rattle.dm_ast.specs.Readers.{Parser, read_colons, read_arrow, read_colon, read_equals, read_rest}
 use Rattle.dm_ast.specs.PlainReaders.{plain_path_of, read_leading, read_plain, with_delim, delim_of, kept_by, read_kept, opaque_of, read_opaque, list_args, value_args, read_args, read_inside, attribute_of, read_attribute, read_attributes, read_angles, punctuated, read_lifetimes, read_for, literal_of, truth_of, block_of, name_of, sees_truth, read_constant}
-use Rattle.dm_reread.specs.BareTypes.{bare_stream, bare_opaque, bare_plain, bare_args, bare_attribute, bare_lifetimes, bare_constant}
+use Rattle.dm_type_eq.specs.Unplaced.{unplaced_args, unplaced_attribute, unplaced_constant, unplaced_lifetimes, unplaced_opaque, unplaced_plain, unplaced_stream}
 use Rattle.dm_reread.specs.Bare.{bare_punctuated}
 use Rattle.dm_reread.specs.BareReading.{bare_answer}
 use Rattle.dm_reread.specs.TypeLeaves.{answer_of}
@@ -84,7 +84,7 @@ natural_equals = natural_lone 61 (61 ∷ 62 ∷ [])
 pub natural_leading : Natural same read_leading
 natural_leading l m = alike_flag sees_colons colons_blind (natural_colons l m)
 
-pub natural_plain : Natural bare_plain read_plain
+pub natural_plain : Natural unplaced_plain read_plain
 natural_plain l m =
     alike_gives
     (alike_and (natural_leading l m)
@@ -98,37 +98,37 @@ delim_bare (group d from inside upto rest) = refl
 delim_bare _ = refl
 
 kept_bare : (l m : ℕ) (ts : Trees) (found : Option Delim) →
-    answer_of (kept_by (ending l 0) (unplaced ts) found) ≡ bare_answer (both same bare_stream) (answer_of (kept_by (ending l m) ts found))
+    answer_of (kept_by (ending l 0) (unplaced ts) found) ≡ bare_answer (both same unplaced_stream) (answer_of (kept_by (ending l m) ts found))
 kept_bare l m ts None = refl
 kept_bare l m ts (Some d) =
-    (alike_gives {b = both same bare_stream} (natural_group d read_rest natural_rest l m) (with_delim d) (λ s. refl)).at ts
+    (alike_gives {b = both same unplaced_stream} (natural_group d read_rest natural_rest l m) (with_delim d) (λ s. refl)).at ts
 
-pub natural_kept : Natural (both same bare_stream) read_kept
+pub natural_kept : Natural (both same unplaced_stream) read_kept
 natural_kept l m =
     record { at = λ ts. ap (λ found. answer_of (kept_by (ending l 0) (unplaced ts) found)) (delim_bare ts) ∙ kept_bare l m ts (delim_of ts) }
 
-pub natural_opaque : Natural bare_opaque read_opaque
+pub natural_opaque : Natural unplaced_opaque read_opaque
 natural_opaque l m =
     alike_either at_end at_end_blind (alike_refused (ending l m) (ending l 0)) (alike_gives (natural_rest l m) opaque_of (λ s. refl))
 
 -- ---- attributes
 
-natural_args : Natural bare_args read_args
+natural_args : Natural unplaced_args read_args
 natural_args l m =
     alike_either at_end at_end_blind (alike_nothing args.Absent args.Absent refl)
     (alike_either sees_equals equals_blind
     (alike_gives (alike_next (natural_equals l m) (natural_opaque l m)) value_args (λ o. refl))
     (alike_gives (natural_kept l m) list_args (λ v. refl)))
 
-natural_inside : Natural (both bare_plain bare_args) read_inside
+natural_inside : Natural (both unplaced_plain unplaced_args) read_inside
 natural_inside l m = alike_and (natural_plain l m) (natural_args l m)
 
-natural_attribute : Natural bare_attribute read_attribute
+natural_attribute : Natural unplaced_attribute read_attribute
 natural_attribute l m =
     alike_gives (alike_ranged (alike_next (natural_punct 35 l m) (natural_group Bracket read_inside natural_inside l m))) attribute_of
     (λ v. refl)
 
-pub natural_attributes : Natural (map bare_attribute) read_attributes
+pub natural_attributes : Natural (map unplaced_attribute) read_attributes
 natural_attributes l m = alike_repeated (ending l m) (ending l 0) (sees 35) (sees_blind 35) [] (natural_attribute l m)
 
 -- ---- `<..>` and `for<..>`
@@ -139,11 +139,11 @@ natural_angles inner h l m = alike_next (natural_punct 60 l m) (alike_till (h (l
 natural_lifetimes : Natural bare_punctuated read_lifetimes
 natural_lifetimes l m = alike_gives (alike_list l m 44 (sees 62) (sees_blind 62) (natural_lifetime l m)) punctuated (λ v. refl)
 
-pub bare_lifetimes_are : (ls : Option (Punctuated Lifetime)) → option_map bare_punctuated ls ≡ bare_lifetimes ls
+pub bare_lifetimes_are : (ls : Option (Punctuated Lifetime)) → option_map bare_punctuated ls ≡ unplaced_lifetimes ls
 bare_lifetimes_are None = refl
 bare_lifetimes_are (Some ls) = refl
 
-pub natural_for : Natural bare_lifetimes read_for
+pub natural_for : Natural unplaced_lifetimes read_for
 natural_for l m =
     alike_by
     (alike_perhaps (sees_word (codes "for")) (word_blind (codes "for"))
@@ -152,7 +152,7 @@ natural_for l m =
 
 -- ---- constants
 
-pub natural_constant : Natural bare_constant read_constant
+pub natural_constant : Natural unplaced_constant read_constant
 natural_constant l m =
     alike_either (λ ts. sees 45 ts || sees_literal ts) (or_blind (sees 45) sees_literal (sees_blind 45) literal_blind)
     (alike_gives (alike_and (alike_flag (sees 45) (sees_blind 45) (natural_punct 45 l m)) (natural_literal l m)) literal_of (λ v. refl))

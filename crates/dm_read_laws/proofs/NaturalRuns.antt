@@ -13,7 +13,7 @@ use Rattle.dm_expr.specs.declared.units.Unit.{Unit}
 use Rattle.dm_expr.specs.declared.units.Unit.TheVariants as unit
 use Rattle.dm_expr.specs.Cuts.{Front, after, and_then, split_at, is_char, is_spaced, one_if, punct_at, spaced_at, path_sep_at, tree_at, waiting, closed_at, pair_at, sep_args_at, args_sep_at, bars_at, Found, or_else, unless, unit_at, unit_size, Run, one_more, goes_on, run_from, some_run, run_at}
 use Rattle.dm_expr.specs.Reach.{is_there}
-use Rattle.dm_reread.specs.BareTypes.{bare_type}
+use Rattle.dm_type_eq.specs.Unplaced.{unplaced_type}
 use Rattle.dm_reread.specs.BareReading.{bare_rest, bare_answer, bare_qualified}
 use Rattle.dm_reread.specs.PathLeaves.{names_at, path_at, qualified_in, read_qualified}
 use Rattle.dm_reread.specs.RunLeaves.{read_run, is_closed}
@@ -230,7 +230,7 @@ natural_names _ = refl
 natural_path_at : IsNatural path_at
 natural_path_at = natural_then (pair_at 60 62) names_at (natural_pair_at 60 62) natural_names
 
-qualified_in_bare : (x : TypeTree) → qualified_in (bare_type x) ≡ option_map bare_qualified (qualified_in x)
+qualified_in_bare : (x : TypeTree) → qualified_in (unplaced_type x) ≡ option_map bare_qualified (qualified_in x)
 qualified_in_bare (type_tree (path (some_self y n) p) range) = refl
 qualified_in_bare _ = refl
 

@@ -16,7 +16,7 @@ use Rattle.dm_lexer.specs.Written.{unplaced_token, unplaced}
 use Rattle.dm_ast.specs.Spelling.{Where, Marks, deepest, first_too_deep, marks_of, at_end, is_joint, sees_one, sees, sees_pair, sees_lone, sees_word, sees_lifetime, sees_literal, sees_group}
 use Rattle.dm_ast.specs.Readers.{Outcome, Parser, too_deep_at, refuse, and_then, mapped, ◌and◌, ◌next◌, ◌till◌, ◌gives◌, if_found, read_found, if_ident, read_ident, read_any, read_lifetime, read_literal, if_seen, read_seen, tail, read_punct, read_word, read_pair, read_lone, ended, within_group, read_group, read_flag, read_perhaps, if_shallow, read_rest, turns, list_from, read_list, repeat_from, read_repeated, read_chain, entry_span, last_end, range_over, range_between, ranged}
 use Rattle.dm_read.proofs.Deciding.{pair, const_at}
-use Rattle.dm_reread.specs.BareTypes.{bare_ident, bare_lifetime, bare_literal, bare_stream}
+use Rattle.dm_type_eq.specs.Unplaced.{unplaced_ident, unplaced_lifetime, unplaced_literal, unplaced_stream}
 use Rattle.dm_reread.specs.BareReading.{bare_pair, bare_answer}
 use Rattle.dm_reread.specs.TypeLeaves.{answer_of}
 use Rattle.dm_reread.proofs.BareNext.{map-cond}
@@ -223,38 +223,38 @@ natural_found : {A : Type 0} (a : A → A) (first : Trees → Option (A × Trees
 natural_found a first e l m =
     record { at = λ ts. ap (λ f. answer_of (if_found (ending l 0) (unplaced ts) f)) (e ts) ∙ found_bare a l m ts (first ts) }
 
-first_ident_bare : (ts : Trees) → first_ident (unplaced ts) ≡ bare_answer bare_ident (first_ident ts)
+first_ident_bare : (ts : Trees) → first_ident (unplaced ts) ≡ bare_answer unplaced_ident (first_ident ts)
 first_ident_bare (token (t.Ident i) rest) = refl
 first_ident_bare _ = refl
 
-first_lifetime_bare : (ts : Trees) → first_lifetime (unplaced ts) ≡ bare_answer bare_lifetime (first_lifetime ts)
+first_lifetime_bare : (ts : Trees) → first_lifetime (unplaced ts) ≡ bare_answer unplaced_lifetime (first_lifetime ts)
 first_lifetime_bare (token (t.Lifetime l) rest) = refl
 first_lifetime_bare _ = refl
 
-first_literal_bare : (ts : Trees) → first_literal (unplaced ts) ≡ bare_answer bare_literal (first_literal ts)
+first_literal_bare : (ts : Trees) → first_literal (unplaced ts) ≡ bare_answer unplaced_literal (first_literal ts)
 first_literal_bare (token (t.Literal l) rest) = refl
 first_literal_bare _ = refl
 
-if_ident_bare : (test : Ident → Bool) → ((i : Ident) → test (bare_ident i) ≡ test i) → (o : Option (Ident × Trees)) →
-    if_ident test (bare_answer bare_ident o) ≡ bare_answer bare_ident (if_ident test o)
+if_ident_bare : (test : Ident → Bool) → ((i : Ident) → test (unplaced_ident i) ≡ test i) → (o : Option (Ident × Trees)) →
+    if_ident test (bare_answer unplaced_ident o) ≡ bare_answer unplaced_ident (if_ident test o)
 if_ident_bare test e None = refl
 if_ident_bare test e (Some r) =
-    ap (λ b. if b then Some (bare_pair bare_ident r) else None) (e r.0) ∙
-    sym (map-cond (bare_pair bare_ident) (test r.0) (Some r) None)
+    ap (λ b. if b then Some (bare_pair unplaced_ident r) else None) (e r.0) ∙
+    sym (map-cond (bare_pair unplaced_ident) (test r.0) (Some r) None)
 
-pub natural_ident : (test : Ident → Bool) → ((i : Ident) → test (bare_ident i) ≡ test i) → Natural bare_ident (read_ident test)
+pub natural_ident : (test : Ident → Bool) → ((i : Ident) → test (unplaced_ident i) ≡ test i) → Natural unplaced_ident (read_ident test)
 natural_ident test e =
-    natural_found bare_ident (λ ts. if_ident test (first_ident ts))
+    natural_found unplaced_ident (λ ts. if_ident test (first_ident ts))
     (λ ts. ap (λ o. if_ident test o) (first_ident_bare ts) ∙ if_ident_bare test e (first_ident ts))
 
-pub natural_any : Natural bare_ident read_any
-natural_any = natural_found bare_ident first_ident first_ident_bare
+pub natural_any : Natural unplaced_ident read_any
+natural_any = natural_found unplaced_ident first_ident first_ident_bare
 
-pub natural_lifetime : Natural bare_lifetime read_lifetime
-natural_lifetime = natural_found bare_lifetime first_lifetime first_lifetime_bare
+pub natural_lifetime : Natural unplaced_lifetime read_lifetime
+natural_lifetime = natural_found unplaced_lifetime first_lifetime first_lifetime_bare
 
-pub natural_literal : Natural bare_literal read_literal
-natural_literal = natural_found bare_literal first_literal first_literal_bare
+pub natural_literal : Natural unplaced_literal read_literal
+natural_literal = natural_found unplaced_literal first_literal first_literal_bare
 
 seen_bare : (seen : Bool) (l m : ℕ) (ts rest : Trees) →
     answer_of (if_seen seen (ending l 0) (unplaced ts) (unplaced rest)) ≡ bare_answer same (answer_of (if_seen seen (ending l m) ts rest))
@@ -346,11 +346,11 @@ too_deep_bare (k ∷ ks) =
     sym (map-cond (λ _. nowhere) (nat_lt deepest k.0) (Some k.1) (first_too_deep ks))
 
 shallow_bare : (o : Option Span) (s : Stream) →
-    answer_of (if_shallow (option_map (λ _. nowhere) o) (bare_stream s)) ≡ bare_answer bare_stream (answer_of (if_shallow o s))
+    answer_of (if_shallow (option_map (λ _. nowhere) o) (unplaced_stream s)) ≡ bare_answer unplaced_stream (answer_of (if_shallow o s))
 shallow_bare None s = refl
 shallow_bare (Some r) s = refl
 
-pub natural_rest : Natural bare_stream read_rest
+pub natural_rest : Natural unplaced_stream read_rest
 natural_rest l m =
     record {
       at = λ ts.

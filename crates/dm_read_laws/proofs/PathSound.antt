@@ -13,7 +13,7 @@ use Rattle.dm_output.specs.Tokens.{path_expr_trees}
 use Rattle.dm_expr.specs.Cuts.{Front, after, and_then, pair_at, split_at}
 use Rattle.dm_expr.proofs.Joining.{split_joins}
 use Rattle.dm_read.proofs.Deciding.{IsRead}
-use Rattle.dm_reread.specs.BareTypes.{bare_self, bare_path}
+use Rattle.dm_type_eq.specs.Unplaced.{unplaced_path, unplaced_self}
 use Rattle.dm_reread.specs.BareReading.{NaturalItems, bare_qualified}
 use Rattle.dm_reread.specs.ReadBack.{item_leaves}
 use Rattle.dm_reread.specs.Reading.{then, whole}
@@ -29,7 +29,7 @@ use Rattle.dm_read_laws.proofs.Answers.{then_by, whole_some, same_answer}
 use Rattle.dm_read_laws.proofs.SoundSteps.{bare_own}
 use Rattle.dm_read_laws.proofs.ExactSound.{natural_answer, passed_front, joined_front, exact_answer}
 use Rattle.dm_read_laws.proofs.RunSound.{IsLocal, local_pair}
-use Rattle.dm_read_laws.proofs.TypeSound.{same_self, same_path, type_is_read}
+use Rattle.dm_read_laws.proofs.TypeSound.{type_is_read}
 
 -- ---- names behind a pair, where nothing but they is there
 
@@ -178,7 +178,7 @@ module _ (N : NaturalItems item_leaves) where
       let r : IsPathRead ts us q p = path_read ts us q p a.0 in
       let j : ts ≡ join r.own us = split_joins (path_at ts) ts r.own us r.cut in
       let n = natural_answer {A = Qualified} bare_qualified exact_qualified ts us (q, p) (N.parts.qualified ts) b e in
-      let s = some_pair_parts (bare_self q) q (bare_path p) p (ap Some n.0) in
+      let s = some_pair_parts (unplaced_self q) q (unplaced_path p) p (ap Some n.0) in
       let bare : IsBare own = node-bare nowhere (path q p) ∙ ap₂ (λ x y. path_expr_trees x y) s.0 s.1 in
       let cut_bare : IsBare r.own = bare_own r.own ts us b j in
       let same : own ≡ r.own =
@@ -186,7 +186,7 @@ module _ (N : NaturalItems item_leaves) where
       let x : TypeTree = type_tree (path q p) r.range in
       let k : IsRead (λ y. type_spelled y false top) r.own x no_trees = type_is_read r.own no_trees x r.read in
       let u : IsType (type_tree (path q p) nowhere) =
-      subst IsType (ap₂ (λ y z. type_tree (path y z) nowhere) (sym (same_self q) ∙ s.0) (sym (same_path p) ∙ s.1))
+      subst IsType (ap₂ (λ y z. type_tree (path y z) nowhere) s.0 s.1)
       (read_is_type x false top r.own no_trees k.marks k.spelled k.within) in
       let front : path_at own ≡ Some (size own, no_trees) =
       subst (λ z. path_at z ≡ Some (size z, no_trees)) (sym same) (front_alone ts r.own us r.cut) in

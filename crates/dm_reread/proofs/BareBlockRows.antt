@@ -6,7 +6,7 @@ use Rattle.dm_stream.specs.Trees.{Trees, no_trees, token, group}
 use Rattle.dm_lexer.specs.Written.{unplaced}
 use Rattle.dm_ast.specs.Keywords.{is_name}
 use Rattle.dm_output.specs.Output.{PatternTrees, pattern_then, ExprTree, expr_body, StmtTree, let_stmt, check_stmt, import_stmt, do_stmt, const_stmt, BlockTree, block}
-use Rattle.dm_reread.specs.BareTypes.{bare_ident}
+use Rattle.dm_type_eq.specs.Unplaced.{unplaced_ident}
 use Rattle.dm_reread.specs.Bare.{bare_patterns, bare_expr, bare_named_exprs, bare_maybe, bare_arms, bare_body, bare_stmt, bare_block}
 use Rattle.dm_reread.specs.BareReading.{bare_next, bare_answer, NaturalLeaves}
 use Rattle.dm_reread.specs.Next.{k_let, k_use, k_const, k_if, k_wild, Next, ended, colon, semicolon, assigns, in_parens, in_braces, literal, a_name, a_word, next}
@@ -37,7 +37,7 @@ module _ (r : Readers) (N : Natural r) where
       stmt_ended r (bare_stmt x) (next (unplaced ts)) ≡ option_map bare_block (stmt_ended r x (next ts))
   behind-bare x ts = rw (next-bare ts) (ended-bare x (next ts))
 
-  let-is-bare : (i : Ident) (n : Next) → let_is r (bare_ident i) (bare_next n) ≡ option_map bare_block (let_is r i n)
+  let-is-bare : (i : Ident) (n : Next) → let_is r (unplaced_ident i) (bare_next n) ≡ option_map bare_block (let_is r i n)
   let-is-bare i (assigns ts) = chained _ _ _ _ _ _ (N.expr true ts) (λ a. behind-bare (let_stmt i a.0) a.1)
   let-is-bare i _ = refl
 
@@ -55,7 +55,7 @@ module _ (r : Readers) (N : Natural r) where
       chained _ _ _ _ _ _ (plain-path-bare r N n) (λ p. rw (next-bare p.1) (chained _ _ _ _ _ _ (as-bare (next p.1)) (λ us.
       rw (next-bare us) (chained _ _ _ _ _ _ (wild-bare (next us)) (λ vs. behind-bare (import_stmt p.0) vs)))))
 
-  const-is-bare : (i : Ident) (ts : Trees) → const_is r (bare_ident i) (unplaced ts) ≡ option_map bare_block (const_is r i ts)
+  const-is-bare : (i : Ident) (ts : Trees) → const_is r (unplaced_ident i) (unplaced ts) ≡ option_map bare_block (const_is r i ts)
   const-is-bare i ts =
       chained _ _ _ _ _ _ (N.leaves.type ts) (λ a. rw (next-bare a.1) (chained _ _ _ _ _ _ (assigns-bare (next a.1)) (λ us.
       rw (next-bare us) (chained _ _ _ _ _ _ (base-bare (next us)) (λ o.
@@ -112,7 +112,7 @@ module _ (r : Readers) (N : Natural r) where
 
   -- ---- fields with values
 
-  named-value-bare : (i : Ident) (n : Next) → named_value r (bare_ident i) (bare_next n) ≡ option_map bare_named_exprs (named_value r i n)
+  named-value-bare : (i : Ident) (n : Next) → named_value r (unplaced_ident i) (bare_next n) ≡ option_map bare_named_exprs (named_value r i n)
   named-value-bare i (colon ts) = simp (N.expr, N.named_exprs, comma-bare, passing)
   named-value-bare i _ = refl
 

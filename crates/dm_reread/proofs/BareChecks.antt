@@ -10,7 +10,7 @@ use Rattle.dm_output.specs.declared.expr.Member.{Member}
 use Rattle.dm_output.specs.declared.expr.Member.TheVariants as m
 use Rattle.dm_output.specs.Output.{FmtArgTree, PatternTree, wild, bind, str_pattern, path_pattern, tuple_pattern, named_pattern, pair_pattern, PatternTrees, no_patterns, pattern_then, NamedPatterns, no_named, named_then, ExprTree, return_expr, or_expr, and_expr, equal, unequal, ref_opaque, ref_expr, deref, member, method_call, map_expr, map_err, question, path_expr, call, build, build_named, paren, tuple, opaque_call, str_expr, bool, match_expr, unsafe_expr, write_expr, format_args, ExprTrees, no_exprs, expr_then, NamedExprs, no_named_exprs, named_expr_then, MaybeExpr, no_expr, some_expr, ArmTrees, no_arms, arm_then, ArmBodyTree, block_body, expr_body, StmtTree, let_stmt, check_stmt, import_stmt, do_stmt, const_stmt, StmtTrees, no_stmts, stmt_then, BlockTree, block, AssocTree, ParamOfMethod, MethodTree, ItemTree}
 use Rattle.dm_output.specs.Tokens.{in_turn, item_trees}
-use Rattle.dm_reread.specs.BareTypes.{bare_ident, bare_type, bare_self, bare_path, bare_segments}
+use Rattle.dm_type_eq.specs.Unplaced.{unplaced_ident, unplaced_path, unplaced_segments, unplaced_self, unplaced_type}
 use Rattle.dm_reread.specs.Bare.{bare_fmt_arg, bare_member, bare_pattern, bare_patterns, bare_named, bare_expr, bare_exprs, bare_named_exprs, bare_maybe, bare_arms, bare_body, bare_stmt, bare_stmts, bare_block, bare_assoc, bare_param_of, bare_method, bare_item}
 use Rattle.dm_reread.specs.BareReading.{bare_pair}
 use Rattle.dm_reread.specs.Unplaced.{bare_items, AreItemsOf}
@@ -33,7 +33,7 @@ none-map : {A : Type 0} (f : A → A) (o : Option A) → is_none (option_map f o
 none-map f None = refl
 none-map f (Some a) = refl
 
-some-segment-bare : (ss : SegmentTrees) → is_some_segment (bare_segments ss) ≡ is_some_segment ss
+some-segment-bare : (ss : SegmentTrees) → is_some_segment (unplaced_segments ss) ≡ is_some_segment ss
 some-segment-bare no_segments = refl
 some-segment-bare (segment_then x ss) = refl
 
@@ -49,7 +49,7 @@ any-bare : (es : ExprTrees) → is_any (bare_exprs es) ≡ is_any es
 any-bare no_exprs = refl
 any-bare _ = refl
 
-single-bare : (p : PathTree) → is_single (bare_path p) ≡ is_single p
+single-bare : (p : PathTree) → is_single (unplaced_path p) ≡ is_single p
 single-bare (path_tree false (segment_then (segment i absent) no_segments)) = refl
 single-bare _ = refl
 
@@ -72,17 +72,17 @@ fits-bare at_pre _ = refl
 fits-bare at_post (return_expr a) = refl
 fits-bare at_post _ = refl
 
-may-take-bare : (i : Ident) (es : ExprTrees) → may_take (bare_ident i) (bare_exprs es) ≡ may_take i es
+may-take-bare : (i : Ident) (es : ExprTrees) → may_take (unplaced_ident i) (bare_exprs es) ≡ may_take i es
 may-take-bare i es = ap (λ b. not (is_map_err i && b)) (any-bare es)
 
 -- ---- paths and patterns
 
-plain-bare : (ss : SegmentTrees) → are_plain (bare_segments ss) ≡ are_plain ss
+plain-bare : (ss : SegmentTrees) → are_plain (unplaced_segments ss) ≡ are_plain ss
 plain-bare no_segments = refl
 plain-bare (segment_then (segment i absent) ss) = all refl (plain-bare ss)
 plain-bare (segment_then (segment i gs) ss) = refl
 
-path-bare : (p : PathTree) → is_plain_path (bare_path p) ≡ is_plain_path p
+path-bare : (p : PathTree) → is_plain_path (unplaced_path p) ≡ is_plain_path p
 path-bare (path_tree leading ss) = all (some-segment-bare ss) (plain-bare ss)
 
 member-bare : (x : Member) → is_member (bare_member x) ≡ is_member x
@@ -112,12 +112,12 @@ base-bare None = refl
 base-bare (Some o) = some-bare o
 
 module _ (t : LeafTests) (N : NaturalTests t) where
-  any-path-bare : (q : MaybeSelf) (p : PathTree) → is_path t (bare_self q) (bare_path p) ≡ is_path t q p
+  any-path-bare : (q : MaybeSelf) (p : PathTree) → is_path t (unplaced_self q) (unplaced_path p) ≡ is_path t q p
   any-path-bare no_self p = path-bare p
   any-path-bare (some_self x position) p = N.qualified x position p
 
-  fmt-arg-bare : (i : Option Ident) (v : Trees) → is_fmt_arg t (option_map bare_ident i) (unplaced v) ≡ is_fmt_arg t i v
-  fmt-arg-bare None v = all (N.run v) (ap (λ o. is_none o) (alias-bare v) ∙ none-map (bare_pair bare_ident) (alias_of v))
+  fmt-arg-bare : (i : Option Ident) (v : Trees) → is_fmt_arg t (option_map unplaced_ident i) (unplaced v) ≡ is_fmt_arg t i v
+  fmt-arg-bare None v = all (N.run v) (ap (λ o. is_none o) (alias-bare v) ∙ none-map (bare_pair unplaced_ident) (alias_of v))
   fmt-arg-bare (Some i) v = all (N.run v) refl
 
   fmt-args-bare : (as' : List FmtArgTree) → are_fmt_args t (map bare_fmt_arg as') ≡ are_fmt_args t as'
@@ -201,7 +201,7 @@ module _ (t : LeafTests) (N : NaturalTests t) where
   param-bare None = refl
   param-bare (Some p) = all refl (N.type p.ty)
 
-  output-bare : (o : Option TypeTree) → is_output t (option_map bare_type o) ≡ is_output t o
+  output-bare : (o : Option TypeTree) → is_output t (option_map unplaced_type o) ≡ is_output t o
   output-bare None = refl
   output-bare (Some x) = N.type x
 

@@ -7,7 +7,7 @@ use Rattle.dm_ast.specs.Keywords.{is_name}
 use Rattle.dm_ast.specs.Tree.{MaybeSelf, no_self, PathTree}
 use Rattle.dm_output.specs.declared.expr.Member.TheVariants as m
 use Rattle.dm_output.specs.Output.{ExprTree, ExprTrees, no_exprs, expr_then}
-use Rattle.dm_reread.specs.BareTypes.{bare_ident, bare_self, bare_path}
+use Rattle.dm_type_eq.specs.Unplaced.{unplaced_ident, unplaced_path, unplaced_self}
 use Rattle.dm_reread.specs.Bare.{bare_expr, bare_exprs}
 use Rattle.dm_reread.specs.BareReading.{bare_next, bare_posts, bare_answer}
 use Rattle.dm_reread.specs.Next.{Word, k_match, k_unsafe, k_true, k_false, k_mut, k_return, Next, oror, andand, equals, differs, star, amp, dot, asks, bangs, less, bar, colons, in_parens, in_braces, literal, a_name, a_word, next}
@@ -26,7 +26,7 @@ apply-bare e (p_map_err o ps) = apply-bare _ ps
 apply-bare e (p_question ps) = apply-bare _ ps
 
 called-bare : (q : MaybeSelf) (p : PathTree) (es : ExprTrees) (b : Bool) →
-    called (bare_self q) (bare_path p) (bare_exprs es) b ≡ bare_expr (called q p es b)
+    called (unplaced_self q) (unplaced_path p) (bare_exprs es) b ≡ bare_expr (called q p es b)
 called-bare q p es true = refl
 called-bare q p es false = refl
 
@@ -40,7 +40,7 @@ module _ (r : Readers) (N : Natural r) where
   -- ---- what stands first
 
   after-path-bare : (b : Bool) (q : MaybeSelf) (p : PathTree) (ts : Trees) (n : Next) →
-      after_path r b (bare_self q) (bare_path p) (unplaced ts) (bare_next n) ≡ bare_answer bare_expr (after_path r b q p ts n)
+      after_path r b (unplaced_self q) (unplaced_path p) (unplaced ts) (bare_next n) ≡ bare_answer bare_expr (after_path r b q p ts n)
   after-path-bare b q p ts (in_parens inside us) = simp (args-bare r N, called-bare, passing)
   after-path-bare true q p ts (in_braces inside us) = simp (N.named_exprs, passing)
   after-path-bare b no_self p ts (bangs us) = rw (next-bare us) (macro-bare r N p (next us))
@@ -91,7 +91,7 @@ module _ (r : Readers) (N : Natural r) where
   -- ---- members, methods and `?`
 
   method-bare : (i : Ident) (inside ts : Trees) →
-      method_from r (bare_ident i) (unplaced inside) (unplaced ts) ≡ bare_answer bare_posts (method_from r i inside ts)
+      method_from r (unplaced_ident i) (unplaced inside) (unplaced ts) ≡ bare_answer bare_posts (method_from r i inside ts)
   method-bare i inside ts = simp (args-bare r N, N.posts, passing)
 
   bar-bare : (n : Next) → closure_bar r (bare_next n) ≡ option_map bare_expr (closure_bar r n)
@@ -103,7 +103,7 @@ module _ (r : Readers) (N : Natural r) where
   closure-bare _ = refl
 
   map-bare : (i : Ident) (inside ts : Trees) (n : Next) →
-      map_from r (bare_ident i) (unplaced inside) (unplaced ts) (bare_next n) ≡ bare_answer bare_posts (map_from r i inside ts n)
+      map_from r (unplaced_ident i) (unplaced inside) (unplaced ts) (bare_next n) ≡ bare_answer bare_posts (map_from r i inside ts n)
   map-bare i inside ts (bar us) = simp (closure-bare, N.posts, passing)
   map-bare i inside ts _ = method-bare i inside ts
 
@@ -113,24 +113,24 @@ module _ (r : Readers) (N : Natural r) where
   map-err-some-bare inside ts = simp (N.posts, passing)
 
   map-err-bare : (i : Ident) (inside ts : Trees) →
-      map_err_from r (bare_ident i) (unplaced inside) (unplaced ts) ≡ bare_answer bare_posts (map_err_from r i inside ts)
+      map_err_from r (unplaced_ident i) (unplaced inside) (unplaced ts) ≡ bare_answer bare_posts (map_err_from r i inside ts)
   map-err-bare i no_trees ts = method-bare i no_trees ts
   map-err-bare i (token k inside) ts = map-err-some-bare (token k inside) ts
   map-err-bare i (group d from inside upto more) ts = map-err-some-bare (group d from inside upto more) ts
 
   call-bare : (i : Ident) (inside ts : Trees) →
-      call_from r (bare_ident i) (unplaced inside) (unplaced ts) ≡ bare_answer bare_posts (call_from r i inside ts)
+      call_from r (unplaced_ident i) (unplaced inside) (unplaced ts) ≡ bare_answer bare_posts (call_from r i inside ts)
   call-bare i inside ts =
       either _ (is_map_err i) _ _ _ _ (map-err-bare i inside ts)
       (either _ (is_map i) _ _ _ _ (rw (next-bare inside) (map-bare i inside ts (next inside))) (method-bare i inside ts))
 
   named-member-bare : (i : Ident) (ts : Trees) →
-      then (r.posts (unplaced ts)) (λ s. Some (p_member (m.Named (bare_ident i)) s.0, s.1)) ≡
+      then (r.posts (unplaced ts)) (λ s. Some (p_member (m.Named (unplaced_ident i)) s.0, s.1)) ≡
       bare_answer bare_posts (then (r.posts ts) (λ s. Some (p_member (m.Named i) s.0, s.1)))
   named-member-bare i ts = simp (N.posts, passing)
 
   after-member-bare : (i : Ident) (ts : Trees) (n : Next) →
-      after_member r (bare_ident i) (unplaced ts) (bare_next n) ≡ bare_answer bare_posts (after_member r i ts n)
+      after_member r (unplaced_ident i) (unplaced ts) (bare_next n) ≡ bare_answer bare_posts (after_member r i ts n)
   after-member-bare i ts (in_parens inside us) = call-bare i inside us
   after-member-bare i ts _ = named-member-bare i ts
 

@@ -9,7 +9,7 @@ use Rattle.dm_output.specs.Output.{AssocTree, MethodTree, ItemTree}
 use Rattle.dm_output.specs.declared.item.ItemAttr.{ItemAttr}
 use Rattle.dm_output.specs.declared.item.Receiver.{Receiver}
 use Rattle.dm_output.specs.declared.item.Receiver.TheVariants as receiver
-use Rattle.dm_reread.specs.BareTypes.{bare_type}
+use Rattle.dm_type_eq.specs.Unplaced.{unplaced_type}
 use Rattle.dm_reread.specs.Bare.{bare_block, bare_assoc, bare_param_of, bare_method, bare_item}
 use Rattle.dm_reread.specs.BareReading.{bare_next, bare_rest, bare_answer, bare_inputs, bare_head, NaturalLeaves, NaturalItems}
 use Rattle.dm_reread.specs.Unplaced.{bare_items}
@@ -104,7 +104,7 @@ module _ (l : Leaves) (N : NaturalLeaves l) where
   inputs-after-bare _ = refl
 
   output-bare : (ts : Trees) (n : Next) →
-      output_after l (unplaced ts) (bare_next n) ≡ bare_answer (option_map bare_type) (output_after l ts n)
+      output_after l (unplaced ts) (bare_next n) ≡ bare_answer (option_map unplaced_type) (output_after l ts n)
   output-bare ts (arrow us) = simp (N.type, passing)
   output-bare ts _ = refl
 

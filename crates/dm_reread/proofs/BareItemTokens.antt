@@ -15,7 +15,7 @@ use Rattle.dm_output.specs.declared.item.ItemAttr.{ItemAttr}
 use Rattle.dm_output.specs.declared.item.ItemAttr.TheVariants as attr
 use Rattle.dm_output.specs.declared.item.Receiver.{Receiver}
 use Rattle.dm_output.specs.declared.item.Receiver.TheVariants as receiver
-use Rattle.dm_reread.specs.BareTypes.{bare_lifetimes, bare_constant, bare_type, bare_bound, bare_bounds, bare_path}
+use Rattle.dm_type_eq.specs.Unplaced.{unplaced_bound, unplaced_bounds, unplaced_constant, unplaced_lifetimes, unplaced_path, unplaced_type}
 use Rattle.dm_reread.specs.Bare.{bare_listed, bare_param, bare_predicate, bare_assoc, bare_param_of, bare_method, bare_item}
 use Rattle.dm_reread.specs.Unplaced.{bare_items}
 use Rattle.dm_reread.proofs.BareTypeTokens.{unplaced-spaced, lifetimes-bare, for-bare, const-bare, attributes-bare, type-bare, bounds-bare, path-bare}
@@ -23,7 +23,7 @@ use Rattle.dm_reread.proofs.BareTokens.{unplaced_parts, block-bare}
 
 -- ---- parameters and predicates
 
-bounds-of-bare : (bs : List BoundTree) → bare_bounds (bounds_of bs) ≡ bounds_of (map bare_bound bs)
+bounds-of-bare : (bs : List BoundTree) → unplaced_bounds (bounds_of bs) ≡ bounds_of (map unplaced_bound bs)
 bounds-of-bare [] = refl
 bounds-of-bare (b ∷ bs) = simp (bounds-of-bare bs)
 
@@ -31,15 +31,15 @@ bounds-are-bare : (bs : Option (Listed BoundTree)) → unplaced (maybe_bounds_tr
 bounds-are-bare None = refl
 bounds-are-bare (Some bs) = simp (bounds-bare, bounds-of-bare, unplaced_parts)
 
-maybe-lifetimes-bare : (ls : Option (Punctuated Lifetime)) → unplaced (maybe_lifetimes_trees ls) ≡ maybe_lifetimes_trees (bare_lifetimes ls)
+maybe-lifetimes-bare : (ls : Option (Punctuated Lifetime)) → unplaced (maybe_lifetimes_trees ls) ≡ maybe_lifetimes_trees (unplaced_lifetimes ls)
 maybe-lifetimes-bare None = refl
 maybe-lifetimes-bare (Some ls) = simp (lifetimes-bare, unplaced_parts)
 
-default-type-bare : (t : Option TypeTree) → unplaced (default_type_trees t) ≡ default_type_trees (option_map bare_type t)
+default-type-bare : (t : Option TypeTree) → unplaced (default_type_trees t) ≡ default_type_trees (option_map unplaced_type t)
 default-type-bare None = refl
 default-type-bare (Some t) = simp type-bare
 
-default-const-bare : (c : Option ConstArg) → unplaced (default_const_trees c) ≡ default_const_trees (option_map bare_constant c)
+default-const-bare : (c : Option ConstArg) → unplaced (default_const_trees c) ≡ default_const_trees (option_map unplaced_constant c)
 default-const-bare None = refl
 default-const-bare (Some c) = simp const-bare
 
@@ -76,7 +76,7 @@ where-bare (p ∷ ps) =
     ap (join (word (codes "where")))
     (unplaced-spaced comma true (map predicate_trees (p ∷ ps)) ∙ ap (spaced comma true) (predicates-are-bare (p ∷ ps)))
 
-pub trait-bare : (p : Option PathTree) → unplaced (trait_trees p) ≡ trait_trees (option_map bare_path p)
+pub trait-bare : (p : Option PathTree) → unplaced (trait_trees p) ≡ trait_trees (option_map unplaced_path p)
 trait-bare None = refl
 trait-bare (Some p) = simp (path-bare, unplaced_parts)
 
@@ -114,7 +114,7 @@ inputs-bare None (Some p) = simp type-bare
 inputs-bare (Some r) None = receiver-bare r
 inputs-bare (Some r) (Some p) = simp (receiver-bare, type-bare, unplaced_parts)
 
-output-bare : (o : Option TypeTree) → unplaced (output_trees o) ≡ output_trees (option_map bare_type o)
+output-bare : (o : Option TypeTree) → unplaced (output_trees o) ≡ output_trees (option_map unplaced_type o)
 output-bare None = refl
 output-bare (Some t) = simp type-bare
 

@@ -10,7 +10,7 @@ use Rattle.dm_stream.specs.declared.tokens.Token.{Token}
 use Rattle.dm_stream.specs.declared.tokens.Token.TheVariants as t
 use Rattle.dm_stream.specs.Trees.{Trees, no_trees, token, group}
 use Rattle.dm_lexer.specs.Written.{unplaced_token, unplaced}
-use Rattle.dm_reread.specs.BareTypes.{bare_ident, bare_literal}
+use Rattle.dm_type_eq.specs.Unplaced.{unplaced_ident, unplaced_literal}
 use Rattle.dm_reread.specs.BareReading.{bare_next, bare_answer}
 use Rattle.dm_reread.specs.Next.{Word, of_path, kind, k_as, k_wild, Next, dot, asks, plus, comma, colon, semicolon, assigns, leads, in_parens, literal, a_word, word_next, alone_next, pair_next, last_next, joint_next, punct_next, token_next, group_next, next}
 use Rattle.dm_reread.specs.Leaves.{Answer}
@@ -23,7 +23,7 @@ next-cond : (b : Bool) (x y : Next) → bare_next (cond b x y) ≡ cond b (bare_
 next-cond true x y = refl
 next-cond false x y = refl
 
-word-bare : (w : Word) (i : Ident) (ts : Trees) → word_next w (bare_ident i) (unplaced ts) ≡ bare_next (word_next w i ts)
+word-bare : (w : Word) (i : Ident) (ts : Trees) → word_next w (unplaced_ident i) (unplaced ts) ≡ bare_next (word_next w i ts)
 word-bare of_path i ts = refl
 word-bare _ i ts = refl
 
@@ -145,7 +145,7 @@ pub wild-bare : (n : Next) → wild_after (bare_next n) ≡ option_map unplaced 
 wild-bare (a_word k_wild ts) = refl
 wild-bare _ = refl
 
-pub int-bare : (n : Next) → int_after (bare_next n) ≡ bare_answer bare_literal (int_after n)
+pub int-bare : (n : Next) → int_after (bare_next n) ≡ bare_answer unplaced_literal (int_after n)
 int-bare (literal l ts) = provided-bare _ (is_int l.kind) _ (Some (l, ts)) refl
 int-bare _ = refl
 

@@ -10,7 +10,7 @@ use Rattle.dm_ast.specs.Tree.{PathTree, path_tree, segment, no_segments, segment
 use Rattle.dm_output.specs.declared.pattern.Binding.{Binding}
 use Rattle.dm_output.specs.declared.pattern.Binding.TheVariants as binding
 use Rattle.dm_output.specs.Output.{PatternTree, pattern_then}
-use Rattle.dm_reread.specs.BareTypes.{bare_ident, bare_path, bare_segments}
+use Rattle.dm_type_eq.specs.Unplaced.{unplaced_ident, unplaced_path, unplaced_segments}
 use Rattle.dm_reread.specs.Bare.{bare_fmt_arg, bare_fmt, bare_pattern, bare_patterns, bare_named, bare_expr, bare_exprs, bare_named_exprs, bare_arms, bare_block}
 use Rattle.dm_reread.specs.BareReading.{bare_next, bare_posts, bare_pair, bare_last, bare_answer, NaturalLeaves}
 use Rattle.dm_reread.specs.Next.{Word, k_mut, k_ref, k_wild, Next, ended, bar, comma, colon, colons, dots, in_parens, in_braces, literal, a_name, a_word, next}
@@ -24,7 +24,7 @@ pub record Natural (r : Readers) : Type 0 where
   pub ors : (b : Bool) (ts : Trees) → r.ors b (unplaced ts) ≡ bare_answer bare_exprs (r.ors b ts)
   pub ands : (b : Bool) (ts : Trees) → r.ands b (unplaced ts) ≡ bare_answer bare_exprs (r.ands b ts)
   pub args : (ts : Trees) → r.args (unplaced ts) ≡ option_map (bare_last bare_exprs) (r.args ts)
-  pub segments : (ts : Trees) → r.segments (unplaced ts) ≡ bare_answer bare_segments (r.segments ts)
+  pub segments : (ts : Trees) → r.segments (unplaced ts) ≡ bare_answer unplaced_segments (r.segments ts)
   pub posts : (ts : Trees) → r.posts (unplaced ts) ≡ bare_answer bare_posts (r.posts ts)
   pub fmt_args : (ts : Trees) → r.fmt_args (unplaced ts) ≡ option_map (map bare_fmt_arg) (r.fmt_args ts)
   pub named_exprs : (ts : Trees) → r.named_exprs (unplaced ts) ≡ option_map bare_named_exprs (r.named_exprs ts)
@@ -37,13 +37,13 @@ pub record Natural (r : Readers) : Type 0 where
 
 -- ---- what looks at no range
 
-macro-path : (called : List ℕ) (p : PathTree) → is_macro_path called (bare_path p) ≡ is_macro_path called p
+macro-path : (called : List ℕ) (p : PathTree) → is_macro_path called (unplaced_path p) ≡ is_macro_path called p
 macro-path called
     (path_tree false (segment_then (segment a absent) (segment_then (segment b absent) (segment_then (segment c absent) no_segments)))) =
     refl
 macro-path called _ = refl
 
-pub alias-bare : (ts : Trees) → alias_of (unplaced ts) ≡ option_map (bare_pair bare_ident) (alias_of ts)
+pub alias-bare : (ts : Trees) → alias_of (unplaced ts) ≡ option_map (bare_pair unplaced_ident) (alias_of ts)
 alias-bare (token (t.Ident i) (token (t.Punct p) ts)) = simp map-cond
 alias-bare _ = refl
 
@@ -51,7 +51,7 @@ pattern-cond : (b : Bool) (x y : PatternTree) → bare_pattern (cond b x y) ≡ 
 pattern-cond true x y = refl
 pattern-cond false x y = refl
 
-pattern-of-bare : (p : PathTree) → pattern_of_path (bare_path p) ≡ bare_pattern (pattern_of_path p)
+pattern-of-bare : (p : PathTree) → pattern_of_path (unplaced_path p) ≡ bare_pattern (pattern_of_path p)
 pattern-of-bare (path_tree false (segment_then (segment i absent) no_segments)) = simp pattern-cond
 pattern-of-bare _ = refl
 
@@ -75,19 +75,19 @@ dots-bare _ = refl
 module _ (r : Readers) (N : Natural r) where
   -- ---- paths
 
-  segment-bare : (n : Next) → segment_from r (bare_next n) ≡ bare_answer bare_segments (segment_from r n)
+  segment-bare : (n : Next) → segment_from r (bare_next n) ≡ bare_answer unplaced_segments (segment_from r n)
   segment-bare (a_name i ts) = simp (N.segments, passing)
   segment-bare _ = refl
 
   pub more-segments-bare : (ts : Trees) (n : Next) →
-      more_segments r (unplaced ts) (bare_next n) ≡ bare_answer bare_segments (more_segments r ts n)
+      more_segments r (unplaced ts) (bare_next n) ≡ bare_answer unplaced_segments (more_segments r ts n)
   more-segments-bare ts (colons us) = rw (next-bare us) (segment-bare (next us))
   more-segments-bare ts _ = refl
 
-  path-from-bare : (leading : Bool) (n : Next) → path_from r leading (bare_next n) ≡ bare_answer bare_path (path_from r leading n)
+  path-from-bare : (leading : Bool) (n : Next) → path_from r leading (bare_next n) ≡ bare_answer unplaced_path (path_from r leading n)
   path-from-bare leading n = simp (segment-bare, passing)
 
-  pub plain-path-bare : (n : Next) → plain_path r (bare_next n) ≡ bare_answer bare_path (plain_path r n)
+  pub plain-path-bare : (n : Next) → plain_path r (bare_next n) ≡ bare_answer unplaced_path (plain_path r n)
   plain-path-bare (colons ts) = rw (next-bare ts) (path-from-bare true (next ts))
   plain-path-bare n = path-from-bare false n
 
@@ -108,7 +108,7 @@ module _ (r : Readers) (N : Natural r) where
   -- ---- formats
 
   fmt-arg-from-bare : (ts : Trees) (o : Option (Ident × Trees)) →
-      fmt_arg_from r.leaves (unplaced ts) (option_map (bare_pair bare_ident) o) ≡ bare_answer bare_fmt_arg (fmt_arg_from r.leaves ts o)
+      fmt_arg_from r.leaves (unplaced ts) (option_map (bare_pair unplaced_ident) o) ≡ bare_answer bare_fmt_arg (fmt_arg_from r.leaves ts o)
   fmt-arg-from-bare ts None = simp (N.leaves.run, passing)
   fmt-arg-from-bare ts (Some a) = simp (N.leaves.run, passing)
 
@@ -128,17 +128,17 @@ module _ (r : Readers) (N : Natural r) where
   write-bare (a_name i ts) = simp (comma-bare, fmt-bare, passing)
   write-bare _ = refl
 
-  macro-of-bare : (p : PathTree) (inside : Trees) → macro_of r (bare_path p) (unplaced inside) ≡ option_map bare_expr (macro_of r p inside)
+  macro-of-bare : (p : PathTree) (inside : Trees) → macro_of r (unplaced_path p) (unplaced inside) ≡ option_map bare_expr (macro_of r p inside)
   macro-of-bare p inside = simp (macro-path, write-bare, fmt-bare, passing)
 
-  pub macro-bare : (p : PathTree) (n : Next) → macro_from r (bare_path p) (bare_next n) ≡ bare_answer bare_expr (macro_from r p n)
+  pub macro-bare : (p : PathTree) (n : Next) → macro_from r (unplaced_path p) (bare_next n) ≡ bare_answer bare_expr (macro_from r p n)
   macro-bare p (in_parens inside ts) = chained _ _ _ _ _ _ (macro-of-bare p inside) (λ e. refl)
   macro-bare p _ = refl
 
   -- ---- patterns
 
   after-pattern-bare : (p : PathTree) (ts : Trees) (n : Next) →
-      after_pattern_path r (bare_path p) (unplaced ts) (bare_next n) ≡ bare_answer bare_pattern (after_pattern_path r p ts n)
+      after_pattern_path r (unplaced_path p) (unplaced ts) (bare_next n) ≡ bare_answer bare_pattern (after_pattern_path r p ts n)
   after-pattern-bare p ts (in_parens inside us) = simp (N.patterns, passing)
   after-pattern-bare p ts (in_braces inside us) = simp (N.named_patterns, passing)
   after-pattern-bare p ts _ = ap (λ x. Some (x, unplaced ts)) (pattern-of-bare p)
@@ -169,7 +169,7 @@ module _ (r : Readers) (N : Natural r) where
   patterns-bare (group d from inside upto ts) = some-patterns-bare (group d from inside upto ts)
 
   named-pattern-bare : (i : Ident) (n : Next) →
-      named_pattern_value r (bare_ident i) (bare_next n) ≡ option_map (bare_last bare_named) (named_pattern_value r i n)
+      named_pattern_value r (unplaced_ident i) (bare_next n) ≡ option_map (bare_last bare_named) (named_pattern_value r i n)
   named-pattern-bare i (colon ts) = simp (N.pattern, N.named_patterns, comma-bare, passing)
   named-pattern-bare i _ = refl
 

@@ -12,7 +12,7 @@ use Rattle.dm_output.specs.declared.expr.Member.{Member}
 use Rattle.dm_output.specs.declared.expr.Member.TheVariants as m
 use Rattle.dm_output.specs.Output.{FmtArgTree, FmtTree, PatternTree, wild, bind, str_pattern, path_pattern, tuple_pattern, named_pattern, pair_pattern, PatternTrees, no_patterns, pattern_then, NamedPatterns, no_named, named_then, ExprTree, return_expr, or_expr, and_expr, equal, unequal, ref_opaque, ref_expr, deref, member, method_call, map_expr, map_err, question, path_expr, call, build, build_named, paren, tuple, opaque_call, str_expr, bool, match_expr, unsafe_expr, write_expr, format_args, ExprTrees, no_exprs, expr_then, NamedExprs, no_named_exprs, named_expr_then, MaybeExpr, no_expr, some_expr, ArmTrees, no_arms, arm_then, ArmBodyTree, block_body, expr_body, StmtTree, let_stmt, check_stmt, import_stmt, do_stmt, const_stmt, StmtTrees, no_stmts, stmt_then, BlockTree, block}
 use Rattle.dm_output.specs.Tokens.{ended, in_turn, binding_trees, pattern_trees, each_pattern, each_named, path_expr_trees, alias_trees, fmt_arg_trees, fmt_trees, member_trees, base_trees, expr_trees, each_expr, each_named_expr, maybe_trees, guard_trees, arms_trees, body_trees, stmt_trees, stmts_trees, inside_trees}
-use Rattle.dm_reread.specs.BareTypes.{bare_self, bare_path, bare_ident}
+use Rattle.dm_type_eq.specs.Unplaced.{unplaced_ident, unplaced_path, unplaced_self}
 use Rattle.dm_reread.specs.Bare.{bare_fmt_arg, bare_fmt, bare_member, bare_pattern, bare_patterns, bare_named, bare_expr, bare_exprs, bare_named_exprs, bare_maybe, bare_arms, bare_body, bare_stmt, bare_stmts, bare_block}
 use Rattle.dm_reread.proofs.BareTypeTokens.{unplaced-join, unplaced-given, unplaced-spaced, type-bare, path-bare, node-bare}
 
@@ -28,11 +28,11 @@ pub ruleset unplaced_parts = (unplaced-join, unplaced-given, unplaced-spaced, un
 
 -- ---- paths, formats and members
 
-pub path-expr-bare : (q : MaybeSelf) (p : PathTree) → unplaced (path_expr_trees q p) ≡ path_expr_trees (bare_self q) (bare_path p)
+pub path-expr-bare : (q : MaybeSelf) (p : PathTree) → unplaced (path_expr_trees q p) ≡ path_expr_trees (unplaced_self q) (unplaced_path p)
 path-expr-bare no_self p = path-bare nowhere p
 path-expr-bare (some_self t position) (path_tree leading ss) = node-bare nowhere (path (some_self t position) (path_tree leading ss))
 
-alias-bare : (i : Option Ident) → unplaced (alias_trees i) ≡ alias_trees (option_map bare_ident i)
+alias-bare : (i : Option Ident) → unplaced (alias_trees i) ≡ alias_trees (option_map unplaced_ident i)
 alias-bare None = refl
 alias-bare (Some i) = refl
 

@@ -17,7 +17,7 @@ use Rattle.dm_ast.specs.declared.plain.ConstArg.{ConstArg}
 use Rattle.dm_ast.specs.declared.plain.ConstArg.TheVariants as constant
 use Rattle.dm_ast.specs.Tree.{Lifetimes, TypeTree, type_tree, TypeNode, paren, tuple, slice, array, reference, pointer, bare_fn, trait_object, impl_trait, infer, never, path, macro_type, TypeTrees, no_types, type_then, MaybeType, no_type, some_type, no_self, some_self, BoundTree, outlives, implements, BoundTrees, no_bounds, bound_then, TraitBoundTree, trait_bound, FnTree, fn_tree, InputTree, input, InputTrees, no_inputs, input_then, PathTree, path_tree, SegmentTree, segment, SegmentTrees, no_segments, segment_then, ArgumentsTree, absent, angle, parens, ArgumentTree, lifetime_arg, type_arg, const_arg, assoc_type, assoc_const, constraint, ArgumentTrees, no_arguments, argument_then, MaybeArguments, arguments_absent, some_arguments}
 use Rattle.dm_ast.specs.TypeTokens.{name, lifetime, given, spaced, plain_trees, for_trees, const_trees, attr_args_trees, attribute_trees, attributes_trees, maybe_lifetime, abi_trees, input_name_trees, as_trees, qualified_trees, type_trees, node_trees, each_type, each_bound, bound_trees, trait_bound_trees, fn_trees, each_input, input_trees, output_trees, path_trees, each_segment, segment_trees, arguments_trees, maybe_angle_trees, each_argument, argument_trees}
-use Rattle.dm_reread.specs.BareTypes.{bare_ident, bare_lifetime, bare_plain, bare_args, bare_attribute, bare_lifetimes, bare_abi, bare_constant, bare_type, bare_node, bare_types, bare_maybe_type, bare_bound, bare_bounds, bare_trait, bare_function, bare_input, bare_inputs, bare_path, bare_segments, bare_segment, bare_arguments_of, bare_argument, bare_arguments, bare_maybe_arguments}
+use Rattle.dm_type_eq.specs.Unplaced.{unplaced_abi, unplaced_args, unplaced_argument, unplaced_arguments, unplaced_arguments_of, unplaced_attribute, unplaced_bound, unplaced_bounds, unplaced_constant, unplaced_fn, unplaced_ident, unplaced_input, unplaced_inputs, unplaced_lifetime, unplaced_lifetimes, unplaced_maybe_arguments, unplaced_maybe_type, unplaced_node, unplaced_path, unplaced_plain, unplaced_segment, unplaced_segments, unplaced_trait, unplaced_type, unplaced_types}
 
 -- ---- lists of trees
 
@@ -38,52 +38,52 @@ unplaced-spaced between false (ts ∷ rest) = simp (unplaced-join, unplaced-spac
 
 ruleset parts = (unplaced-join, unplaced-given, unplaced-spaced)
 
-names-bare : (is : List Ident) → map unplaced (map name is) ≡ map name (map bare_ident is)
+names-bare : (is : List Ident) → map unplaced (map name is) ≡ map name (map unplaced_ident is)
 names-bare [] = refl
-names-bare (i ∷ is) = ap (λ l. name (bare_ident i) ∷ l) (names-bare is)
+names-bare (i ∷ is) = ap (λ l. name (unplaced_ident i) ∷ l) (names-bare is)
 
-pub lifetimes-bare : (ls : List Lifetime) → map unplaced (map lifetime ls) ≡ map lifetime (map bare_lifetime ls)
+pub lifetimes-bare : (ls : List Lifetime) → map unplaced (map lifetime ls) ≡ map lifetime (map unplaced_lifetime ls)
 lifetimes-bare [] = refl
-lifetimes-bare (l ∷ ls) = ap (λ x. lifetime (bare_lifetime l) ∷ x) (lifetimes-bare ls)
+lifetimes-bare (l ∷ ls) = ap (λ x. lifetime (unplaced_lifetime l) ∷ x) (lifetimes-bare ls)
 
 -- ---- the parts that hold no types
 
-plain-bare : (s : Span) (p : PlainPath) → unplaced (plain_trees s p) ≡ plain_trees nowhere (bare_plain p)
+plain-bare : (s : Span) (p : PlainPath) → unplaced (plain_trees s p) ≡ plain_trees nowhere (unplaced_plain p)
 plain-bare s p = simp (names-bare, parts)
 
-pub for-bare : (s : Span) (ls : Lifetimes) → unplaced (for_trees s ls) ≡ for_trees nowhere (bare_lifetimes ls)
+pub for-bare : (s : Span) (ls : Lifetimes) → unplaced (for_trees s ls) ≡ for_trees nowhere (unplaced_lifetimes ls)
 for-bare s None = refl
 for-bare s (Some ls) = simp (lifetimes-bare, parts)
 
-pub const-bare : (s : Span) (c : ConstArg) → unplaced (const_trees s c) ≡ const_trees nowhere (bare_constant c)
+pub const-bare : (s : Span) (c : ConstArg) → unplaced (const_trees s c) ≡ const_trees nowhere (unplaced_constant c)
 const-bare s (constant.Literal true l) = refl
 const-bare s (constant.Literal false l) = refl
 const-bare s (constant.Bool i) = refl
 const-bare s (constant.Block ts) = refl
 const-bare s (constant.Name i) = refl
 
-args-bare : (s : Span) (a : AttrArgs) → unplaced (attr_args_trees s a) ≡ attr_args_trees nowhere (bare_args a)
+args-bare : (s : Span) (a : AttrArgs) → unplaced (attr_args_trees s a) ≡ attr_args_trees nowhere (unplaced_args a)
 args-bare s args.Absent = refl
 args-bare s (args.List d ts) = refl
 args-bare s (args.Value o) = refl
 
-attribute-bare : (a : Attribute) → unplaced (attribute_trees a) ≡ attribute_trees (bare_attribute a)
+attribute-bare : (a : Attribute) → unplaced (attribute_trees a) ≡ attribute_trees (unplaced_attribute a)
 attribute-bare a = simp (plain-bare, args-bare, unplaced-join)
 
-pub attributes-bare : (as' : List Attribute) → unplaced (attributes_trees as') ≡ attributes_trees (map bare_attribute as')
+pub attributes-bare : (as' : List Attribute) → unplaced (attributes_trees as') ≡ attributes_trees (map unplaced_attribute as')
 attributes-bare [] = refl
 attributes-bare (a ∷ as') = unplaced-join (attribute_trees a) (attributes_trees as') ∙ ap₂ join (attribute-bare a) (attributes-bare as')
 
-abi-bare : (s : Span) (a : Option (Option Literal)) → unplaced (abi_trees s a) ≡ abi_trees nowhere (bare_abi a)
+abi-bare : (s : Span) (a : Option (Option Literal)) → unplaced (abi_trees s a) ≡ abi_trees nowhere (unplaced_abi a)
 abi-bare s None = refl
 abi-bare s (Some None) = refl
 abi-bare s (Some (Some l)) = refl
 
-input-name-bare : (s : Span) (i : Option Ident) → unplaced (input_name_trees s i) ≡ input_name_trees nowhere (option_map bare_ident i)
+input-name-bare : (s : Span) (i : Option Ident) → unplaced (input_name_trees s i) ≡ input_name_trees nowhere (option_map unplaced_ident i)
 input-name-bare s None = refl
 input-name-bare s (Some i) = refl
 
-maybe-lifetime-bare : (l : Option Lifetime) → unplaced (maybe_lifetime l) ≡ maybe_lifetime (option_map bare_lifetime l)
+maybe-lifetime-bare : (l : Option Lifetime) → unplaced (maybe_lifetime l) ≡ maybe_lifetime (option_map unplaced_lifetime l)
 maybe-lifetime-bare None = refl
 maybe-lifetime-bare (Some l) = refl
 
@@ -102,10 +102,10 @@ qualified-bare : (s : Span) (self : Trees) (position : ℕ) (leading : Bool) (xs
 qualified-bare s self position leading xs = simp (unplaced-join, as-bare, unplaced-spaced, drop-map)
 
 mutual
-  pub type-bare : (t : TypeTree) → unplaced (type_trees t) ≡ type_trees (bare_type t)
+  pub type-bare : (t : TypeTree) → unplaced (type_trees t) ≡ type_trees (unplaced_type t)
   type-bare (type_tree n s) = node-bare s n
 
-  pub node-bare : (s : Span) (n : TypeNode) → unplaced (node_trees s n) ≡ node_trees nowhere (bare_node n)
+  pub node-bare : (s : Span) (n : TypeNode) → unplaced (node_trees s n) ≡ node_trees nowhere (unplaced_node n)
   node-bare s (paren t) = simp (type-bare t)
   node-bare s (tuple ts trailing) = simp (types-bare ts, parts)
   node-bare s (slice t) = simp (type-bare t)
@@ -123,61 +123,61 @@ mutual
   node-bare s (path (some_self t position) (path_tree leading ss)) = simp (qualified-bare, type-bare t, segments-bare s ss)
   node-bare s (macro_type p d ts) = simp (plain-bare, parts)
 
-  types-bare : (ts : TypeTrees) → map unplaced (each_type ts) ≡ each_type (bare_types ts)
+  types-bare : (ts : TypeTrees) → map unplaced (each_type ts) ≡ each_type (unplaced_types ts)
   types-bare no_types = refl
   types-bare (type_then t ts) = ap₂ (λ x xs. x ∷ xs) (type-bare t) (types-bare ts)
 
-  pub bounds-bare : (s : Span) (bs : BoundTrees) → map unplaced (each_bound s bs) ≡ each_bound nowhere (bare_bounds bs)
+  pub bounds-bare : (s : Span) (bs : BoundTrees) → map unplaced (each_bound s bs) ≡ each_bound nowhere (unplaced_bounds bs)
   bounds-bare s no_bounds = refl
   bounds-bare s (bound_then b bs) = ap₂ (λ x xs. x ∷ xs) (bound-bare s b) (bounds-bare s bs)
 
-  bound-bare : (s : Span) (b : BoundTree) → unplaced (bound_trees s b) ≡ bound_trees nowhere (bare_bound b)
+  bound-bare : (s : Span) (b : BoundTree) → unplaced (bound_trees s b) ≡ bound_trees nowhere (unplaced_bound b)
   bound-bare s (outlives l) = refl
   bound-bare s (implements b) = trait-bare s b
 
-  trait-bare : (s : Span) (b : TraitBoundTree) → unplaced (trait_bound_trees s b) ≡ trait_bound_trees nowhere (bare_trait b)
+  trait-bare : (s : Span) (b : TraitBoundTree) → unplaced (trait_bound_trees s b) ≡ trait_bound_trees nowhere (unplaced_trait b)
   trait-bare s (trait_bound true maybe ls p) = simp (for-bare, path-bare s p, parts)
   trait-bare s (trait_bound false maybe ls p) = simp (for-bare, path-bare s p, parts)
 
-  function-bare : (s : Span) (f : FnTree) → unplaced (fn_trees s f) ≡ fn_trees nowhere (bare_function f)
+  function-bare : (s : Span) (f : FnTree) → unplaced (fn_trees s f) ≡ fn_trees nowhere (unplaced_fn f)
   function-bare s (fn_tree ls is_unsafe abi is trailing out) = simp (for-bare, abi-bare, inputs-bare s is, output-bare s out, parts)
 
-  inputs-bare : (s : Span) (is : InputTrees) → map unplaced (each_input s is) ≡ each_input nowhere (bare_inputs is)
+  inputs-bare : (s : Span) (is : InputTrees) → map unplaced (each_input s is) ≡ each_input nowhere (unplaced_inputs is)
   inputs-bare s no_inputs = refl
   inputs-bare s (input_then i is) = ap₂ (λ x xs. x ∷ xs) (input-bare s i) (inputs-bare s is)
 
-  input-bare : (s : Span) (i : InputTree) → unplaced (input_trees s i) ≡ input_trees nowhere (bare_input i)
+  input-bare : (s : Span) (i : InputTree) → unplaced (input_trees s i) ≡ input_trees nowhere (unplaced_input i)
   input-bare s (input attrs i t) = simp (attributes-bare, input-name-bare, type-bare t, parts)
 
-  output-bare : (s : Span) (t : MaybeType) → unplaced (output_trees s t) ≡ output_trees nowhere (bare_maybe_type t)
+  output-bare : (s : Span) (t : MaybeType) → unplaced (output_trees s t) ≡ output_trees nowhere (unplaced_maybe_type t)
   output-bare s no_type = refl
   output-bare s (some_type t) = simp (type-bare t)
 
-  pub path-bare : (s : Span) (p : PathTree) → unplaced (path_trees s p) ≡ path_trees nowhere (bare_path p)
+  pub path-bare : (s : Span) (p : PathTree) → unplaced (path_trees s p) ≡ path_trees nowhere (unplaced_path p)
   path-bare s (path_tree leading ss) = simp (segments-bare s ss, parts)
 
-  segments-bare : (s : Span) (ss : SegmentTrees) → map unplaced (each_segment s ss) ≡ each_segment nowhere (bare_segments ss)
+  segments-bare : (s : Span) (ss : SegmentTrees) → map unplaced (each_segment s ss) ≡ each_segment nowhere (unplaced_segments ss)
   segments-bare s no_segments = refl
   segments-bare s (segment_then x xs) = ap₂ (λ y ys. y ∷ ys) (segment-bare s x) (segments-bare s xs)
 
-  segment-bare : (s : Span) (x : SegmentTree) → unplaced (segment_trees s x) ≡ segment_trees nowhere (bare_segment x)
+  segment-bare : (s : Span) (x : SegmentTree) → unplaced (segment_trees s x) ≡ segment_trees nowhere (unplaced_segment x)
   segment-bare s (segment i gs) = simp (arguments-of-bare s gs)
 
-  arguments-of-bare : (s : Span) (gs : ArgumentsTree) → unplaced (arguments_trees s gs) ≡ arguments_trees nowhere (bare_arguments_of gs)
+  arguments-of-bare : (s : Span) (gs : ArgumentsTree) → unplaced (arguments_trees s gs) ≡ arguments_trees nowhere (unplaced_arguments_of gs)
   arguments-of-bare s absent = refl
   arguments-of-bare s (angle double gs trailing) = simp (arguments-bare s gs, parts)
   arguments-of-bare s (parens ts trailing out) = simp (types-bare ts, output-bare s out, parts)
 
   maybe-angle-bare : (s : Span) (gs : MaybeArguments) →
-      unplaced (maybe_angle_trees s gs) ≡ maybe_angle_trees nowhere (bare_maybe_arguments gs)
+      unplaced (maybe_angle_trees s gs) ≡ maybe_angle_trees nowhere (unplaced_maybe_arguments gs)
   maybe-angle-bare s arguments_absent = refl
   maybe-angle-bare s (some_arguments gs trailing) = simp (arguments-bare s gs, parts)
 
-  arguments-bare : (s : Span) (gs : ArgumentTrees) → map unplaced (each_argument s gs) ≡ each_argument nowhere (bare_arguments gs)
+  arguments-bare : (s : Span) (gs : ArgumentTrees) → map unplaced (each_argument s gs) ≡ each_argument nowhere (unplaced_arguments gs)
   arguments-bare s no_arguments = refl
   arguments-bare s (argument_then g gs) = ap₂ (λ x xs. x ∷ xs) (argument-bare s g) (arguments-bare s gs)
 
-  argument-bare : (s : Span) (g : ArgumentTree) → unplaced (argument_trees s g) ≡ argument_trees nowhere (bare_argument g)
+  argument-bare : (s : Span) (g : ArgumentTree) → unplaced (argument_trees s g) ≡ argument_trees nowhere (unplaced_argument g)
   argument-bare s (lifetime_arg l) = refl
   argument-bare s (type_arg t) = type-bare t
   argument-bare s (const_arg c) = const-bare s c

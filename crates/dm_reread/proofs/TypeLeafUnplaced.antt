@@ -1,5 +1,5 @@
 -- A type that some trees spell, without its ranges, is one that is read back.
-use Rattle.std.proofs.Common.{◌≡◌, Bool, List, [], ◌∷◌, map, Option, Some, None, refl, sym, ap, ap₂, ◌∙◌}
+use Rattle.std.proofs.Common.{◌≡◌, Bool, List, [], ◌∷◌, map, Option, Some, None, refl, sym, ap, ap₂, ◌∙◌, option_map}
 use Rattle.dm_stream.specs.declared.tokens.Literal.{Literal}
 use Rattle.dm_stream.specs.declared.tokens.Token.TheVariants as t
 use Rattle.dm_stream.specs.Layout.{nowhere}
@@ -14,7 +14,8 @@ use Rattle.dm_ast.specs.declared.plain.ConstArg.TheVariants as constant
 use Rattle.dm_ast.specs.Tree.{Lifetimes, TypeTree, type_tree, TypeNode, paren, tuple, slice, array, reference, pointer, bare_fn, trait_object, impl_trait, infer, never, path, macro_type, TypeTrees, no_types, type_then, MaybeType, no_type, some_type, MaybeSelf, no_self, some_self, BoundTree, outlives, implements, BoundTrees, no_bounds, bound_then, TraitBoundTree, trait_bound, FnTree, fn_tree, InputTree, input, InputTrees, no_inputs, input_then, PathTree, path_tree, SegmentTree, segment, SegmentTrees, no_segments, segment_then, ArgumentsTree, absent, angle, parens, ArgumentTree, lifetime_arg, type_arg, const_arg, assoc_type, assoc_const, constraint, ArgumentTrees, no_arguments, argument_then, MaybeArguments, arguments_absent, some_arguments}
 use Rattle.dm_ast.specs.Spelling.{Where, Marks, first_too_deep}
 use Rattle.dm_ast.specs.TypeGrammar.{type_spelled}
-use Rattle.dm_type_eq.specs.Unplaced.{unplaced_ident, unplaced_lifetime, unplaced_literal, unplaced_token, unplaced_trees, unplaced_stream, unplaced_opaque, unplaced_option, unplaced_plain, unplaced_args, unplaced_attribute, unplaced_lifetimes, unplaced_abi, unplaced_constant, unplaced_type, unplaced_node, unplaced_types, unplaced_maybe_type, unplaced_self, unplaced_bound, unplaced_bounds, unplaced_trait, unplaced_fn, unplaced_input, unplaced_inputs, unplaced_path, unplaced_segments, unplaced_segment, unplaced_arguments_of, unplaced_argument, unplaced_arguments, unplaced_maybe_arguments}
+use Rattle.dm_lexer.specs.Written.{unplaced, unplaced_token}
+use Rattle.dm_type_eq.specs.Unplaced.{unplaced_abi, unplaced_args, unplaced_argument, unplaced_arguments, unplaced_arguments_of, unplaced_attribute, unplaced_bound, unplaced_bounds, unplaced_constant, unplaced_fn, unplaced_ident, unplaced_input, unplaced_inputs, unplaced_lifetime, unplaced_lifetimes, unplaced_literal, unplaced_maybe_arguments, unplaced_maybe_type, unplaced_node, unplaced_opaque, unplaced_path, unplaced_plain, unplaced_segment, unplaced_segments, unplaced_self, unplaced_stream, unplaced_trait, unplaced_type, unplaced_types}
 use Rattle.dm_reread.specs.TypeLeaves.{IsType}
 
 -- ---- twice is once: the parts that hold no types
@@ -26,7 +27,7 @@ once_map : {A : Type 0} (f : A → A) → ((x : A) → Once f x) → (xs : List 
 once_map f h [] = refl
 once_map f h (x ∷ xs) = ap₂ (λ y ys. y ∷ ys) (h x) (once_map f h xs)
 
-once_option : {A : Type 0} (f : A → A) → ((x : A) → Once f x) → (x : Option A) → Once (unplaced_option f) x
+once_option : {A : Type 0} (f : A → A) → ((x : A) → Once f x) → (x : Option A) → Once (option_map f) x
 once_option f h None = refl
 once_option f h (Some x) = ap Some (h x)
 
@@ -36,7 +37,7 @@ once_token (t.Lifetime l) = refl
 once_token (t.Literal l) = refl
 once_token (t.Punct p) = refl
 
-once_trees : (ts : Trees) → Once unplaced_trees ts
+once_trees : (ts : Trees) → Once unplaced ts
 once_trees no_trees = refl
 once_trees (token k ts) = ap₂ (λ x y. token x y) (once_token k) (once_trees ts)
 once_trees (group d from inside upto ts) = ap₂ (λ x y. group d nowhere x nowhere y) (once_trees inside) (once_trees ts)
@@ -64,7 +65,7 @@ once_lifetimes (Some ls) =
     ap (λ x. Some (record { items = x; trailing = ls.trailing })) (once_map unplaced_lifetime (λ l. refl) ls.items)
 
 once_abi : (a : Option (Option Literal)) → Once unplaced_abi a
-once_abi a = once_option (unplaced_option unplaced_literal) (once_option unplaced_literal (λ l. refl)) a
+once_abi a = once_option (option_map unplaced_literal) (once_option unplaced_literal (λ l. refl)) a
 
 once_constant : (c : ConstArg) → Once unplaced_constant c
 once_constant (constant.Literal m l) = refl
@@ -75,7 +76,7 @@ once_constant (constant.Name i) = refl
 -- ---- types
 
 mutual
-  once_type : (x : TypeTree) → Once unplaced_type x
+  pub once_type : (x : TypeTree) → Once unplaced_type x
   once_type (type_tree n s) = ap (λ y. type_tree y nowhere) (once_node n)
 
   once_node : (n : TypeNode) → Once unplaced_node n
@@ -124,7 +125,7 @@ mutual
 
   once_input : (i : InputTree) → Once unplaced_input i
   once_input (input as' i x) =
-      ap (λ y. input y (unplaced_option unplaced_ident (unplaced_option unplaced_ident i)) (unplaced_type (unplaced_type x)))
+      ap (λ y. input y (option_map unplaced_ident (option_map unplaced_ident i)) (unplaced_type (unplaced_type x)))
       (once_map unplaced_attribute once_attribute as') ∙
       ap₂ (λ y z. input (map unplaced_attribute as') y z) (once_option unplaced_ident (λ k. refl) i) (once_type x)
 

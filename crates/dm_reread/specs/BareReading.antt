@@ -3,7 +3,7 @@ use Rattle.std.specs.Prelude.{◌≡◌, Bool, map, option_map}
 use Rattle.dm_stream.specs.Trees.{Trees}
 use Rattle.dm_lexer.specs.Written.{unplaced}
 use Rattle.dm_ast.specs.Tree.{MaybeSelf, PathTree}
-use Rattle.dm_reread.specs.BareTypes.{bare_ident, bare_literal, bare_type, bare_self, bare_path}
+use Rattle.dm_type_eq.specs.Unplaced.{unplaced_ident, unplaced_literal, unplaced_path, unplaced_self, unplaced_type}
 use Rattle.dm_reread.specs.Bare.{bare_member, bare_expr, bare_exprs, bare_param, bare_predicate, bare_param_of}
 use Rattle.dm_reread.specs.Next.{Next, ended, oror, andand, equals, differs, star, amp, dot, asks, bangs, plus, less, hash, bar, comma, colon, semicolon, assigns, leads, arrow, colons, dots, in_parens, in_braces, in_brackets, literal, a_name, a_word, other}
 use Rattle.dm_reread.specs.Leaves.{Answer, Leaves}
@@ -37,8 +37,8 @@ bare_next (dots ts) = dots (unplaced ts)
 bare_next (in_parens inside ts) = in_parens (unplaced inside) (unplaced ts)
 bare_next (in_braces inside ts) = in_braces (unplaced inside) (unplaced ts)
 bare_next (in_brackets inside ts) = in_brackets (unplaced inside) (unplaced ts)
-bare_next (literal l ts) = literal (bare_literal l) (unplaced ts)
-bare_next (a_name i ts) = a_name (bare_ident i) (unplaced ts)
+bare_next (literal l ts) = literal (unplaced_literal l) (unplaced ts)
+bare_next (a_name i ts) = a_name (unplaced_ident i) (unplaced ts)
 bare_next (a_word w ts) = a_word w (unplaced ts)
 bare_next other = other
 
@@ -46,7 +46,7 @@ bare_next other = other
 abbrev pub bare_posts : Posts → Posts
 bare_posts no_posts = no_posts
 bare_posts (p_member x ps) = p_member (bare_member x) (bare_posts ps)
-bare_posts (p_call i es ps) = p_call (bare_ident i) (bare_exprs es) (bare_posts ps)
+bare_posts (p_call i es ps) = p_call (unplaced_ident i) (bare_exprs es) (bare_posts ps)
 bare_posts (p_map e ps) = p_map (bare_expr e) (bare_posts ps)
 bare_posts (p_map_err o ps) = p_map_err (unplaced o) (bare_posts ps)
 bare_posts (p_question ps) = p_question (bare_posts ps)
@@ -69,15 +69,15 @@ bare_last f x = (f x.0, x.1)
 
 -- a qualified path
 abbrev pub bare_qualified : MaybeSelf × PathTree → MaybeSelf × PathTree
-bare_qualified x = (bare_self x.0, bare_path x.1)
+bare_qualified x = (unplaced_self x.0, unplaced_path x.1)
 
 -- what stands between `impl` and the brace
 abbrev pub bare_head : HeadTree → HeadTree
 bare_head h =
     record {
       params = map bare_param h.params;
-      trait_path = option_map bare_path h.trait_path;
-      ty = bare_type h.ty;
+      trait_path = option_map unplaced_path h.trait_path;
+      ty = unplaced_type h.ty;
       predicates = map bare_predicate h.predicates;
     }
 
@@ -87,7 +87,7 @@ bare_inputs x = (x.0, option_map bare_param_of x.1)
 
 -- the leaves read the same of the same tokens, ranges aside
 pub record NaturalLeaves (l : Leaves) : Type 0 where
-  pub type : (ts : Trees) → l.type (unplaced ts) ≡ bare_answer bare_type (l.type ts)
+  pub type : (ts : Trees) → l.type (unplaced ts) ≡ bare_answer unplaced_type (l.type ts)
   pub qualified : (ts : Trees) → l.qualified (unplaced ts) ≡ bare_answer bare_qualified (l.qualified ts)
   pub run : (ts : Trees) → l.run (unplaced ts) ≡ bare_answer unplaced (l.run ts)
 

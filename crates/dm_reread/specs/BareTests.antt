@@ -9,7 +9,7 @@ use Rattle.dm_ast.specs.Tree.{TypeTree, MaybeSelf, no_self, some_self, PathTree,
 use Rattle.dm_output.specs.declared.expr.Member.{Member}
 use Rattle.dm_output.specs.declared.expr.Member.TheVariants as m
 use Rattle.dm_output.specs.Output.{FmtArgTree, FmtTree, PatternTree, wild, bind, str_pattern, path_pattern, tuple_pattern, named_pattern, pair_pattern, PatternTrees, no_patterns, pattern_then, NamedPatterns, no_named, named_then, ExprTree, return_expr, or_expr, and_expr, equal, unequal, ref_opaque, ref_expr, deref, member, method_call, map_expr, map_err, question, path_expr, call, build, build_named, paren, tuple, opaque_call, str_expr, bool, match_expr, unsafe_expr, write_expr, format_args, ExprTrees, no_exprs, expr_then, NamedExprs, no_named_exprs, named_expr_then, MaybeExpr, no_expr, some_expr, ArmTrees, no_arms, arm_then, ArmBodyTree, block_body, expr_body, StmtTree, let_stmt, check_stmt, import_stmt, do_stmt, const_stmt, StmtTrees, no_stmts, stmt_then, BlockTree, block, AssocTree, ParamOfMethod, MethodTree, ItemTree}
-use Rattle.dm_reread.specs.BareTypes.{bare_type, bare_path}
+use Rattle.dm_type_eq.specs.Unplaced.{unplaced_path, unplaced_type}
 use Rattle.dm_reread.specs.BareReading.{bare_head}
 use Rattle.dm_reread.specs.Leaves.{LeafGrammar}
 use Rattle.dm_reread.specs.Reading.{is_int, is_str, is_some_trees, alias_of}
@@ -41,9 +41,9 @@ pub record ItemDecisions (g : ItemGrammar) (t : ItemTests) : Type 0 where
 
 -- the tests look at no range
 pub record NaturalTests (t : LeafTests) : Type 0 where
-  pub type : (x : TypeTree) → t.is_type (bare_type x) ≡ t.is_type x
+  pub type : (x : TypeTree) → t.is_type (unplaced_type x) ≡ t.is_type x
   pub qualified : (x : TypeTree) (position : ℕ) (p : PathTree) →
-      t.is_qualified (some_self (bare_type x) position) (bare_path p) ≡ t.is_qualified (some_self x position) p
+      t.is_qualified (some_self (unplaced_type x) position) (unplaced_path p) ≡ t.is_qualified (some_self x position) p
   pub run : (v : Trees) → t.is_run (unplaced v) ≡ t.is_run v
 
 pub record NaturalItemTests (t : ItemTests) : Type 0 where

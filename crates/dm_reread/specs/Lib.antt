@@ -7,7 +7,6 @@ pub mod Whole
 pub mod Items
 pub mod ItemGrammar
 pub mod Spelled
-pub mod BareTypes
 pub mod Bare
 pub mod BareReading
 pub mod Unplaced

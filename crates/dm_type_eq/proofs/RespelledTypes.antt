@@ -9,7 +9,7 @@ use Rattle.dm_ast.specs.Tree.{TypeTree, type_tree, TypeNode, paren, tuple, slice
 use Rattle.dm_ast.specs.Spelling.{Where, Marks, Facing, ◌then◌, at_end, sees, punct, flag}
 use Rattle.dm_ast.specs.TypeGrammar.{sees_macro, is_macro, is_tuple, ends_bounds, opaque, kept, type_spelled, node, types, types_left, output, function, input_spelled, inputs, inputs_left, bound, trait_bound_spelled, some_bounds, more_bounds, bounds, bounds_left, path_spelled, segments, segments_left, qualified, trait_segments, some_segments_left, segment_spelled, arguments_of_segment, arguments, arguments_left, argument, maybe_angled, for_lifetimes}
 use Rattle.dm_ast.specs.TypeTokens as spell
-use Rattle.dm_type_eq.specs.Unplaced.{unplaced_ident, unplaced_lifetimes, unplaced_plain, unplaced_stream, unplaced_opaque, unplaced_type, unplaced_node, unplaced_types, unplaced_maybe_type, unplaced_bound, unplaced_bounds, unplaced_trait, unplaced_fn, unplaced_input, unplaced_inputs, unplaced_path, unplaced_segments, unplaced_segment, unplaced_arguments_of, unplaced_argument, unplaced_arguments, unplaced_maybe_arguments}
+use Rattle.dm_type_eq.specs.Unplaced.{unplaced_argument, unplaced_arguments, unplaced_arguments_of, unplaced_bound, unplaced_bounds, unplaced_fn, unplaced_ident, unplaced_input, unplaced_inputs, unplaced_lifetimes, unplaced_maybe_arguments, unplaced_maybe_type, unplaced_node, unplaced_opaque, unplaced_path, unplaced_plain, unplaced_segment, unplaced_segments, unplaced_stream, unplaced_trait, unplaced_type, unplaced_types}
 use Rattle.dm_type_eq.proofs.Cutting.{Cut, unseen_sees, unseen_word, unseen_colons, unseen_arrow, unseen_arguments, unseen_named, unseen_either, ends_kept}
 use Rattle.dm_type_eq.proofs.CutMacros.{unseen_macro, macro_front}
 use Rattle.dm_type_eq.proofs.Respelling.{Lower, below, Again, RespellsIf, Respells, Ending, respells_then, respells_as, respells_before, respells_facing, respells_provided, respells_nothing, respells_absent, respells_flag, respells_ident, respells_lifetime, respells_word, plain, respells_punct, respells_colon, respells_equals, respells_colons, respells_arrow, respells_group, respells_kept, respells_length, Left, respells_last, respells_none, respells_first, respells_next, respells_to_end, respells_angles, respells_plain, respells_ranged, respells_attributes, respells_for, respells_constant, respells_name, respells_maybe_lifetime, respells_abi}

@@ -1,6 +1,6 @@
 -- What is spelled is spelled again by its own tokens without places, at the same level or a lower one, before whatever is cut from what
 -- followed it. The parts that grammars are made of, and the parts of types that hold no types.
-use Rattle.std.proofs.Common.{◌≡◌, ◌≢◌, ◌≤◌, ℕ, ◌+◌, cond, nat_lt, Bool, true, false, ◌&&◌, ◌||◌, nat_eq, IsTrue, List, [], ◌∷◌, ◌++◌, map, codes, Option, Some, None, refl, sym, ap, ◌∙◌, subst, arith}
+use Rattle.std.proofs.Common.{◌≡◌, ◌≢◌, ◌≤◌, ℕ, ◌+◌, cond, nat_lt, Bool, true, false, ◌&&◌, ◌||◌, nat_eq, IsTrue, List, [], ◌∷◌, ◌++◌, map, codes, Option, Some, None, refl, sym, ap, ◌∙◌, subst, arith, option_map}
 use Rattle.std.proofs.lemmas.Bool.{ltb-true, lt-ltb}
 use Rattle.dm_stream.specs.declared.tokens.Span.{Span}
 use Rattle.dm_stream.specs.declared.tokens.Delim.{Delim}
@@ -26,7 +26,8 @@ use Rattle.dm_ast.specs.Spelling.{Where, deeper, Marks, Spelling, deepest, first
 use Rattle.dm_ast.specs.TypeGrammar.{name, plain_path, opaque, kept, attribute_args, attribute, attributes, between_angles, for_lifetimes, constant_spelled, constant_argument, not_named}
 use Rattle.dm_ast.specs.TypeTokens as spell
 use Rattle.dm_read_paths.proofs.PlainParts.{nothing_left}
-use Rattle.dm_type_eq.specs.Unplaced.{unplaced_ident, unplaced_lifetime, unplaced_literal, unplaced_token, unplaced_trees, unplaced_stream, unplaced_opaque, unplaced_option, unplaced_plain, unplaced_args, unplaced_attribute, unplaced_lifetimes, unplaced_abi, unplaced_constant}
+use Rattle.dm_lexer.specs.Written.{unplaced, unplaced_token}
+use Rattle.dm_type_eq.specs.Unplaced.{unplaced_abi, unplaced_args, unplaced_attribute, unplaced_constant, unplaced_ident, unplaced_lifetime, unplaced_lifetimes, unplaced_literal, unplaced_opaque, unplaced_plain, unplaced_stream}
 use Rattle.dm_type_eq.proofs.Cutting.{IsAlone, Cut, cut_end, cut_ident, cut_lifetime, cut_literal, cut_punct, cut_pair, cut_group, Unseen, closed, unseen_sees, unseen_word, unseen_lifetime, unseen_literal, unseen_colons}
 use Rattle.dm_type_eq.proofs.CutMacros.{unseen_macro}
 
@@ -285,7 +286,7 @@ respells_group Inside Other {a} {v} {w} l d f ts others m s o c h =
 
 -- ---- trees that are not read
 
-lower_levels : (n k : ℕ) (ts : Trees) → n ≤ k → Lowered (marks_of n (unplaced_trees ts)) (marks_of k ts)
+lower_levels : (n k : ℕ) (ts : Trees) → n ≤ k → Lowered (marks_of n (unplaced ts)) (marks_of k ts)
 lower_levels n k no_trees h = tt
 lower_levels n k (token (t.Ident i) rest) h = (h, refl, lower_levels n k rest h)
 lower_levels n k (token (t.Lifetime i) rest) h = (h, refl, lower_levels n k rest h)
@@ -294,36 +295,36 @@ lower_levels n k (token (t.Punct i) rest) h = (h, refl, lower_levels n k rest h)
 lower_levels n k (group d from inside upto rest) h = (
   h,
   refl,
-  lowered_append (marks_of (n + 1) (unplaced_trees inside)) ((n, nowhere) ∷ marks_of n (unplaced_trees rest)) (marks_of (k + 1) inside) ((k, upto) ∷ marks_of k rest)
+  lowered_append (marks_of (n + 1) (unplaced inside)) ((n, nowhere) ∷ marks_of n (unplaced rest)) (marks_of (k + 1) inside) ((k, upto) ∷ marks_of k rest)
       (lower_levels (n + 1) (k + 1) inside (omega (arith, h))) (h, refl, lower_levels n k rest h),
 )
 
 pub respells_kept : {v w : Where} → Lower v w → (d : Delim) (x : Stream) →
-    Respells (GroupAt w d (kept x)) (GroupAt v d (kept (unplaced_stream x))) (spell.grouped d (unplaced_trees x.trees))
+    Respells (GroupAt w d (kept x)) (GroupAt v d (kept (unplaced_stream x))) (spell.grouped d (unplaced x.trees))
 respells_kept {v} {w} l d x ts others m s o c h =
-    group_again l d (kept x) (kept (unplaced_stream x)) (unplaced_trees x.trees) ts others o m (marks_of (v.level + 1) (unplaced_trees x.trees)) s
+    group_again l d (kept x) (kept (unplaced_stream x)) (unplaced x.trees) ts others o m (marks_of (v.level + 1) (unplaced x.trees)) s
     (record { fact = refl; part = record { spelled = refl; none_left = refl; marks = refl } })
-    (subst (Lowered (marks_of (v.level + 1) (unplaced_trees x.trees))) (sym s.whole.part.marks) (lower_levels (v.level + 1) (w.level + 1) x.trees (omega (arith, l.level))))
+    (subst (Lowered (marks_of (v.level + 1) (unplaced x.trees))) (sym s.whole.part.marks) (lower_levels (v.level + 1) (w.level + 1) x.trees (omega (arith, l.level))))
 
-some_unplaced : (ts : Trees) → ts ≢ no_trees → unplaced_trees ts ≢ no_trees
+some_unplaced : (ts : Trees) → ts ≢ no_trees → unplaced ts ≢ no_trees
 some_unplaced no_trees h e = h refl
 some_unplaced (token k rest) h e = absurd (cc)
 some_unplaced (group d from inside upto rest) h e = absurd (cc)
 
 -- the marks of what isn't read
 abbrev Kept : Where → Opaque → Marks
-Kept v x = marks_of v.level (unplaced_trees x.tokens.trees)
+Kept v x = marks_of v.level (unplaced x.tokens.trees)
 
 opaque_again : {v w : Where} → Lower v w → (x : Opaque) (ts others : Trees) (m : Marks) → opaque w x ts others m → (o : Trees) → Cut o others →
-    opaque v (unplaced_opaque x) (join (unplaced_trees x.tokens.trees) o) o (Kept v x)
+    opaque v (unplaced_opaque x) (join (unplaced x.tokens.trees) o) o (Kept v x)
 opaque_again {v} {w} l x ts others m s o c =
     let e : no_trees ≡ o = sym (closed o others c s.part.part.none_left) in
     record {
       fact = some_unplaced x.tokens.trees s.fact;
       part = record {
         fact = sym l.limit;
-        part = subst (λ z. AllAt v (unplaced_trees x.tokens.trees) (join (unplaced_trees x.tokens.trees) z) z (Kept v x)) e
-            (record { spelled = join-no_trees (unplaced_trees x.tokens.trees); none_left = refl; marks = refl });
+        part = subst (λ z. AllAt v (unplaced x.tokens.trees) (join (unplaced x.tokens.trees) z) z (Kept v x)) e
+            (record { spelled = join-no_trees (unplaced x.tokens.trees); none_left = refl; marks = refl });
       };
     }
 
@@ -339,13 +340,13 @@ closing_lower {v} {w} l x ts others r first rest m e f s =
 
 -- a punct and all that is left behind it
 abbrev Closing : ℕ → Opaque → Trees
-Closing c x = join (spell.punct c nowhere) (unplaced_trees x.tokens.trees)
+Closing c x = join (spell.punct c nowhere) (unplaced x.tokens.trees)
 
 -- behind a part of one mark
 closed_again : {v w : Where} → Lower v w → (x : Opaque) (First : Spelling) (mid others : Trees) (m : Marks) → opaque w x mid others m → (ts o : Trees) → Cut o others →
-    First ts (join (unplaced_trees x.tokens.trees) o) ((v.level, nowhere) ∷ []) → (First then opaque v (unplaced_opaque x)) ts o ((v.level, nowhere) ∷ Kept v x)
+    First ts (join (unplaced x.tokens.trees) o) ((v.level, nowhere) ∷ []) → (First then opaque v (unplaced_opaque x)) ts o ((v.level, nowhere) ∷ Kept v x)
 closed_again {v} {w} l x First mid others m s ts o c first = record {
-  middle = join (unplaced_trees x.tokens.trees) o;
+  middle = join (unplaced x.tokens.trees) o;
   first_marks = (v.level, nowhere) ∷ [];
   rest_marks = Kept v x;
   first = first;
@@ -363,7 +364,7 @@ respells_length {v} {w} l x ts others m s o c h =
           (record { punct = record { ch = 59; spacing = Alone; span = nowhere }; is = refl; there = record { spelled = refl; marks = refl } });
       lower = closing_lower l x s.middle others p.punct.span s.first_marks s.rest_marks m s.marks p.there.marks s.rest;
       cut = subst (λ z. Cut (join (Closing 59 x) o) z) (sym p.there.spelled)
-          (cut_punct 59 p.punct (join (unplaced_trees x.tokens.trees) o) s.middle p.is
+          (cut_punct 59 p.punct (join (unplaced x.tokens.trees) o) s.middle p.is
           (record { colon = λ e. absurd (omega (arith, e)); equals = λ e. absurd (omega (arith, e)) }) (λ e. absurd (omega (arith, e))));
     }
 
@@ -377,7 +378,7 @@ respells_value {v} {w} l x ts others m s o c h =
           (record { punct = record { ch = 61; spacing = Alone; span = nowhere }; is = refl; lone = refl; there = record { spelled = refl; marks = refl } });
       lower = closing_lower l x s.middle others p.punct.span s.first_marks s.rest_marks m s.marks p.there.marks s.rest;
       cut = subst (λ z. Cut (join (Closing 61 x) o) z) (sym p.there.spelled)
-          (cut_punct 61 p.punct (join (unplaced_trees x.tokens.trees) o) s.middle p.is
+          (cut_punct 61 p.punct (join (unplaced x.tokens.trees) o) s.middle p.is
           (record { colon = λ e. absurd (omega (arith, e)); equals = λ _. p.lone }) (λ e. absurd (omega (arith, e))));
     }
 
@@ -532,14 +533,14 @@ respells_name l i = respells_provided (λ e. e) (λ _. respells_ident l i)
 -- ---- what types may have
 
 pub respells_maybe_lifetime : {v w : Where} → Lower v w → (l : Option Lifetime) →
-    Respells (perhaps sees_lifetime l (lifetime w)) (perhaps sees_lifetime (unplaced_option unplaced_lifetime l) (lifetime v))
-    (spell.maybe_lifetime (unplaced_option unplaced_lifetime l))
+    Respells (perhaps sees_lifetime l (lifetime w)) (perhaps sees_lifetime (option_map unplaced_lifetime l) (lifetime v))
+    (spell.maybe_lifetime (option_map unplaced_lifetime l))
 respells_maybe_lifetime l None = respells_absent unseen_lifetime
 respells_maybe_lifetime l (Some x) = respells_lifetime l x
 
 maybe_literal_again : {v w : Where} → Lower v w → (l : Option Literal) →
-    Respells (perhaps sees_literal l (literal w)) (perhaps sees_literal (unplaced_option unplaced_literal l) (literal v))
-    (spell.maybe_literal (unplaced_option unplaced_literal l))
+    Respells (perhaps sees_literal l (literal w)) (perhaps sees_literal (option_map unplaced_literal l) (literal v))
+    (spell.maybe_literal (option_map unplaced_literal l))
 maybe_literal_again l None = respells_absent unseen_literal
 maybe_literal_again l (Some x) = respells_literal l x
 

@@ -1,12 +1,11 @@
 -- Types without the places of their tokens: each range is the empty one at 0, and lists of trees that are not read end at 0.
-use Rattle.std.specs.Prelude.{map, Option, Some, None}
+use Rattle.std.specs.Prelude.{map, Option, option_map, Some, None}
 use Rattle.dm_stream.specs.declared.tokens.Ident.{Ident}
 use Rattle.dm_stream.specs.declared.tokens.Lifetime.{Lifetime}
 use Rattle.dm_stream.specs.declared.tokens.Literal.{Literal}
-use Rattle.dm_stream.specs.declared.tokens.Punct.{Punct}
-use Rattle.dm_stream.specs.declared.tokens.Token.TheVariants as t
 use Rattle.dm_stream.specs.Layout.{nowhere}
-use Rattle.dm_stream.specs.Trees.{Trees, no_trees, token, group, Stream}
+use Rattle.dm_stream.specs.Trees.{Stream}
+use Rattle.dm_lexer.specs.Written.{unplaced}
 use Rattle.dm_ast.specs.declared.plain.Opaque.{Opaque}
 use Rattle.dm_ast.specs.declared.plain.PlainPath.{PlainPath}
 use Rattle.dm_ast.specs.declared.plain.AttrArgs.{AttrArgs}
@@ -16,7 +15,7 @@ use Rattle.dm_ast.specs.declared.plain.ConstArg.{ConstArg}
 use Rattle.dm_ast.specs.declared.plain.ConstArg.TheVariants as constant
 use Rattle.dm_ast.specs.Tree.{Lifetimes, TypeTree, type_tree, TypeNode, paren, tuple, slice, array, reference, pointer, bare_fn, trait_object, impl_trait, infer, never, path, macro_type, TypeTrees, no_types, type_then, MaybeType, no_type, some_type, MaybeSelf, no_self, some_self, BoundTree, outlives, implements, BoundTrees, no_bounds, bound_then, TraitBoundTree, trait_bound, FnTree, fn_tree, InputTree, input, InputTrees, no_inputs, input_then, PathTree, path_tree, SegmentTree, segment, SegmentTrees, no_segments, segment_then, ArgumentsTree, absent, angle, parens, ArgumentTree, lifetime_arg, type_arg, const_arg, assoc_type, assoc_const, constraint, ArgumentTrees, no_arguments, argument_then, MaybeArguments, arguments_absent, some_arguments}
 
--- ---- tokens and trees
+-- ---- names, literals and trees that are not read
 
 abbrev pub unplaced_ident : Ident → Ident
 unplaced_ident i = record { name = i.name; raw = i.raw; span = nowhere }
@@ -27,31 +26,13 @@ unplaced_lifetime l = record { name = l.name; span = nowhere }
 abbrev pub unplaced_literal : Literal → Literal
 unplaced_literal l = record { kind = l.kind; text = l.text; span = nowhere }
 
-abbrev pub unplaced_punct : Punct → Punct
-unplaced_punct p = record { ch = p.ch; spacing = p.spacing; span = nowhere }
-
-abbrev pub unplaced_token : t.the_data → t.the_data
-unplaced_token (t.Ident i) = t.Ident (unplaced_ident i)
-unplaced_token (t.Lifetime l) = t.Lifetime (unplaced_lifetime l)
-unplaced_token (t.Literal l) = t.Literal (unplaced_literal l)
-unplaced_token (t.Punct p) = t.Punct (unplaced_punct p)
-
-abbrev pub unplaced_trees : Trees → Trees
-unplaced_trees no_trees = no_trees
-unplaced_trees (token k rest) = token (unplaced_token k) (unplaced_trees rest)
-unplaced_trees (group d from inside upto rest) = group d nowhere (unplaced_trees inside) nowhere (unplaced_trees rest)
-
 abbrev pub unplaced_stream : Stream → Stream
-unplaced_stream s = record { trees = unplaced_trees s.trees; limit = 0 }
+unplaced_stream s = record { trees = unplaced s.trees; limit = 0 }
 
 abbrev pub unplaced_opaque : Opaque → Opaque
 unplaced_opaque o = record { tokens = unplaced_stream o.tokens }
 
 -- ---- the parts that hold no types
-
-abbrev pub unplaced_option : {A : Type 0} → (A → A) → Option A → Option A
-unplaced_option f None = None
-unplaced_option f (Some x) = Some (f x)
 
 abbrev pub unplaced_plain : PlainPath → PlainPath
 unplaced_plain p = record { leading_colon = p.leading_colon; segments = map unplaced_ident p.segments }
@@ -69,7 +50,7 @@ unplaced_lifetimes None = None
 unplaced_lifetimes (Some ls) = Some (record { items = map unplaced_lifetime ls.items; trailing = ls.trailing })
 
 abbrev pub unplaced_abi : Option (Option Literal) → Option (Option Literal)
-unplaced_abi a = unplaced_option (unplaced_option unplaced_literal) a
+unplaced_abi a = option_map (option_map unplaced_literal) a
 
 abbrev pub unplaced_constant : ConstArg → ConstArg
 unplaced_constant (constant.Literal m l) = constant.Literal m (unplaced_literal l)
@@ -88,7 +69,7 @@ abbrev mutual
   unplaced_node (tuple ts trailing) = tuple (unplaced_types ts) trailing
   unplaced_node (slice t) = slice (unplaced_type t)
   unplaced_node (array t o) = array (unplaced_type t) (unplaced_opaque o)
-  unplaced_node (reference l m t) = reference (unplaced_option unplaced_lifetime l) m (unplaced_type t)
+  unplaced_node (reference l m t) = reference (option_map unplaced_lifetime l) m (unplaced_type t)
   unplaced_node (pointer m t) = pointer m (unplaced_type t)
   unplaced_node (bare_fn f) = bare_fn (unplaced_fn f)
   unplaced_node (trait_object bs trailing) = trait_object (unplaced_bounds bs) trailing
@@ -126,7 +107,7 @@ abbrev mutual
       fn_tree (unplaced_lifetimes ls) is_unsafe (unplaced_abi abi) (unplaced_inputs is) trailing (unplaced_maybe_type out)
 
   pub unplaced_input : InputTree → InputTree
-  unplaced_input (input attrs i t) = input (map unplaced_attribute attrs) (unplaced_option unplaced_ident i) (unplaced_type t)
+  unplaced_input (input attrs i t) = input (map unplaced_attribute attrs) (option_map unplaced_ident i) (unplaced_type t)
 
   pub unplaced_inputs : InputTrees → InputTrees
   unplaced_inputs no_inputs = no_inputs
