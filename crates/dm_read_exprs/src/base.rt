@@ -1,238 +1,32 @@
-//! Expressions that no operator stands in or behind: paths, calls, groups, `match` and others.
+//! Expressions that no operator stands in or behind.
 #![tactic(auto, using(crate::proofs::BaseSteps::base_steps))]
 
-ghost use Rattle.std.specs.Prelude.{◌≡◌, IfOk, map};
-ghost use Rattle.dm_ast.specs.Tree.{path_view, maybe_self_view};
-ghost use Rattle.dm_output.specs.Output.{exprs_of, arms_of};
+ghost use Rattle.std.specs.Prelude.{map};
+ghost use Rattle.dm_output.specs.Output.{arms_of};
 ghost use Rattle.dm_output.specs.Views.{expr_view, arm_view};
 ghost use Rattle.dm_reread.specs.Next.{next};
 ghost use Rattle.dm_reread.specs.Reading as plain;
-ghost use Rattle.dm_read_places.specs.Reads.{Reads, ReadsWhole};
+ghost use Rattle.dm_read_places.specs.Reads.{Reads};
 ghost use Rattle.dm_read_places.specs.Turns.{rows};
 ghost use Rattle.dm_read_arguments.specs.ExprNests.{ExprNests};
 ghost use Rattle.dm_read_blocks.specs.Rows.{braced_arms};
 ghost use Rattle.dm_read_exprs.specs.Rows as spec;
 
-use crate::macros::macro_call;
 use crate::operators::Operators;
-use dm_ast::Path;
 use dm_input::join::joined;
 use dm_nodes::block::ArmNodes;
-use dm_nodes::expr::{ExprNode, ExprNodes};
-use dm_nodes::make_expr::{
-    bool_of, build_of, built, call_of, match_of, opaque_call, paren_of, path_expr, str_of,
-    tuple_of, unsafe_of,
-};
-use dm_output::PathExpr;
+use dm_nodes::expr::ExprNode;
+use dm_nodes::make_expr::{bool_of, match_of};
 use dm_read_arguments::sort::Wanted;
+use dm_read_bases::bases::Bases;
 use dm_read_blocks::blocks::Blocks;
-use dm_read_formats::opaque::kept;
-use dm_read_leaves::qualified::{plain_path, qualified};
-use dm_read_places::expect::is_str;
-use dm_read_places::front::{Keyword, Sign};
-use dm_read_places::path::path;
+use dm_read_places::front::Keyword;
 use dm_read_places::place::Place;
-use dm_stream::{Delim, Error, Literal};
-use std::alloc::{AllocError, Global};
-
-/// A string.
-fn text<'a>(found: &Literal<'a>, place: &Place<'_, 'a>) -> Result<ExprNode<'a>, Error>
-    ensures { ReadsWhole expr_view spec.text found.now result }
-{
-    if !is_str(found.kind) {
-        return Err(place.refused());
-    }
-    let found = found.clone_in(place.alloc())?;
-    Ok(str_of(place.alloc(), found)?)
-}
-
-/// One part without a comma is in parentheses, others are a tuple. A comma behind the last of some is refused.
-#[tactic(auto, using(crate::proofs::TupleSteps::tuple_steps))]
-fn tuple_or_paren<'a>(
-    parts: ExprNodes<'a>,
-    last: bool,
-    place: &Place<'_, 'a>,
-) -> Result<ExprNode<'a>, Error>
-    ensures { ReadsWhole expr_view (spec.tuple_only last) (exprs_of (map expr_view parts.entry)) result }
-{
-    if parts.is_empty() {
-        return Ok(tuple_of(place.alloc(), parts)?);
-    }
-    if last {
-        return Err(place.refused());
-    }
-    if parts.len() != 1 {
-        return Ok(tuple_of(place.alloc(), parts)?);
-    }
-    let mut parts = parts;
-    match parts.pop(place.alloc()) {
-        Ok(Some(only)) => Ok(paren_of(place.alloc(), only)?),
-        Ok(None) => unreachable!(),
-        Err(AllocError) => Err(Error::NoMemory),
-    }
-}
-
-/// A path with arguments behind it. A comma behind the last of them says that it is built, and not called.
-fn called<'a>(
-    alloc: Global,
-    path: PathExpr<'a>,
-    args: (ExprNodes<'a>, bool),
-) -> Result<ExprNode<'a>, AllocError>
-    ensures { IfOk result (λ e. expr_view e ≡ plain.called (maybe_self_view path.entry.qself) (path_view path.entry.path) (exprs_of (map expr_view args.entry.0)) args.entry.1) }
-{
-    let (parts, is_built) = args;
-    if is_built {
-        Ok(build_of(alloc, path, parts)?)
-    } else {
-        Ok(call_of(alloc, path, parts)?)
-    }
-}
+use dm_stream::{Delim, Error};
 
 impl<F: Copy + for<'t, 'b> Fn(&mut Place<'t, 'b>, Wanted) -> Result<ExprNode<'b>, Error>> Operators<
     F,
 > {
-    /// A path, or braces with fields behind it.
-    fn braced<'a>(
-        &self,
-        path: PathExpr<'a>,
-        place: &mut Place<'_, 'a>,
-    ) -> Result<ExprNode<'a>, Error>
-        requires { ExprNests self.now.parts.room (F.pre self.now.parts.expr) (F.post self.now.parts.expr) }
-        ensures { Reads expr_view (λ ts. spec.braced_path self.now.parts.fuel (maybe_self_view path.entry.qself) (path_view path.entry.path) ts (next ts)) place.old result place.new }
-    {
-        if let Some(mut inside) = place.group(Delim::Brace) {
-            let (path, fields) = joined(path, self.parts.fields(&mut inside))?;
-            return Ok(built(place.alloc(), path, fields)?);
-        }
-        Ok(path_expr(place.alloc(), path)?)
-    }
-
-    /// A path, or what it is called with.
-    fn behind_path<'a>(
-        &self,
-        braces: bool,
-        path: PathExpr<'a>,
-        place: &mut Place<'_, 'a>,
-    ) -> Result<ExprNode<'a>, Error>
-        requires { ExprNests self.now.parts.room (F.pre self.now.parts.expr) (F.post self.now.parts.expr) }
-        ensures { Reads expr_view (λ ts. spec.behind_path self.now.parts.fuel braces (maybe_self_view path.entry.qself) (path_view path.entry.path) ts (next ts)) place.old result place.new }
-    {
-        if let Some(mut inside) = place.group(Delim::Paren) {
-            let (path, args) = joined(path, self.parts.arguments(&mut inside))?;
-            return Ok(called(place.alloc(), path, args)?);
-        }
-        if braces {
-            return self.braced(path, place);
-        }
-        Ok(path_expr(place.alloc(), path)?)
-    }
-
-    /// The call of the macro with this path, behind `!`.
-    fn macro_behind<'a>(
-        &self,
-        path: &Path<'a>,
-        place: &mut Place<'_, 'a>,
-    ) -> Result<ExprNode<'a>, Error>
-        requires { ExprNests self.now.parts.room (F.pre self.now.parts.expr) (F.post self.now.parts.expr) }
-        ensures { Reads expr_view (λ ts. plain.macro_from (rows self.now.parts.fuel) (path_view path.now) (next ts)) place.old result place.new }
-    {
-        let Some(mut inside) = place.group(Delim::Paren) else {
-            return Err(place.refused());
-        };
-        macro_call(path, self.parts.fuel, &mut inside)
-    }
-
-    /// What begins with this path.
-    fn with_path<'a>(
-        &self,
-        braces: bool,
-        path: Path<'a>,
-        place: &mut Place<'_, 'a>,
-    ) -> Result<ExprNode<'a>, Error>
-        requires { ExprNests self.now.parts.room (F.pre self.now.parts.expr) (F.post self.now.parts.expr) }
-        ensures { Reads expr_view (spec.with_path self.now.parts.fuel braces (path_view path.entry)) place.old result place.new }
-    {
-        if place.take(Sign::Bangs) {
-            return self.macro_behind(&path, place);
-        }
-        self.behind_path(braces, plain_path(path), place)
-    }
-
-    /// What begins with a path.
-    fn path_base<'a>(&self, braces: bool, place: &mut Place<'_, 'a>) -> Result<ExprNode<'a>, Error>
-        requires { ExprNests self.now.parts.room (F.pre self.now.parts.expr) (F.post self.now.parts.expr) }
-        ensures { Reads expr_view (λ ts. plain.path_base (rows self.now.parts.fuel) braces (next ts)) place.old result place.new }
-    {
-        let found = path(self.parts.fuel, place)?;
-        self.with_path(braces, found, place)
-    }
-
-    /// What begins with a qualified path.
-    fn qualified_base<'a>(
-        &self,
-        braces: bool,
-        place: &mut Place<'_, 'a>,
-    ) -> Result<ExprNode<'a>, Error>
-        requires { ExprNests self.now.parts.room (F.pre self.now.parts.expr) (F.post self.now.parts.expr) }
-        ensures { Reads expr_view (plain.qualified_base (rows self.now.parts.fuel) braces) place.old result place.new }
-    {
-        let found = qualified(place)?;
-        self.behind_path(braces, found, place)
-    }
-
-    /// A group that isn't read, called with one argument.
-    fn opaque_called<'a>(
-        &self,
-        inside: &Place<'_, 'a>,
-        second: &mut Place<'_, 'a>,
-    ) -> Result<ExprNode<'a>, Error>
-        requires { ExprNests self.now.parts.room (F.pre self.now.parts.expr) (F.post self.now.parts.expr) }
-        ensures { ReadsWhole expr_view (spec.opaque_called self.now.parts.fuel inside.now) second.old result }
-    {
-        if inside.at_end() {
-            return Err(inside.refused());
-        }
-        let tokens = kept(inside)?;
-        let (tokens, value) = joined(tokens, self.parts.alone(second))?;
-        Ok(opaque_call(second.alloc(), tokens, value)?)
-    }
-
-    /// The inside of a group: an expression in parentheses, or a tuple.
-    fn parts<'a>(&self, inside: &mut Place<'_, 'a>) -> Result<ExprNode<'a>, Error>
-        requires { ExprNests self.now.parts.room (F.pre self.now.parts.expr) (F.post self.now.parts.expr) }
-        ensures { ReadsWhole expr_view (spec.parts self.now.parts.fuel) inside.old result }
-    {
-        let (found, last) = self.parts.arguments(inside)?;
-        tuple_or_paren(found, last, inside)
-    }
-
-    /// A group, and perhaps a second one.
-    fn grouped<'a>(
-        &self,
-        inside: &mut Place<'_, 'a>,
-        place: &mut Place<'_, 'a>,
-    ) -> Result<ExprNode<'a>, Error>
-        requires { ExprNests self.now.parts.room (F.pre self.now.parts.expr) (F.post self.now.parts.expr) }
-        ensures { Reads expr_view (λ ts. plain.group_from (rows self.now.parts.fuel) inside.old ts (next ts)) place.old result place.new }
-    {
-        if let Some(mut second) = place.group(Delim::Paren) {
-            return self.opaque_called(inside, &mut second);
-        }
-        self.parts(inside)
-    }
-
-    /// What stands behind `unsafe`.
-    fn unsafe_block<'a>(&self, place: &mut Place<'_, 'a>) -> Result<ExprNode<'a>, Error>
-        requires { ExprNests self.now.parts.room (F.pre self.now.parts.expr) (F.post self.now.parts.expr) }
-        ensures { Reads expr_view (λ ts. plain.unsafe_of (rows self.now.parts.fuel) (next ts)) place.old result place.new }
-    {
-        let Some(mut inside) = place.group(Delim::Brace) else {
-            return Err(place.refused());
-        };
-        let value = self.parts.alone(&mut inside)?;
-        Ok(unsafe_of(place.alloc(), value)?)
-    }
-
     /// Arms in braces.
     fn braced_arms<'a>(&self, place: &mut Place<'_, 'a>) -> Result<ArmNodes<'a>, Error>
         requires { ExprNests self.now.parts.room (F.pre self.now.parts.expr) (F.post self.now.parts.expr) }
@@ -252,20 +46,6 @@ impl<F: Copy + for<'t, 'b> Fn(&mut Place<'t, 'b>, Wanted) -> Result<ExprNode<'b>
         Ok(match_of(place.alloc(), value, arms)?)
     }
 
-    /// A string, or what begins with a path.
-    fn leaf<'a>(&self, braces: bool, place: &mut Place<'_, 'a>) -> Result<ExprNode<'a>, Error>
-        requires { ExprNests self.now.parts.room (F.pre self.now.parts.expr) (F.post self.now.parts.expr) }
-        ensures { Reads expr_view (λ ts. spec.leaf self.now.parts.fuel braces ts (next ts)) place.old result place.new }
-    {
-        if let Some(found) = place.literal() {
-            return text(found, place);
-        }
-        if place.sees(Sign::Less) {
-            return self.qualified_base(braces, place);
-        }
-        self.path_base(braces, place)
-    }
-
     /// An expression that no operator stands in or behind.
     pub(crate) fn base<'a>(
         &self,
@@ -275,6 +55,7 @@ impl<F: Copy + for<'t, 'b> Fn(&mut Place<'t, 'b>, Wanted) -> Result<ExprNode<'b>
         requires { ExprNests self.now.parts.room (F.pre self.now.parts.expr) (F.post self.now.parts.expr) }
         ensures { Reads expr_view (λ ts. plain.read_base (rows self.now.parts.fuel) braces ts (next ts)) place.old result place.new }
     {
+        let bases = Bases { parts: self.parts };
         if place.take_keyword(Keyword::True) {
             return Ok(bool_of(place.alloc(), true)?);
         }
@@ -282,14 +63,14 @@ impl<F: Copy + for<'t, 'b> Fn(&mut Place<'t, 'b>, Wanted) -> Result<ExprNode<'b>
             return Ok(bool_of(place.alloc(), false)?);
         }
         if place.take_keyword(Keyword::Unsafe) {
-            return self.unsafe_block(place);
+            return bases.unsafe_block(place);
         }
         if place.take_keyword(Keyword::Match) {
             return self.matched(place);
         }
         if let Some(mut inside) = place.group(Delim::Paren) {
-            return self.grouped(&mut inside, place);
+            return bases.grouped(&mut inside, place);
         }
-        self.leaf(braces, place)
+        bases.leaf(braces, place)
     }
 }

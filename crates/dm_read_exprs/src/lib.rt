@@ -3,7 +3,6 @@
 
 mod base;
 mod chain;
-mod macros;
 pub mod nested;
 mod operators;
 mod prefix;

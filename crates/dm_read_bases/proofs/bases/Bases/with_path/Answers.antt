@@ -5,8 +5,8 @@ use Rattle.dm_read_places.specs.declared.front.Sign.TheVariants as sign
 use Rattle.dm_read_places.specs.Fronts.{is_sign, sign_next}
 use Rattle.dm_read_places.specs.Reads.{Takes}
 use Rattle.dm_read_leaves.specs.Leaves.{path_expr_view}
-use Rattle.dm_read_exprs.proofs.BaseSteps.{path_reads}
-use Rattle.dm_read_exprs.proofs.operators.Operators.with_path.Goals as goal
+use Rattle.dm_read_bases.proofs.BaseSteps.{path_reads}
+use Rattle.dm_read_bases.proofs.bases.Bases.with_path.Goals as goal
 
 pub returns : goal.returns
 returns g c =

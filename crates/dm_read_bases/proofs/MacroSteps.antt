@@ -12,7 +12,7 @@ use Rattle.dm_output.specs.Output.{ExprTree, write_expr, FmtTree}
 use Rattle.dm_reread.specs.Next.{Next, a_name, next}
 use Rattle.dm_reread.specs.Reading.{then, provided, comma_after, read_fmt, is_macro_path, write_from, macro_of}
 use Rattle.dm_read_places.specs.Turns.{rows, declared_at, segment_name}
-use Rattle.dm_read_exprs.specs.Macros.{segment_is, fmt_behind_comma, named_write, format_args_from}
+use Rattle.dm_read_bases.specs.Macros.{segment_is, fmt_behind_comma, named_write, format_args_from}
 
 -- ---- the names of macros
 

@@ -4,9 +4,9 @@ use Rattle.std.specs.Option.{option_to_list}
 use Rattle.std.proofs.lemmas.Bool.Decides.{nat_tests}
 use Rattle.dm_output.specs.Output.{exprs_of}
 use Rattle.dm_output.specs.Views.{expr_view}
-use Rattle.dm_read_exprs.specs.Rows.{tuple_only}
-use Rattle.dm_read_exprs.proofs.TupleSteps.{one_part}
-use Rattle.dm_read_exprs.proofs.base.tuple_or_paren.Goals as goal
+use Rattle.dm_read_bases.specs.Rows.{tuple_only}
+use Rattle.dm_read_bases.proofs.TupleSteps.{one_part}
+use Rattle.dm_read_bases.proofs.bases.tuple_or_paren.Goals as goal
 
 pub returns-in-Ok-Some : goal.returns-in-Ok-Some
 returns-in-Ok-Some c =

@@ -7,7 +7,7 @@ ghost use Rattle.dm_output.specs.Views.{expr_view, fmt_view};
 ghost use Rattle.dm_reread.specs.Reading as plain;
 ghost use Rattle.dm_read_places.specs.Reads.{ReadsWhole};
 ghost use Rattle.dm_read_places.specs.Turns.{rows};
-ghost use Rattle.dm_read_exprs.specs.Macros.{segment_is, fmt_behind_comma, named_write, format_args_from};
+ghost use Rattle.dm_read_bases.specs.Macros.{segment_is, fmt_behind_comma, named_write, format_args_from};
 
 use dm_ast::{Path, PathSegment};
 use dm_input::join::joined;

@@ -1,7 +1,7 @@
 -- What stands behind a qualified path.
 use Rattle.dm_read_leaves.specs.Leaves.{path_expr_view}
-use Rattle.dm_read_exprs.proofs.BaseSteps.{qualified_reads}
-use Rattle.dm_read_exprs.proofs.operators.Operators.qualified_base.Goals as goal
+use Rattle.dm_read_bases.proofs.BaseSteps.{qualified_reads}
+use Rattle.dm_read_bases.proofs.bases.Bases.qualified_base.Goals as goal
 
 pub returns : goal.returns
 returns g c =

@@ -6,7 +6,7 @@ use Rattle.dm_output.specs.declared.expr.Expr.{Expr}
 use Rattle.dm_output.specs.Output.{paren, tuple, exprs_of}
 use Rattle.dm_output.specs.Views.{expr_view}
 use Rattle.dm_read_paths.proofs.Bindings.{alone_is}
-use Rattle.dm_read_exprs.specs.Rows.{tuple_only}
+use Rattle.dm_read_bases.specs.Rows.{tuple_only}
 
 pub no_parts : (l : List Expr) (b : Bool) → l ≡ [] → tuple_only b (exprs_of (map expr_view l)) ≡ Some (tuple (exprs_of (map expr_view l)))
 no_parts [] true e = refl

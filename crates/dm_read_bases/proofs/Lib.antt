@@ -1,0 +1,3 @@
+pub mod TupleSteps
+pub mod BaseSteps
+pub mod MacroSteps
