@@ -700,11 +700,10 @@ module _ {w : Where} (l : Lower inner w) where
       refl
   followed_alone (implements (trait_bound false maybe ls p)) ts x k =
       let b : BoundTree = implements (trait_bound false maybe ls p) in
-      bound_as b
-      (spelled_alone (bound (unplaced_bound b)) inner (spell.bound_trees nowhere (unplaced_bound b))
+      spelled_alone (bound (unplaced_bound b)) inner (spell.bound_trees nowhere (unplaced_bound b))
       (respells_then (respells_flag maybe (unseen_sees 63) (respells_punct 63 (plain 63 refl) l))
       (respells_then (respells_for l ls) (path_again p)))
-      ts x (calm_listed no_trees stop_end x.others k))
+      ts x (calm_listed no_trees stop_end x.others k)
 
   -- by what stands behind it
   first_alone : (b : BoundTree) (bs : List BoundTree) (u : Bool) (ts mid others : Trees) (m k : Marks) → bound b w ts mid m →

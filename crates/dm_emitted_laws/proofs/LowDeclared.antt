@@ -23,7 +23,6 @@ use Rattle.dm_reread.specs.HeadLeaves.{is_some_params, listed, clause_of, trait_
 use Rattle.dm_reread.proofs.TypeLeafEnds.{stop_end}
 use Rattle.dm_reread.proofs.HeadLeaf.{first_within}
 use Rattle.dm_reread.proofs.TypeLeafCalls.{Calm, calm_word, uncalled_path}
-use Rattle.dm_head_laws.specs.Parts as parts
 use Rattle.dm_head_laws.specs.Parts.{inner, Each}
 use Rattle.dm_head_laws.proofs.DeclaredParts.{From, first_from, rest_from, given_from, each_item, each_map}
 use Rattle.dm_level_laws.proofs.BareLevels.{head_same}

@@ -18,7 +18,6 @@ use Rattle.dm_ast.specs.TypeTokens as spell
 use Rattle.dm_ast.specs.TypeTokens.{type_trees}
 use Rattle.dm_ast.specs.DeclarationGrammar.{no_params, generics, where_clause}
 use Rattle.dm_ast.specs.Readers.{Parser, tail, entry_span}
-use Rattle.dm_ast.specs.Runs.{run}
 use Rattle.dm_output.specs.Tokens.{param_trees, predicate_trees, params_trees, where_trees, trait_trees}
 use Rattle.dm_same.specs.SameTypes.{all_same, same_entry}
 use Rattle.dm_read.specs.DeclarationReaders as decl

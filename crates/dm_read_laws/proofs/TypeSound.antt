@@ -1,5 +1,5 @@
 -- The type that is read where it has the tokens that were passed is one of the grammar.
-use Rattle.std.proofs.Common.{◌≡◌, false, ◌∷◌, Some, ap, ◌∙◌, subst}
+use Rattle.std.proofs.Common.{◌≡◌, false, Some, ap, ◌∙◌, subst}
 use Rattle.dm_stream.specs.Trees.{Trees}
 use Rattle.dm_ast.specs.Tree.{TypeTree}
 use Rattle.dm_ast.specs.TypeGrammar.{type_spelled}
