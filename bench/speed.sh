@@ -1,12 +1,13 @@
 #!/usr/bin/env bash
 # Times the program on texts of growing size, and `dm_reprint` on what the program writes, one process each, and prints bytes, seconds and
 # the ratio to the size before.
-# It asserts nothing, and the gate doesn't run it. Needs `rt` and python3.
+# It asserts nothing, and the gate doesn't run it. It times the programs that the gate left in this checkout; where there is none it proves
+# and builds them first, which takes about as long as the gate. Needs `rt` and python3.
 set -eu
 cd "$(dirname "$0")/.."
-(cd crates/dm_prog && rt run < stdin > /dev/null)
-(cd crates/dm_reprint && rt run < stdin > /dev/null)
 program=crates/dm_prog/out/dm_prog reprint=crates/dm_reprint/out/dm_reprint
+[ -x "$program" ] || (cd crates/dm_prog && rt run < stdin > /dev/null)
+[ -x "$reprint" ] || (cd crates/dm_reprint && rt run < stdin > /dev/null)
 work=$(mktemp -d)
 trap 'rm -rf "$work"' EXIT
 
