@@ -111,10 +111,11 @@ pub fn behind_pair<'a>(text: &'a str, first: char, second: char) -> Option<&'a s
         (λ rest. (spec.begins_pair first second (chars text.now) ≡ true) × IsBehind text.now 2 2 rest.now) }
 {
     let (c, after) = first_char(text)?;
-    let (d, beyond) = first_char(after)?;
-    if c == first && d == second {
-        Some(beyond)
-    } else {
-        None
+    if c == first {
+        let (d, beyond) = first_char(after)?;
+        if d == second {
+            return Some(beyond);
+        }
     }
+    None
 }

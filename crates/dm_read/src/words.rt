@@ -40,7 +40,7 @@ pub fn name<'t, 'a>(level: usize, c: Cursor<'t, 'a>) -> Found<'t, 'a, &'t Ident<
     ident_where(Fitting::Name, level, c)
 }
 
-// The shortest keywords have two letters, and the longest eight.
+// The shortest keywords have two letters, and the longest eight. None begins with `__`, as most names of emitted code do.
 #[tactic(auto, unfolding(dm_ast::specs::Keywords::is_keyword), using(crate::proofs::KeywordSizes::size_steps))]
 fn is_keyword(name: &str) -> bool
     ensures { result ≡ spells.is_keyword name.now }
@@ -49,6 +49,9 @@ fn is_keyword(name: &str) -> bool
         return false;
     }
     if name.len() > 8 {
+        return false;
+    }
+    if name.starts_with("__") {
         return false;
     }
     is_listed(name, &KEYWORDS)

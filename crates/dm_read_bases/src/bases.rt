@@ -207,7 +207,7 @@ impl<F: Copy + for<'t, 'b> Fn(&mut Place<'t, 'b>, Wanted) -> Result<ExprNode<'b>
         tuple_or_paren(found, last, inside)
     }
 
-    /// A group, and perhaps a second one.
+    /// A group, and perhaps a second one. Refused where an expression inside is, or at the first token that doesn't fit.
     pub fn grouped<'a>(
         &self,
         inside: &mut Place<'_, 'a>,
@@ -222,7 +222,7 @@ impl<F: Copy + for<'t, 'b> Fn(&mut Place<'t, 'b>, Wanted) -> Result<ExprNode<'b>
         self.parts(inside)
     }
 
-    /// What stands behind `unsafe`.
+    /// What stands behind `unsafe`: a block of one expression. Refused where an expression inside is, or at the first token that doesn't fit.
     pub fn unsafe_block<'a>(&self, place: &mut Place<'_, 'a>) -> Result<ExprNode<'a>, Error>
         requires { ExprNests self.now.parts.room (F.pre self.now.parts.expr) (F.post self.now.parts.expr) }
         ensures { Reads expr_view (λ ts. plain.unsafe_of (rows self.now.parts.fuel) (next ts)) place.old result place.new }
@@ -234,7 +234,7 @@ impl<F: Copy + for<'t, 'b> Fn(&mut Place<'t, 'b>, Wanted) -> Result<ExprNode<'b>
         Ok(unsafe_of(place.alloc(), value)?)
     }
 
-    /// A string, or what begins with a path.
+    /// A string, or what begins with a path. Refused where an expression inside is, or at the first token that doesn't fit.
     pub fn leaf<'a>(&self, braces: bool, place: &mut Place<'_, 'a>) -> Result<ExprNode<'a>, Error>
         requires { ExprNests self.now.parts.room (F.pre self.now.parts.expr) (F.post self.now.parts.expr) }
         ensures { Reads expr_view (λ ts. spec.leaf self.now.parts.fuel braces ts (next ts)) place.old result place.new }
