@@ -43,7 +43,7 @@ fn derive_known<'a>(alloc: Global, derived: Trait, decl: &'a str) -> Result<Expa
     ensures answers { (name : List ℕ) → Names name (trait_view derived) → IfOk result (λ x. Answers name decl.now x.text) }
 {
     match read(alloc, decl) {
-        Ok(input) => expanded(alloc, derived, input.as_input()),
+        Ok(input) => expanded(alloc, derived, input.as_tree()),
         Err(error) => Err(error),
     }
 }

@@ -6,7 +6,7 @@ ghost use Rattle.dm_stream.specs.Layout.{layout};
 ghost use Rattle.dm_output.specs.Tokens.{printed, item_trees};
 ghost use Rattle.dm_output.specs.Views.{item_view};
 
-use dm_layout::Layout;
+use dm_layout::{Layout, Printed};
 use dm_nodes::item::ItemNodes;
 use dm_output::Item;
 use dm_print::item::item;
@@ -26,18 +26,18 @@ pub fn print_items(alloc: Global, items: &[Item<'_>]) -> Result<String, AllocErr
 {
     let mut out = Layout::new(alloc);
     for one in items {
-        line(one, alloc, &mut out)?;
+        line(one, &mut out)?;
     }
     Ok(out.into_string())
 }
 
 /// Adds an item and the end of its line, at the start of a line.
-fn line(one: &Item<'_>, alloc: Global, out: &mut Layout) -> Result<(), AllocError>
+fn line(one: &Item<'_>, out: &mut Layout) -> Printed
     requires { out.now.glued ≡ true }
     ensures fresh { OnOk result (out.new.glued ≡ true) }
     ensures text { OnOk result (out.new.text ≡ out.old.text ++ (layout (item_trees (item_view one.now)) ++ 10 ∷ [])) }
 {
-    item(one, alloc, out)?;
+    item(one, out)?;
     out.line_end()
 }
 

@@ -1,4 +1,4 @@
-//! Parts put together, in lists and in front of others; and let go.
+//! Parts put together, in lists and in front of others, and let go; trees in boxes and in lists that hide how they are dropped.
 #![tactic(auto)]
 
 mod list;
@@ -7,4 +7,4 @@ mod node;
 mod tests;
 
 pub use list::Gathers;
-pub use node::{discard, fronted};
+pub use node::{Made, Node, Nodes, discard, fronted};

@@ -1,6 +1,6 @@
 //! Each call once.
 
-use crate::{Gathers, discard, fronted};
+use crate::{Gathers, Node, Nodes, discard, fronted};
 use dm_stream::Seq;
 use std::alloc::{AllocError, Global};
 
@@ -31,5 +31,36 @@ fn puts_in_front(rt: HostRuntime) -> Result<(), AllocError> {
 #[test]
 fn lets_go(rt: HostRuntime) -> Result<(), AllocError> {
     discard(gathered(rt.alloc(), &[3])?);
+    Ok(())
+}
+
+#[test]
+fn holds_a_tree(rt: HostRuntime) -> Result<(), AllocError> {
+    let node = Node::new(rt.alloc(), 3)?;
+    assert!(rt; *node.as_tree() == 3);
+    assert!(rt; node.into_tree() == 3);
+    let held = Node::new(rt.alloc(), 5)?;
+    assert!(rt; *held.into_box() == 5);
+    Ok(())
+}
+
+#[test]
+fn holds_trees(rt: HostRuntime) -> Result<(), AllocError> {
+    let alloc = rt.alloc();
+    let mut others: Nodes<u8> = Gathers::none(alloc);
+    assert!(rt; others.is_empty());
+    others.gather(Node::new(alloc, 3)?)?;
+    let mut all = Nodes::fronted(alloc, Node::new(alloc, 1)?, others)?;
+    assert!(rt; all.len() == 2);
+    assert!(rt; all.as_slice() == [1, 3].as_slice());
+    assert!(rt; all.pop(alloc)?.is_some());
+    assert!(rt; all.into_trees().as_slice() == [1].as_slice());
+    Ok(())
+}
+
+#[test]
+fn hides_trees(rt: HostRuntime) -> Result<(), AllocError> {
+    let hidden = Nodes::new(gathered(rt.alloc(), &[3, 5])?);
+    assert!(rt; hidden.len() == 2);
     Ok(())
 }

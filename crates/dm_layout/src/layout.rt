@@ -14,6 +14,9 @@ use dm_stream::{Delim, Entry, Ident, Lifetime, Literal, Piece, Spacing, Token, T
 use std::alloc::{AllocError, Global};
 use std::marker::Model;
 
+/// What adding to a text answers: an error where there was no memory.
+pub type Printed = Result<(), AllocError>;
+
 /// A text that tokens are added to, with a space between two of them where the layout has one.
 ///
 /// A call that has no memory may have added a part of what it was to add. Nothing is promised of the text then.
@@ -41,6 +44,11 @@ impl Layout {
             text: String::new(alloc),
             glued: true,
         }
+    }
+
+    /// The allocator that the text was made with.
+    pub fn allocator(&self) -> Global {
+        *self.text.allocator()
     }
 
     /// Adds a token as it is spelled.

@@ -3,4 +3,4 @@
 
 mod layout;
 
-pub use layout::{Layout, print, print_piece};
+pub use layout::{Layout, Printed, print, print_piece};

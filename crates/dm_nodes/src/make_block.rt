@@ -10,17 +10,14 @@ ghost use Rattle.dm_nodes.specs.Boxes.{last_view, IsBoxed};
 use crate::block::{ArmNode, BlockNode, BodyNode, StmtNode, StmtNodes};
 use crate::expr::{ExprNode, FieldNode};
 use dm_ast::{Opaque, Path, Ty};
+use dm_gather::Made;
 use dm_output::{Arm, ArmBody, Block, Expr, NamedExpr, Stmt};
 use dm_pattern_nodes::node::PatternNodes;
 use dm_stream::{Ident, Literal};
-use std::alloc::{AllocError, Global};
+use std::alloc::Global;
 
 /// `x: a`
-pub fn named_expr<'a>(
-    alloc: Global,
-    name: Ident<'a>,
-    value: ExprNode<'a>,
-) -> Result<FieldNode<'a>, AllocError>
+pub fn named_expr<'a>(alloc: Global, name: Ident<'a>, value: ExprNode<'a>) -> Made<FieldNode<'a>>
     ensures { IfOk result (λ f. named_expr_view f ≡ (name.entry, expr_view value.entry)) }
 {
     let value = value.into_tree();
@@ -42,7 +39,7 @@ pub fn arm_of<'a>(
     alloc: Global,
     patterns: PatternNodes<'a>,
     behind: (Option<ExprNode<'a>>, BodyNode<'a>),
-) -> Result<ArmNode<'a>, AllocError>
+) -> Made<ArmNode<'a>>
     ensures { IfOk result (λ a. arm_view a ≡ record { patterns = tree.patterns_of (map pattern_view patterns.entry); guard = tree.maybe_expr (option_map expr_view behind.entry.0); body = body_view behind.entry.1 }) }
 {
     let (guard, body) = behind;
@@ -57,14 +54,14 @@ pub fn arm_of<'a>(
 }
 
 /// A block behind `=>`.
-pub fn block_body<'a>(alloc: Global, block: BlockNode<'a>) -> Result<BodyNode<'a>, AllocError>
+pub fn block_body<'a>(alloc: Global, block: BlockNode<'a>) -> Made<BodyNode<'a>>
     ensures { IfOk result (λ b. body_view b ≡ tree.block_body (block_view block.entry)) }
 {
     Ok(BodyNode::new(alloc, ArmBody::Block(block.into_tree()))?)
 }
 
 /// An expression behind `=>`.
-pub fn expr_body<'a>(alloc: Global, value: ExprNode<'a>) -> Result<BodyNode<'a>, AllocError>
+pub fn expr_body<'a>(alloc: Global, value: ExprNode<'a>) -> Made<BodyNode<'a>>
     ensures { IfOk result (λ b. body_view b ≡ tree.expr_body (expr_view value.entry)) }
 {
     Ok(BodyNode::new(alloc, ArmBody::Expr(value.into_tree()))?)
@@ -82,43 +79,44 @@ fn boxed_last<'a>(last: Option<ExprNode<'a>>) -> Option<Box<Expr<'a>>>
 
 /// A block.
 #[tactic(auto, using(crate::proofs::BoxSteps::box_steps))]
-pub fn block_of<'a>(stmts: StmtNodes<'a>, last: Option<ExprNode<'a>>) -> BlockNode<'a>
-    ensures { block_view result ≡ tree.block (tree.stmts_of (map stmt_view stmts.entry)) (last_view last.entry) }
+pub fn block_of<'a>(
+    alloc: Global,
+    stmts: StmtNodes<'a>,
+    last: Option<ExprNode<'a>>,
+) -> Made<BlockNode<'a>>
+    ensures { IfOk result (λ b. block_view b ≡ tree.block (tree.stmts_of (map stmt_view stmts.entry)) (last_view last.entry)) }
 {
     let last = boxed_last(last);
-    BlockNode::new(Block {
+    let tree = Block {
         stmts: stmts.into_trees(),
         last,
-    })
+    };
+    Ok(BlockNode::new(alloc, tree)?)
 }
 
 /// `let x = a;`
-pub fn let_of<'a>(
-    alloc: Global,
-    name: Ident<'a>,
-    value: ExprNode<'a>,
-) -> Result<StmtNode<'a>, AllocError>
+pub fn let_of<'a>(alloc: Global, name: Ident<'a>, value: ExprNode<'a>) -> Made<StmtNode<'a>>
     ensures { IfOk result (λ s. stmt_view s ≡ tree.let_stmt name.entry (expr_view value.entry)) }
 {
     Ok(StmtNode::new(alloc, Stmt::Let(name, value.into_tree()))?)
 }
 
 /// `let _: T;`
-pub fn check_of<'a>(alloc: Global, ty: Ty<'a>) -> Result<StmtNode<'a>, AllocError>
+pub fn check_of<'a>(alloc: Global, ty: Ty<'a>) -> Made<StmtNode<'a>>
     ensures { IfOk result (λ s. stmt_view s ≡ tree.check_stmt (ty_view ty.entry)) }
 {
     Ok(StmtNode::new(alloc, Stmt::Check(ty))?)
 }
 
 /// `use p as _;`
-pub fn import_of<'a>(alloc: Global, path: Path<'a>) -> Result<StmtNode<'a>, AllocError>
+pub fn import_of<'a>(alloc: Global, path: Path<'a>) -> Made<StmtNode<'a>>
     ensures { IfOk result (λ s. stmt_view s ≡ tree.import_stmt (path_view path.entry)) }
 {
     Ok(StmtNode::new(alloc, Stmt::Import(path))?)
 }
 
 /// `a;`
-pub fn do_of<'a>(alloc: Global, value: ExprNode<'a>) -> Result<StmtNode<'a>, AllocError>
+pub fn do_of<'a>(alloc: Global, value: ExprNode<'a>) -> Made<StmtNode<'a>>
     ensures { IfOk result (λ s. stmt_view s ≡ tree.do_stmt (expr_view value.entry)) }
 {
     Ok(StmtNode::new(alloc, Stmt::Expr(value.into_tree()))?)
@@ -129,7 +127,7 @@ pub fn const_of<'a>(
     alloc: Global,
     name: Ident<'a>,
     behind: (Ty<'a>, (Option<Opaque<'a>>, Literal<'a>)),
-) -> Result<StmtNode<'a>, AllocError>
+) -> Made<StmtNode<'a>>
     ensures { IfOk result (λ s. stmt_view s ≡ tree.const_stmt name.entry (ty_view behind.entry.0) (option_map opaque_view behind.entry.1.0) behind.entry.1.1) }
 {
     let (ty, (base, number)) = behind;

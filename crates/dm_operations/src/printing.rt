@@ -15,7 +15,7 @@ ghost use Rattle.dm_operators.specs.Table.{form_view, operator_view};
 ghost use Rattle.dm_operations.specs.Items as items;
 
 use dm_ast::DeriveInput;
-use dm_layout::Layout;
+use dm_layout::{Layout, Printed};
 use dm_operands::cases::CaseRef;
 use dm_operator_heads::{implemented_trait, output_type, params, predicates, returned_type};
 use dm_operator_prints::body;
@@ -26,7 +26,7 @@ use dm_stream::Delim;
 use std::alloc::{AllocError, Global};
 
 /// Adds the attributes of an operator with a right side, and `impl`.
-fn binary_start(out: &mut Layout) -> Result<(), AllocError>
+fn binary_start(out: &mut Layout) -> Printed
     ensures { OnOk result (out.new ≡ lay out.old (items.start_trees ops.structural)) }
 {
     fixed(out, "# [allow (private_bounds)]")?;
@@ -34,7 +34,7 @@ fn binary_start(out: &mut Layout) -> Result<(), AllocError>
 }
 
 /// Adds the attributes of an operator of one value, and `impl`.
-fn unary_start(out: &mut Layout) -> Result<(), AllocError>
+fn unary_start(out: &mut Layout) -> Printed
     ensures { OnOk result (out.new ≡ lay out.old (items.start_trees ops.unary)) }
 {
     fixed(out, "# [allow (deprecated)]")?;
@@ -43,7 +43,7 @@ fn unary_start(out: &mut Layout) -> Result<(), AllocError>
 }
 
 /// Adds the attributes of the implementation, and `impl`.
-fn item_start(form: Form, out: &mut Layout) -> Result<(), AllocError>
+fn item_start(form: Form, out: &mut Layout) -> Printed
     ensures { OnOk result (out.new ≡ lay out.old (items.start_trees (form_view form))) }
 {
     match form {
@@ -58,21 +58,20 @@ fn item_head<'x, 'a>(
     input: &'x DeriveInput<'a>,
     cases: &[CaseRef<'x, 'a>],
     implemented: &Implemented,
-    alloc: Global,
     out: &mut Layout,
-) -> Result<(), AllocError>
+) -> Printed
     ensures { OnOk result (out.new ≡ lay out.old (tokens.head_trees (items.item_with (form_view implemented.now.form) (operator_view implemented.now.operator) (declaration_view input.now) (map case_view cases.now) [] []))) }
 {
     item_start(implemented.form, out)?;
-    params(input, implemented, alloc, out)?;
+    params(input, implemented, out)?;
     implemented_trait(implemented, out)?;
     word(out, "for")?;
-    declared_type(input, alloc, out)?;
-    predicates(input, cases, implemented, alloc, out)
+    declared_type(input, out)?;
+    predicates(input, cases, implemented, out)
 }
 
 /// Adds the attributes of the method, and `fn`.
-fn method_start(form: Form, out: &mut Layout) -> Result<(), AllocError>
+fn method_start(form: Form, out: &mut Layout) -> Printed
     ensures { OnOk result (out.new ≡ lay out.old (items.method_start_trees (form_view form))) }
 {
     match form {
@@ -83,7 +82,7 @@ fn method_start(form: Form, out: &mut Layout) -> Result<(), AllocError>
 }
 
 /// Adds `&mut self`, or `self`.
-fn receiver(operator: &Operator, out: &mut Layout) -> Result<(), AllocError>
+fn receiver(operator: &Operator, out: &mut Layout) -> Printed
     ensures { OnOk result (out.new ≡ lay out.old (tokens.receiver_trees (heads.receiver_of (operator_view operator.now)))) }
 {
     if operator.assigning {
@@ -93,7 +92,7 @@ fn receiver(operator: &Operator, out: &mut Layout) -> Result<(), AllocError>
 }
 
 /// Adds a comma and the right side, where there is one.
-fn right_side(form: Form, out: &mut Layout) -> Result<(), AllocError>
+fn right_side(form: Form, out: &mut Layout) -> Printed
     ensures { OnOk result (out.new ≡ lay out.old (items.more_input (heads.method_param (form_view form)))) }
 {
     match form {
@@ -104,7 +103,7 @@ fn right_side(form: Form, out: &mut Layout) -> Result<(), AllocError>
 }
 
 /// Adds the operands in parentheses.
-fn operands(implemented: &Implemented, out: &mut Layout) -> Result<(), AllocError>
+fn operands(implemented: &Implemented, out: &mut Layout) -> Printed
     ensures { OnOk result (out.new ≡ lay out.old (tokens.enclosed Paren (tokens.inputs_trees (Some (heads.receiver_of (operator_view implemented.now.operator))) (heads.method_param (form_view implemented.now.form))))) }
 {
     open(out, Delim::Paren)?;
@@ -114,48 +113,37 @@ fn operands(implemented: &Implemented, out: &mut Layout) -> Result<(), AllocErro
 }
 
 /// Adds `->` and what the method returns, where it doesn't assign.
-fn output<'a>(
-    input: &DeriveInput<'a>,
-    implemented: &Implemented,
-    alloc: Global,
-    out: &mut Layout,
-) -> Result<(), AllocError>
+fn output<'a>(input: &DeriveInput<'a>, implemented: &Implemented, out: &mut Layout) -> Printed
     ensures { OnOk result (out.new ≡ lay out.old (tokens.output_trees (heads.method_output (form_view implemented.now.form) (operator_view implemented.now.operator) (declaration_view input.now)))) }
 {
     if implemented.operator.assigning {
         return Ok(());
     }
     joint(out, '-', '>')?;
-    returned_type(input, implemented.form, alloc, out)
+    returned_type(input, implemented.form, out)
 }
 
 /// Adds what stands in front of the method's body.
-fn method_head<'a>(
-    input: &DeriveInput<'a>,
-    implemented: &Implemented,
-    alloc: Global,
-    out: &mut Layout,
-) -> Result<(), AllocError>
+fn method_head<'a>(input: &DeriveInput<'a>, implemented: &Implemented, out: &mut Layout) -> Printed
     ensures { OnOk result (out.new ≡ lay out.old (tokens.signature_trees (spec.method_with (form_view implemented.now.form) (operator_view implemented.now.operator) (declaration_view input.now) (last_expr no_expr)))) }
 {
     method_start(implemented.form, out)?;
     word(out, implemented.operator.method)?;
     operands(implemented, out)?;
-    output(input, implemented, alloc, out)
+    output(input, implemented, out)
 }
 
 fn method<'a>(
     input: &DeriveInput<'a>,
     cases: &[CaseRef<'_, 'a>],
     implemented: &Implemented,
-    alloc: Global,
     out: &mut Layout,
-) -> Result<(), AllocError>
+) -> Printed
     ensures { OnOk result (out.new ≡ lay out.old (tokens.method_trees (spec.method_in (form_view implemented.now.form) (operator_view implemented.now.operator) (declaration_view input.now) (map case_view cases.now)))) }
 {
-    method_head(input, implemented, alloc, out)?;
+    method_head(input, implemented, out)?;
     open(out, Delim::Brace)?;
-    body(input, cases, implemented, alloc, out)?;
+    body(input, cases, implemented, out)?;
     close(out, Delim::Brace)
 }
 
@@ -163,15 +151,14 @@ fn item<'x, 'a>(
     input: &'x DeriveInput<'a>,
     cases: &[CaseRef<'x, 'a>],
     implemented: &Implemented,
-    alloc: Global,
     out: &mut Layout,
-) -> Result<(), AllocError>
+) -> Printed
     ensures { OnOk result (out.new ≡ lay out.old (tokens.item_trees (items.item_for (form_view implemented.now.form) (operator_view implemented.now.operator) (declaration_view input.now) (map case_view cases.now)))) }
 {
-    item_head(input, cases, implemented, alloc, out)?;
+    item_head(input, cases, implemented, out)?;
     open(out, Delim::Brace)?;
-    output_type(input, implemented, alloc, out)?;
-    method(input, cases, implemented, alloc, out)?;
+    output_type(input, implemented, out)?;
+    method(input, cases, implemented, out)?;
     close(out, Delim::Brace)
 }
 
@@ -185,7 +172,7 @@ pub(crate) fn printed_item<'x, 'a>(
     ensures { IfOk result (λ s. string_bytes s ≡ tokens.printed (items.item_for (form_view implemented.now.form) (operator_view implemented.now.operator) (declaration_view input.now) (map case_view cases.now) ∷ [])) }
 {
     let mut out = Layout::new(alloc);
-    item(input, cases, implemented, alloc, &mut out)?;
+    item(input, cases, implemented, &mut out)?;
     out.line_end()?;
     Ok(out.into_string())
 }

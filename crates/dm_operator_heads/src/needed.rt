@@ -14,7 +14,7 @@ ghost use Rattle.dm_operators.specs.Table.{form_view, operator_view};
 use crate::heads::asked_trait;
 use dm_ast::{DeriveInput, Ty};
 use dm_bounds::Sought;
-use dm_layout::Layout;
+use dm_layout::{Layout, Printed};
 use dm_operands::cases::{CaseRef, FieldRef};
 use dm_operands::places::add;
 use dm_operators::operator::{Form, Implemented};
@@ -39,8 +39,8 @@ impl Asks for Operated {
         }
     }
 
-    fn print_path(&self, ty: &Ty<'_>, alloc: Global, out: &mut Layout) -> Result<(), AllocError> {
-        asked_trait(ty, &self.implemented, alloc, out)
+    fn print_path(&self, ty: &Ty<'_>, out: &mut Layout) -> Printed {
+        asked_trait(ty, &self.implemented, out)
     }
 }
 
@@ -109,15 +109,14 @@ pub fn predicates<'x, 'a>(
     input: &'x DeriveInput<'a>,
     cases: &[CaseRef<'x, 'a>],
     implemented: &Implemented,
-    alloc: Global,
     out: &mut Layout,
-) -> Result<(), AllocError>
+) -> Printed
     ensures { OnOk result (out.new ≡ lay out.old (tokens.where_trees (predicates_of (declaration_view input.now) ++
         spec.needed_in (form_view implemented.now.form) (operator_view implemented.now.operator) (declaration_view input.now) (map case_view cases.now)))) }
 {
-    let all = all_predicates(input, cases, implemented, alloc)?;
+    let all = all_predicates(input, cases, implemented, out.allocator())?;
     let operated = Operated {
         implemented: *implemented,
     };
-    clause(all.as_slice(), &operated, alloc, out)
+    clause(all.as_slice(), &operated, out)
 }

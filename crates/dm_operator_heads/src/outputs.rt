@@ -13,13 +13,12 @@ ghost use Rattle.dm_operators.specs.Table.{form_view, operator_view};
 ghost use Rattle.dm_operator_heads.specs.Outputs as parts;
 
 use dm_ast::{Data, DeriveInput, Variant};
-use dm_layout::Layout;
+use dm_layout::{Layout, Printed};
 use dm_operands::cases::is_enum;
 use dm_operators::operator::{Form, Implemented};
 use dm_operators::places::is_unit;
 use dm_print_types::token::{fixed, punct};
 use dm_sides::heads::declared_type;
-use std::alloc::{AllocError, Global};
 
 fn some_unit(variants: &[Variant<'_>]) -> bool
     ensures { result ≡ meaning.some_unit (map values.case_of_variant (map variant_view variants.now)) }
@@ -44,26 +43,26 @@ fn has_unit(input: &DeriveInput<'_>) -> bool
 }
 
 /// Adds the `Result` that the operator of one value gives where it may fail.
-fn unary_result(input: &DeriveInput<'_>, alloc: Global, out: &mut Layout) -> Result<(), AllocError>
+fn unary_result(input: &DeriveInput<'_>, out: &mut Layout) -> Printed
     ensures { OnOk result (out.new ≡ lay out.old (type_trees (parts.unary_result (declaration_view input.now)))) }
 {
     fixed(out, "derive_more :: core :: result :: Result <")?;
-    declared_type(input, alloc, out)?;
+    declared_type(input, out)?;
     fixed(out, ", derive_more :: UnitError >")
 }
 
 /// Adds what the operator of one value gives.
-fn unary_output(input: &DeriveInput<'_>, alloc: Global, out: &mut Layout) -> Result<(), AllocError>
+fn unary_output(input: &DeriveInput<'_>, out: &mut Layout) -> Printed
     ensures { OnOk result (out.new ≡ lay out.old (type_trees (spec.unary_output (declaration_view input.now)))) }
 {
     if has_unit(input) {
-        return unary_result(input, alloc, out);
+        return unary_result(input, out);
     }
-    declared_type(input, alloc, out)
+    declared_type(input, out)
 }
 
 /// Adds `type Output = ..;` for two values that may be of different variants.
-fn result_named(out: &mut Layout) -> Result<(), AllocError>
+fn result_named(out: &mut Layout) -> Printed
     ensures { OnOk result (out.new ≡ lay out.old (tokens.in_turn (map tokens.assoc_trees (parts.named (spec.binary_output true) ∷ [])))) }
 {
     fixed(out, "type Output = derive_more :: core :: result")?;
@@ -71,7 +70,7 @@ fn result_named(out: &mut Layout) -> Result<(), AllocError>
 }
 
 /// Adds `type Output = ..;` for the operator of two values, which may fail for those of an enum.
-fn binary_named(is_enum: bool, out: &mut Layout) -> Result<(), AllocError>
+fn binary_named(is_enum: bool, out: &mut Layout) -> Printed
     ensures { OnOk result (out.new ≡ lay out.old (tokens.in_turn (map tokens.assoc_trees (parts.named (spec.binary_output is_enum) ∷ [])))) }
 {
     if is_enum {
@@ -81,21 +80,16 @@ fn binary_named(is_enum: bool, out: &mut Layout) -> Result<(), AllocError>
 }
 
 /// Adds `type Output = ..;` for the operator of one value.
-fn unary_named(input: &DeriveInput<'_>, alloc: Global, out: &mut Layout) -> Result<(), AllocError>
+fn unary_named(input: &DeriveInput<'_>, out: &mut Layout) -> Printed
     ensures { OnOk result (out.new ≡ lay out.old (tokens.in_turn (map tokens.assoc_trees (parts.named (spec.unary_output (declaration_view input.now)) ∷ [])))) }
 {
     fixed(out, "type Output =")?;
-    unary_output(input, alloc, out)?;
+    unary_output(input, out)?;
     punct(out, ';')
 }
 
 /// Adds `type Output = ..;`, which assigning traits do not have.
-pub fn output_type(
-    input: &DeriveInput<'_>,
-    implemented: &Implemented,
-    alloc: Global,
-    out: &mut Layout,
-) -> Result<(), AllocError>
+pub fn output_type(input: &DeriveInput<'_>, implemented: &Implemented, out: &mut Layout) -> Printed
     ensures { OnOk result (out.new ≡ lay out.old (tokens.in_turn (map tokens.assoc_trees (spec.assocs (form_view implemented.now.form) (operator_view implemented.now.operator) (declaration_view input.now))))) }
 {
     if implemented.operator.assigning {
@@ -104,22 +98,17 @@ pub fn output_type(
     match implemented.form {
         Form::Structural => binary_named(is_enum(input), out),
         Form::Scalar => binary_named(false, out),
-        Form::Unary => unary_named(input, alloc, out),
+        Form::Unary => unary_named(input, out),
     }
 }
 
 /// Adds the type that a method which doesn't assign returns: that of one value writes it out.
-pub fn returned_type(
-    input: &DeriveInput<'_>,
-    form: Form,
-    alloc: Global,
-    out: &mut Layout,
-) -> Result<(), AllocError>
+pub fn returned_type(input: &DeriveInput<'_>, form: Form, out: &mut Layout) -> Printed
     ensures { OnOk result (out.new ≡ lay out.old (type_trees (spec.returned (form_view form) (declaration_view input.now)))) }
 {
     match form {
         Form::Structural => fixed(out, "Self :: Output"),
         Form::Scalar => fixed(out, "Self :: Output"),
-        Form::Unary => unary_output(input, alloc, out),
+        Form::Unary => unary_output(input, out),
     }
 }

@@ -16,7 +16,7 @@ use crate::calls::{binary_unit, mismatch};
 use crate::constructor::value_fields;
 use crate::parts::{Part, binary_call};
 use dm_ast::DeriveInput;
-use dm_layout::Layout;
+use dm_layout::{Layout, Printed};
 use dm_operands::cases::{self, CaseRef, FieldRef, is_enum};
 use dm_operands::places::add;
 use dm_operands::sides::Operand;
@@ -58,35 +58,24 @@ fn whole_case<'x, 'a>(case: &CaseRef<'x, 'a>, alloc: Global) -> Result<CaseRef<'
 }
 
 /// Adds the patterns of self and the right side.
-fn both_sides(
-    input: &DeriveInput<'_>,
-    case: &CaseRef<'_, '_>,
-    alloc: Global,
-    out: &mut Layout,
-) -> Result<(), AllocError>
+fn both_sides(input: &DeriveInput<'_>, case: &CaseRef<'_, '_>, out: &mut Layout) -> Printed
     ensures { OnOk result (out.new ≡ lay out.old (tokens.pattern_trees (spec.sides ops.structural (declaration_view input.now) (case_view case.now)))) }
 {
     open(out, Delim::Paren)?;
-    side(input, case, Operand::Mine, alloc, out)?;
+    side(input, case, Operand::Mine, out)?;
     punct(out, ',')?;
-    side(input, case, Operand::Right, alloc, out)?;
+    side(input, case, Operand::Right, out)?;
     close(out, Delim::Paren)
 }
 
 /// Adds the patterns of self and the right side, or of self alone.
-fn sides(
-    input: &DeriveInput<'_>,
-    case: &CaseRef<'_, '_>,
-    form: Form,
-    alloc: Global,
-    out: &mut Layout,
-) -> Result<(), AllocError>
+fn sides(input: &DeriveInput<'_>, case: &CaseRef<'_, '_>, form: Form, out: &mut Layout) -> Printed
     ensures { OnOk result (out.new ≡ lay out.old (tokens.pattern_trees (spec.sides (form_view form) (declaration_view input.now) (case_view case.now)))) }
 {
     match form {
-        Form::Structural => both_sides(input, case, alloc, out),
-        Form::Scalar => side(input, case, Operand::Mine, alloc, out),
-        Form::Unary => side(input, case, Operand::Mine, alloc, out),
+        Form::Structural => both_sides(input, case, out),
+        Form::Scalar => side(input, case, Operand::Mine, out),
+        Form::Unary => side(input, case, Operand::Mine, out),
     }
 }
 
@@ -95,16 +84,15 @@ fn binary_pattern(
     input: &DeriveInput<'_>,
     case: &CaseRef<'_, '_>,
     implemented: &Implemented,
-    alloc: Global,
     out: &mut Layout,
-) -> Result<(), AllocError>
+) -> Printed
     ensures { OnOk result (out.new ≡ lay out.old (tokens.pattern_trees (spec.binary_pattern (form_view implemented.now.form) (operator_view implemented.now.operator) (declaration_view input.now) (case_view case.now)))) }
 {
     if implemented.operator.assigning {
-        return sides(input, case, implemented.form, alloc, out);
+        return sides(input, case, implemented.form, out);
     }
-    let whole = whole_case(case, alloc)?;
-    sides(input, &whole, implemented.form, alloc, out)
+    let whole = whole_case(case, out.allocator())?;
+    sides(input, &whole, implemented.form, out)
 }
 
 /// Adds the value of the case with the operation in its kept fields.
@@ -113,13 +101,12 @@ fn value_given(
     case: &CaseRef<'_, '_>,
     operator: &Operator,
     form: Form,
-    alloc: Global,
     out: &mut Layout,
-) -> Result<(), AllocError>
+) -> Printed
     ensures { OnOk result (out.new ≡ lay out.old (tokens.expr_trees (spec.value_given (form_view form) (operator_view operator.now) (declaration_view input.now) (case_view case.now)))) }
 {
     case_path(input, case.ident, out)?;
-    value_fields(case, operator, Part::Binary(form), alloc, out)
+    value_fields(case, operator, Part::Binary(form), out)
 }
 
 pub(crate) fn is_unit_form(form: cases::Form) -> bool
@@ -138,17 +125,16 @@ fn value_in_ok(
     case: &CaseRef<'_, '_>,
     operator: &Operator,
     wanted: bool,
-    alloc: Global,
     out: &mut Layout,
-) -> Result<(), AllocError>
+) -> Printed
     ensures { OnOk result (out.new ≡ lay out.old (tokens.expr_trees (spec.in_ok wanted (spec.value_given ops.structural (operator_view operator.now) (declaration_view input.now) (case_view case.now))))) }
 {
     if wanted {
         fixed(out, "derive_more :: core :: result :: Result :: Ok (")?;
-        value_given(input, case, operator, Form::Structural, alloc, out)?;
+        value_given(input, case, operator, Form::Structural, out)?;
         return close(out, Delim::Paren);
     }
-    value_given(input, case, operator, Form::Structural, alloc, out)
+    value_given(input, case, operator, Form::Structural, out)
 }
 
 /// Adds what two values give, where an enum gives a `Result`.
@@ -156,62 +142,49 @@ fn structural_answer(
     input: &DeriveInput<'_>,
     case: &CaseRef<'_, '_>,
     operator: &Operator,
-    alloc: Global,
     out: &mut Layout,
-) -> Result<(), AllocError>
+) -> Printed
     ensures { OnOk result (out.new ≡ lay out.old (tokens.expr_trees (spec.answer_given ops.structural (operator_view operator.now) (declaration_view input.now) (case_view case.now)))) }
 {
     if is_unit_form(case.form) {
-        return binary_unit(operator, alloc, out);
+        return binary_unit(operator, out);
     }
-    value_in_ok(input, case, operator, is_enum(input), alloc, out)
+    value_in_ok(input, case, operator, is_enum(input), out)
 }
 
 fn answer_given(
     input: &DeriveInput<'_>,
     case: &CaseRef<'_, '_>,
     implemented: &Implemented,
-    alloc: Global,
     out: &mut Layout,
-) -> Result<(), AllocError>
+) -> Printed
     ensures { OnOk result (out.new ≡ lay out.old (tokens.expr_trees (spec.answer_given (form_view implemented.now.form) (operator_view implemented.now.operator) (declaration_view input.now) (case_view case.now)))) }
 {
     let operator = &implemented.operator;
     match implemented.form {
-        Form::Structural => structural_answer(input, case, operator, alloc, out),
-        Form::Scalar => value_given(input, case, operator, Form::Scalar, alloc, out),
-        Form::Unary => value_given(input, case, operator, Form::Unary, alloc, out),
+        Form::Structural => structural_answer(input, case, operator, out),
+        Form::Scalar => value_given(input, case, operator, Form::Scalar, out),
+        Form::Unary => value_given(input, case, operator, Form::Unary, out),
     }
 }
 
 /// Adds the call of a field that is kept, as a statement.
-fn call(
-    implemented: &Implemented,
-    n: usize,
-    left_out: bool,
-    alloc: Global,
-    out: &mut Layout,
-) -> Result<(), AllocError>
+fn call(implemented: &Implemented, n: usize, left_out: bool, out: &mut Layout) -> Printed
     ensures { OnOk result (out.new ≡ lay out.old (given (not left_out) (tokens.stmt_trees (do_stmt (spec.binary_call (form_view implemented.now.form) (operator_view implemented.now.operator) n))))) }
 {
     if left_out {
         return Ok(());
     }
-    binary_call(&implemented.operator, implemented.form, n, alloc, out)?;
+    binary_call(&implemented.operator, implemented.form, n, out)?;
     punct(out, ';')
 }
 
 /// Adds the calls of the kept fields.
-fn calls(
-    fields: &[FieldRef<'_, '_>],
-    implemented: &Implemented,
-    alloc: Global,
-    out: &mut Layout,
-) -> Result<(), AllocError>
+fn calls(fields: &[FieldRef<'_, '_>], implemented: &Implemented, out: &mut Layout) -> Printed
     ensures { OnOk result (out.new ≡ lay out.old (tokens.stmts_trees (stmts_of (spec.assigning_calls (form_view implemented.now.form) (operator_view implemented.now.operator) 0 (map field_ref_view fields.now))))) }
 {
     for (n, field) in fields.iter().enumerate() {
-        call(implemented, n, field.left_out, alloc, out)?;
+        call(implemented, n, field.left_out, out)?;
     }
     Ok(())
 }
@@ -221,49 +194,47 @@ fn binary_given(
     input: &DeriveInput<'_>,
     case: &CaseRef<'_, '_>,
     implemented: &Implemented,
-    alloc: Global,
     out: &mut Layout,
-) -> Result<(), AllocError>
+) -> Printed
     ensures { OnOk result (out.new ≡ lay out.old (tokens.body_trees (spec.binary_given (form_view implemented.now.form) (operator_view implemented.now.operator) (declaration_view input.now) (case_view case.now)))) }
 {
     if implemented.operator.assigning {
         open(out, Delim::Brace)?;
-        calls(case.fields.as_slice(), implemented, alloc, out)?;
+        calls(case.fields.as_slice(), implemented, out)?;
         return close(out, Delim::Brace);
     }
-    answer_given(input, case, implemented, alloc, out)
+    answer_given(input, case, implemented, out)
 }
 
 fn binary_arm(
     input: &DeriveInput<'_>,
     case: &CaseRef<'_, '_>,
     implemented: &Implemented,
-    alloc: Global,
     out: &mut Layout,
-) -> Result<(), AllocError>
+) -> Printed
     ensures { OnOk result (out.new ≡ lay out.old (tokens.arm_trees (spec.binary_arm (form_view implemented.now.form) (operator_view implemented.now.operator) (declaration_view input.now) (case_view case.now)))) }
 {
-    binary_pattern(input, case, implemented, alloc, out)?;
+    binary_pattern(input, case, implemented, out)?;
     joint(out, '=', '>')?;
-    binary_given(input, case, implemented, alloc, out)?;
+    binary_given(input, case, implemented, out)?;
     punct(out, ',')
 }
 
 /// Adds the body for two values of different variants: an error, or nothing is assigned.
-fn different_body(operator: &Operator, alloc: Global, out: &mut Layout) -> Result<(), AllocError>
+fn different_body(operator: &Operator, out: &mut Layout) -> Printed
     ensures { OnOk result (out.new ≡ lay out.old (tokens.body_trees (spec.different_body (operator_view operator.now)))) }
 {
     if operator.assigning {
         return fixed(out, "{ }");
     }
-    mismatch(operator, alloc, out)
+    mismatch(operator, out)
 }
 
-fn different(operator: &Operator, alloc: Global, out: &mut Layout) -> Result<(), AllocError>
+fn different(operator: &Operator, out: &mut Layout) -> Printed
     ensures { OnOk result (out.new ≡ lay out.old (tokens.arm_trees (spec.different (operator_view operator.now)))) }
 {
     fixed(out, "_ =>")?;
-    different_body(operator, alloc, out)?;
+    different_body(operator, out)?;
     punct(out, ',')
 }
 
@@ -279,16 +250,11 @@ fn has_rest(cases: &[CaseRef<'_, '_>], form: Form) -> bool
 }
 
 /// Adds their arm, where there are some.
-fn rest(
-    cases: &[CaseRef<'_, '_>],
-    implemented: &Implemented,
-    alloc: Global,
-    out: &mut Layout,
-) -> Result<(), AllocError>
+fn rest(cases: &[CaseRef<'_, '_>], implemented: &Implemented, out: &mut Layout) -> Printed
     ensures { OnOk result (out.new ≡ lay out.old (tokens.arms_trees (arms_of (spec.rest (form_view implemented.now.form) (operator_view implemented.now.operator) (map case_view cases.now))))) }
 {
     if has_rest(cases, implemented.form) {
-        return different(&implemented.operator, alloc, out);
+        return different(&implemented.operator, out);
     }
     Ok(())
 }
@@ -298,15 +264,14 @@ pub(crate) fn binary_arms(
     input: &DeriveInput<'_>,
     cases: &[CaseRef<'_, '_>],
     implemented: &Implemented,
-    alloc: Global,
     out: &mut Layout,
-) -> Result<(), AllocError>
+) -> Printed
     ensures { OnOk result (out.new ≡ lay out.old (tokens.arms_trees (arms_of (
         map (spec.binary_arm (form_view implemented.now.form) (operator_view implemented.now.operator) (declaration_view input.now)) (map case_view cases.now) ++
         spec.rest (form_view implemented.now.form) (operator_view implemented.now.operator) (map case_view cases.now))))) }
 {
     for case in cases {
-        binary_arm(input, case, implemented, alloc, out)?;
+        binary_arm(input, case, implemented, out)?;
     }
-    rest(cases, implemented, alloc, out)
+    rest(cases, implemented, out)
 }

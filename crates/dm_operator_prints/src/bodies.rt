@@ -13,15 +13,14 @@ ghost use Rattle.dm_operators.specs.Table.{form_view, operator_view};
 use crate::arms::binary_arms;
 use crate::unary::{own_value, some_unit_form, unary_arms};
 use dm_ast::DeriveInput;
-use dm_layout::Layout;
+use dm_layout::{Layout, Printed};
 use dm_operands::cases::{CaseRef, is_enum};
 use dm_operators::operator::{Form, Implemented, Operator};
 use dm_print_types::token::{close, fixed, open, word};
 use dm_stream::Delim;
-use std::alloc::{AllocError, Global};
 
 /// Adds what is matched.
-fn subject(form: Form, out: &mut Layout) -> Result<(), AllocError>
+fn subject(form: Form, out: &mut Layout) -> Printed
     ensures { OnOk result (out.new ≡ lay out.old (tokens.expr_trees (spec.subject (form_view form)))) }
 {
     match form {
@@ -35,9 +34,8 @@ fn binary_body(
     input: &DeriveInput<'_>,
     cases: &[CaseRef<'_, '_>],
     implemented: &Implemented,
-    alloc: Global,
     out: &mut Layout,
-) -> Result<(), AllocError>
+) -> Printed
     ensures { OnOk result (out.new ≡ lay out.old (tokens.expr_trees (spec.binary_body (form_view implemented.now.form) (operator_view implemented.now.operator) (declaration_view input.now) (map case_view cases.now)))) }
 {
     if cases.is_empty() {
@@ -46,7 +44,7 @@ fn binary_body(
     word(out, "match")?;
     subject(implemented.form, out)?;
     open(out, Delim::Brace)?;
-    binary_arms(input, cases, implemented, alloc, out)?;
+    binary_arms(input, cases, implemented, out)?;
     close(out, Delim::Brace)
 }
 
@@ -55,13 +53,12 @@ fn unary_enum(
     input: &DeriveInput<'_>,
     cases: &[CaseRef<'_, '_>],
     operator: &Operator,
-    alloc: Global,
     out: &mut Layout,
-) -> Result<(), AllocError>
+) -> Printed
     ensures { OnOk result (out.new ≡ lay out.old (tokens.expr_trees (spec.unary_enum (operator_view operator.now) (declaration_view input.now) (map case_view cases.now)))) }
 {
     fixed(out, "match self {")?;
-    unary_arms(input, cases, operator, some_unit_form(cases), alloc, out)?;
+    unary_arms(input, cases, operator, some_unit_form(cases), out)?;
     close(out, Delim::Brace)
 }
 
@@ -70,14 +67,13 @@ fn unary_struct(
     input: &DeriveInput<'_>,
     cases: &[CaseRef<'_, '_>],
     operator: &Operator,
-    alloc: Global,
     out: &mut Layout,
-) -> Result<(), AllocError>
+) -> Printed
     ensures { OnOk result (out.new ≡ lay out.old (tokens.expr_trees (spec.unary_struct (operator_view operator.now) (declaration_view input.now) (map case_view cases.now)))) }
 {
     match cases {
         [] => fixed(out, "match self { }"),
-        [case, ..] => own_value(input, case, operator, alloc, out),
+        [case, ..] => own_value(input, case, operator, out),
     }
 }
 
@@ -85,15 +81,14 @@ fn unary_body(
     input: &DeriveInput<'_>,
     cases: &[CaseRef<'_, '_>],
     operator: &Operator,
-    alloc: Global,
     out: &mut Layout,
-) -> Result<(), AllocError>
+) -> Printed
     ensures { OnOk result (out.new ≡ lay out.old (tokens.expr_trees (spec.body_expr ops.unary (operator_view operator.now) (declaration_view input.now) (map case_view cases.now)))) }
 {
     if is_enum(input) {
-        return unary_enum(input, cases, operator, alloc, out);
+        return unary_enum(input, cases, operator, out);
     }
-    unary_struct(input, cases, operator, alloc, out)
+    unary_struct(input, cases, operator, out)
 }
 
 /// Adds the body, by what stands right of self.
@@ -101,14 +96,13 @@ pub fn body(
     input: &DeriveInput<'_>,
     cases: &[CaseRef<'_, '_>],
     implemented: &Implemented,
-    alloc: Global,
     out: &mut Layout,
-) -> Result<(), AllocError>
+) -> Printed
     ensures { OnOk result (out.new ≡ lay out.old (tokens.expr_trees (spec.body_expr (form_view implemented.now.form) (operator_view implemented.now.operator) (declaration_view input.now) (map case_view cases.now)))) }
 {
     match implemented.form {
-        Form::Structural => binary_body(input, cases, implemented, alloc, out),
-        Form::Scalar => binary_body(input, cases, implemented, alloc, out),
-        Form::Unary => unary_body(input, cases, &implemented.operator, alloc, out),
+        Form::Structural => binary_body(input, cases, implemented, out),
+        Form::Scalar => binary_body(input, cases, implemented, out),
+        Form::Unary => unary_body(input, cases, &implemented.operator, out),
     }
 }

@@ -16,7 +16,7 @@ ghost use Rattle.dm_operators.specs.Table.{form_view, operator_view};
 ghost use Rattle.dm_operator_prints.specs.Parts.{part_by};
 
 use crate::calls::method_path;
-use dm_layout::Layout;
+use dm_layout::{Layout, Printed};
 use dm_operands::cases::{self, FieldRef};
 use dm_operands::sides::Operand;
 use dm_operators::operator::{Form, Operator};
@@ -36,31 +36,25 @@ pub(crate) enum Part {
     Own(cases::Form),
 }
 
-fn right_operand(form: Form, n: usize, alloc: Global, out: &mut Layout) -> Result<(), AllocError>
+fn right_operand(form: Form, n: usize, out: &mut Layout) -> Printed
     ensures { OnOk result (out.new ≡ lay out.old (tokens.expr_trees (spec.right_operand (form_view form) n))) }
 {
     match form {
-        Form::Structural => numbered(Operand::Right, n, alloc, out),
+        Form::Structural => numbered(Operand::Right, n, out),
         Form::Scalar => word(out, "__rhs"),
         Form::Unary => word(out, "__rhs"),
     }
 }
 
 /// Adds the operation on a field of the left operand.
-pub(crate) fn binary_call(
-    operator: &Operator,
-    form: Form,
-    n: usize,
-    alloc: Global,
-    out: &mut Layout,
-) -> Result<(), AllocError>
+pub(crate) fn binary_call(operator: &Operator, form: Form, n: usize, out: &mut Layout) -> Printed
     ensures { OnOk result (out.new ≡ lay out.old (tokens.expr_trees (spec.binary_call (form_view form) (operator_view operator.now) n))) }
 {
     method_path(operator, out)?;
     open(out, Delim::Paren)?;
-    numbered(Operand::Mine, n, alloc, out)?;
+    numbered(Operand::Mine, n, out)?;
     punct(out, ',')?;
-    right_operand(form, n, alloc, out)?;
+    right_operand(form, n, out)?;
     close(out, Delim::Paren)
 }
 
@@ -69,28 +63,22 @@ fn binary_part(
     form: Form,
     n: usize,
     left_out: bool,
-    alloc: Global,
     out: &mut Layout,
-) -> Result<(), AllocError>
+) -> Printed
     ensures { OnOk result (out.new ≡ lay out.old (tokens.expr_trees (cond left_out (bodies.name (self_name n)) (spec.binary_call (form_view form) (operator_view operator.now) n)))) }
 {
     if left_out {
-        return numbered(Operand::Mine, n, alloc, out);
+        return numbered(Operand::Mine, n, out);
     }
-    binary_call(operator, form, n, alloc, out)
+    binary_call(operator, form, n, out)
 }
 
-fn inner_part(
-    operator: &Operator,
-    n: usize,
-    alloc: Global,
-    out: &mut Layout,
-) -> Result<(), AllocError>
+fn inner_part(operator: &Operator, n: usize, out: &mut Layout) -> Printed
     ensures { OnOk result (out.new ≡ lay out.old (tokens.expr_trees (spec.operation_call (operator_view operator.now) (bodies.name (spec.inner_name n) ∷ [])))) }
 {
     method_path(operator, out)?;
     open(out, Delim::Paren)?;
-    numbered(Operand::Inner, n, alloc, out)?;
+    numbered(Operand::Inner, n, out)?;
     close(out, Delim::Paren)
 }
 
@@ -102,31 +90,25 @@ fn digits(n: usize, alloc: Global) -> Result<String, AllocError>
 }
 
 /// Adds a field's number.
-fn index(n: usize, alloc: Global, out: &mut Layout) -> Result<(), AllocError>
+fn index(n: usize, out: &mut Layout) -> Printed
     ensures { OnOk result (out.new ≡ lay out.old (syntax.literal (record { kind = kinds.Int; text = numeral n; span = nowhere }))) }
 {
     let number = Literal {
         kind: LitKind::Int,
-        text: Text::owned(digits(n, alloc)?),
+        text: Text::owned(digits(n, out.allocator())?),
         span: Span::nowhere(),
     };
     literal(out, &number)
 }
 
 /// Adds what stands behind the dot.
-fn member_of(
-    field: &FieldRef<'_, '_>,
-    form: cases::Form,
-    n: usize,
-    alloc: Global,
-    out: &mut Layout,
-) -> Result<(), AllocError>
+fn member_of(field: &FieldRef<'_, '_>, form: cases::Form, n: usize, out: &mut Layout) -> Printed
     ensures { OnOk result (out.new ≡ lay out.old (tokens.member_trees (spec.member_of form n (field_ref_view field.now)))) }
 {
     match form {
         cases::Form::Named => field_name(&field.field.ident, out),
-        cases::Form::Unnamed => index(n, alloc, out),
-        cases::Form::Unit => index(n, alloc, out),
+        cases::Form::Unnamed => index(n, out),
+        cases::Form::Unit => index(n, out),
     }
 }
 
@@ -135,14 +117,13 @@ fn own_part(
     operator: &Operator,
     form: cases::Form,
     n: usize,
-    alloc: Global,
     out: &mut Layout,
-) -> Result<(), AllocError>
+) -> Printed
     ensures { OnOk result (out.new ≡ lay out.old (tokens.expr_trees (spec.own_part (operator_view operator.now) form n (field_ref_view field.now)))) }
 {
     method_path(operator, out)?;
     fixed(out, "(self .")?;
-    member_of(field, form, n, alloc, out)?;
+    member_of(field, form, n, out)?;
     close(out, Delim::Paren)
 }
 
@@ -152,14 +133,13 @@ pub(crate) fn part_of(
     operator: &Operator,
     part: Part,
     n: usize,
-    alloc: Global,
     out: &mut Layout,
-) -> Result<(), AllocError>
+) -> Printed
     ensures { OnOk result (out.new ≡ lay out.old (tokens.expr_trees (part_by part (operator_view operator.now) n (field_ref_view field.now)))) }
 {
     match part {
-        Part::Binary(form) => binary_part(operator, form, n, field.left_out, alloc, out),
-        Part::Inner => inner_part(operator, n, alloc, out),
-        Part::Own(form) => own_part(field, operator, form, n, alloc, out),
+        Part::Binary(form) => binary_part(operator, form, n, field.left_out, out),
+        Part::Inner => inner_part(operator, n, out),
+        Part::Own(form) => own_part(field, operator, form, n, out),
     }
 }

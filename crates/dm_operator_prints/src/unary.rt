@@ -18,21 +18,16 @@ use crate::calls::unary_unit;
 use crate::constructor::value_fields;
 use crate::parts::Part;
 use dm_ast::DeriveInput;
-use dm_layout::Layout;
+use dm_layout::{Layout, Printed};
 use dm_operands::cases::CaseRef;
 use dm_operands::sides::Operand;
 use dm_operators::operator::Operator;
 use dm_print_types::token::{close, fixed, joint, name, open, punct};
 use dm_sides::pattern::case_fields;
 use dm_stream::{Delim, Ident};
-use std::alloc::{AllocError, Global};
 
 /// Adds `TYPE::V`.
-fn variant_path(
-    input: &DeriveInput<'_>,
-    ident: &Ident<'_>,
-    out: &mut Layout,
-) -> Result<(), AllocError>
+fn variant_path(input: &DeriveInput<'_>, ident: &Ident<'_>, out: &mut Layout) -> Printed
     ensures { OnOk result (out.new ≡ lay out.old (syntax.path_trees nowhere (spec.variant_path (declaration_view input.now) ident.now))) }
 {
     name(out, &input.ident)?;
@@ -57,13 +52,12 @@ fn inner_value(
     input: &DeriveInput<'_>,
     case: &CaseRef<'_, '_>,
     operator: &Operator,
-    alloc: Global,
     out: &mut Layout,
-) -> Result<(), AllocError>
+) -> Printed
     ensures { OnOk result (out.new ≡ lay out.old (tokens.expr_trees (spec.constructor (spec.inner_part (operator_view operator.now)) (spec.variant_path (declaration_view input.now) (case_view case.now).ident) (case_view case.now).form (case_view case.now).fields))) }
 {
     variant_path(input, case.ident, out)?;
-    value_fields(case, operator, Part::Inner, alloc, out)
+    value_fields(case, operator, Part::Inner, out)
 }
 
 /// Adds the value inside `Ok (..)`, where it is wanted.
@@ -72,17 +66,16 @@ fn inner_in_ok(
     case: &CaseRef<'_, '_>,
     operator: &Operator,
     wanted: bool,
-    alloc: Global,
     out: &mut Layout,
-) -> Result<(), AllocError>
+) -> Printed
     ensures { OnOk result (out.new ≡ lay out.old (tokens.expr_trees (spec.in_ok wanted (spec.constructor (spec.inner_part (operator_view operator.now)) (spec.variant_path (declaration_view input.now) (case_view case.now).ident) (case_view case.now).form (case_view case.now).fields)))) }
 {
     if wanted {
         fixed(out, "derive_more :: core :: result :: Result :: Ok (")?;
-        inner_value(input, case, operator, alloc, out)?;
+        inner_value(input, case, operator, out)?;
         return close(out, Delim::Paren);
     }
-    inner_value(input, case, operator, alloc, out)
+    inner_value(input, case, operator, out)
 }
 
 /// Adds the body of an arm: a unit fails, and so the others stand inside `Ok`.
@@ -91,30 +84,24 @@ fn unary_given(
     case: &CaseRef<'_, '_>,
     operator: &Operator,
     fails: bool,
-    alloc: Global,
     out: &mut Layout,
-) -> Result<(), AllocError>
+) -> Printed
     ensures { OnOk result (out.new ≡ lay out.old (tokens.body_trees (spec.unary_given (operator_view operator.now) (declaration_view input.now) fails (case_view case.now)))) }
 {
     if is_unit_form(case.form) {
-        return unary_unit(operator, alloc, out);
+        return unary_unit(operator, out);
     }
     open(out, Delim::Brace)?;
-    inner_in_ok(input, case, operator, fails, alloc, out)?;
+    inner_in_ok(input, case, operator, fails, out)?;
     close(out, Delim::Brace)
 }
 
-fn unary_pattern(
-    input: &DeriveInput<'_>,
-    case: &CaseRef<'_, '_>,
-    alloc: Global,
-    out: &mut Layout,
-) -> Result<(), AllocError>
+fn unary_pattern(input: &DeriveInput<'_>, case: &CaseRef<'_, '_>, out: &mut Layout) -> Printed
     ensures { OnOk result (out.new ≡ lay out.old (tokens.pattern_trees (
         sides.side_pattern spec.inner_name (spec.variant_path (declaration_view input.now) (case_view case.now).ident) (case_view case.now).form (case_view case.now).fields))) }
 {
     variant_path(input, case.ident, out)?;
-    case_fields(case, Operand::Inner, alloc, out)
+    case_fields(case, Operand::Inner, out)
 }
 
 fn unary_arm(
@@ -122,14 +109,13 @@ fn unary_arm(
     case: &CaseRef<'_, '_>,
     operator: &Operator,
     fails: bool,
-    alloc: Global,
     out: &mut Layout,
-) -> Result<(), AllocError>
+) -> Printed
     ensures { OnOk result (out.new ≡ lay out.old (tokens.arm_trees (spec.unary_arm (operator_view operator.now) (declaration_view input.now) fails (case_view case.now)))) }
 {
-    unary_pattern(input, case, alloc, out)?;
+    unary_pattern(input, case, out)?;
     joint(out, '=', '>')?;
-    unary_given(input, case, operator, fails, alloc, out)?;
+    unary_given(input, case, operator, fails, out)?;
     punct(out, ',')
 }
 
@@ -139,13 +125,12 @@ pub(crate) fn unary_arms(
     cases: &[CaseRef<'_, '_>],
     operator: &Operator,
     fails: bool,
-    alloc: Global,
     out: &mut Layout,
-) -> Result<(), AllocError>
+) -> Printed
     ensures { OnOk result (out.new ≡ lay out.old (tokens.arms_trees (arms_of (map (spec.unary_arm (operator_view operator.now) (declaration_view input.now) fails) (map case_view cases.now))))) }
 {
     for case in cases {
-        unary_arm(input, case, operator, fails, alloc, out)?;
+        unary_arm(input, case, operator, fails, out)?;
     }
     Ok(())
 }
@@ -155,11 +140,10 @@ pub(crate) fn own_value(
     input: &DeriveInput<'_>,
     case: &CaseRef<'_, '_>,
     operator: &Operator,
-    alloc: Global,
     out: &mut Layout,
-) -> Result<(), AllocError>
+) -> Printed
     ensures { OnOk result (out.new ≡ lay out.old (tokens.expr_trees (spec.own_value (operator_view operator.now) (declaration_view input.now) (case_view case.now)))) }
 {
     name(out, &input.ident)?;
-    value_fields(case, operator, Part::Own(case.form), alloc, out)
+    value_fields(case, operator, Part::Own(case.form), out)
 }

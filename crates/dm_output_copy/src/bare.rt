@@ -3,8 +3,9 @@
 use crate::clone_emitted::CloneEmitted;
 use crate::copy_expr::{copy_arm, copy_block, copy_body, copy_expr, copy_stmt};
 use crate::copy_parts::field_of;
+use dm_gather::Made;
 use dm_output::{Arm, ArmBody, Block, Expr, NamedExpr, Stmt};
-use std::alloc::{AllocError, Global};
+use std::alloc::Global;
 
 impl<'a> CloneEmitted for Expr<'a> {
     ghost use Rattle.dm_output.specs.Output.{ExprTree};
@@ -14,7 +15,7 @@ impl<'a> CloneEmitted for Expr<'a> {
 
     ghost shape = { expr_view };
 
-    fn clone_in(&self, alloc: Global) -> Result<Self, AllocError> {
+    fn clone_in(&self, alloc: Global) -> Made<Self> {
         match copy_expr(self, alloc) {
             Ok(node) => Ok(node.into_tree()),
             Err(error) => Err(error),
@@ -31,7 +32,7 @@ impl<'a> CloneEmitted for NamedExpr<'a> {
 
     ghost shape = { named_expr_view };
 
-    fn clone_in(&self, alloc: Global) -> Result<Self, AllocError> {
+    fn clone_in(&self, alloc: Global) -> Made<Self> {
         match field_of(self, alloc, copy_expr(&self.value, alloc)) {
             Ok(node) => Ok(node.into_tree()),
             Err(error) => Err(error),
@@ -47,7 +48,7 @@ impl<'a> CloneEmitted for Block<'a> {
 
     ghost shape = { block_view };
 
-    fn clone_in(&self, alloc: Global) -> Result<Self, AllocError> {
+    fn clone_in(&self, alloc: Global) -> Made<Self> {
         match copy_block(self, alloc) {
             Ok(node) => Ok(node.into_tree()),
             Err(error) => Err(error),
@@ -63,7 +64,7 @@ impl<'a> CloneEmitted for Stmt<'a> {
 
     ghost shape = { stmt_view };
 
-    fn clone_in(&self, alloc: Global) -> Result<Self, AllocError> {
+    fn clone_in(&self, alloc: Global) -> Made<Self> {
         match copy_stmt(self, alloc) {
             Ok(node) => Ok(node.into_tree()),
             Err(error) => Err(error),
@@ -79,7 +80,7 @@ impl<'a> CloneEmitted for Arm<'a> {
 
     ghost shape = { arm_view };
 
-    fn clone_in(&self, alloc: Global) -> Result<Self, AllocError> {
+    fn clone_in(&self, alloc: Global) -> Made<Self> {
         match copy_arm(self, alloc) {
             Ok(node) => Ok(node.into_tree()),
             Err(error) => Err(error),
@@ -95,7 +96,7 @@ impl<'a> CloneEmitted for ArmBody<'a> {
 
     ghost shape = { body_view };
 
-    fn clone_in(&self, alloc: Global) -> Result<Self, AllocError> {
+    fn clone_in(&self, alloc: Global) -> Made<Self> {
         match copy_body(self, alloc) {
             Ok(node) => Ok(node.into_tree()),
             Err(error) => Err(error),

@@ -3,8 +3,9 @@
 ghost use Rattle.std.specs.Prelude.{◌≡◌, IfOk, map, option_map};
 
 use dm_copy::grown;
+use dm_gather::Made;
 use dm_stream::Seq;
-use std::alloc::{AllocError, Global};
+use std::alloc::Global;
 
 /// A tree of the output language that can be copied with an allocator. A copy has the shape of what it was made of: the same tree, memory
 /// aside.
@@ -15,7 +16,7 @@ pub trait CloneEmitted: Sized + Drop {
     ghost shape: { Self → Shape };
 
     /// An equal tree. Borrowed texts stay borrowed. It fails for want of memory alone.
-    fn clone_in(&self, alloc: Global) -> Result<Self, AllocError>
+    fn clone_in(&self, alloc: Global) -> Made<Self>
         ensures { IfOk result (λ r. shape r ≡ shape self.now) };
 }
 
@@ -26,7 +27,7 @@ impl<T: CloneEmitted> CloneEmitted for Seq<T> {
 
     ghost shape = { map T.shape };
 
-    fn clone_in(&self, alloc: Global) -> Result<Self, AllocError> {
+    fn clone_in(&self, alloc: Global) -> Made<Self> {
         let mut found = Seq::new(alloc);
         for item in self.as_slice() {
             found = grown(found, item.clone_in(alloc))?;
@@ -42,7 +43,7 @@ impl<T: CloneEmitted> CloneEmitted for Option<T> {
 
     ghost shape = { option_map T.shape };
 
-    fn clone_in(&self, alloc: Global) -> Result<Self, AllocError> {
+    fn clone_in(&self, alloc: Global) -> Made<Self> {
         match self {
             None => Ok(None),
             Some(item) => Ok(Some(item.clone_in(alloc)?)),

@@ -8,7 +8,7 @@ use crate::copy_parts::{constant, field_of, method_call};
 use crate::copy_pattern::copy_patterns;
 use crate::node::{made, made_of_two, with_part};
 use dm_copy::{CloneIn, both};
-use dm_gather::Gathers;
+use dm_gather::{Gathers, Made};
 use dm_nodes::block::{ArmNode, ArmNodes, BlockNode, BodyNode, StmtNode, StmtNodes};
 use dm_nodes::expr::{ExprNode, ExprNodes, FieldNodes};
 use dm_nodes::make_block::{
@@ -20,10 +20,10 @@ use dm_nodes::make_expr::{
     ref_opaque, return_of, str_of, tuple_of, unequal_of, unsafe_of, write_of,
 };
 use dm_output::{Arm, ArmBody, Block, Expr, NamedExpr, Stmt};
-use std::alloc::{AllocError, Global};
+use std::alloc::Global;
 
 #[cycle(copy_expr)]
-pub(crate) fn copy_expr<'a>(expr: &Expr<'a>, alloc: Global) -> Result<ExprNode<'a>, AllocError>
+pub(crate) fn copy_expr<'a>(expr: &Expr<'a>, alloc: Global) -> Made<ExprNode<'a>>
     ensures { IfOk result (λ r. expr_view r ≡ expr_view expr.now) }
 {
     match expr {
@@ -96,7 +96,7 @@ pub(crate) fn copy_expr<'a>(expr: &Expr<'a>, alloc: Global) -> Result<ExprNode<'
 }
 
 #[cycle(copy_expr)]
-fn copy_exprs<'a>(all: &[Expr<'a>], alloc: Global) -> Result<ExprNodes<'a>, AllocError>
+fn copy_exprs<'a>(all: &[Expr<'a>], alloc: Global) -> Made<ExprNodes<'a>>
     ensures { IfOk result (λ r. map expr_view r ≡ map expr_view all.now) }
 {
     let mut found: ExprNodes<'a> = Gathers::none(alloc);
@@ -107,7 +107,7 @@ fn copy_exprs<'a>(all: &[Expr<'a>], alloc: Global) -> Result<ExprNodes<'a>, Allo
 }
 
 #[cycle(copy_expr)]
-fn copy_fields<'a>(all: &[NamedExpr<'a>], alloc: Global) -> Result<FieldNodes<'a>, AllocError>
+fn copy_fields<'a>(all: &[NamedExpr<'a>], alloc: Global) -> Made<FieldNodes<'a>>
     ensures { IfOk result (λ r. map named_expr_view r ≡ map named_expr_view all.now) }
 {
     let mut found: FieldNodes<'a> = Gathers::none(alloc);
@@ -119,10 +119,7 @@ fn copy_fields<'a>(all: &[NamedExpr<'a>], alloc: Global) -> Result<FieldNodes<'a
 }
 
 #[cycle(copy_expr)]
-fn copy_maybe<'a>(
-    expr: &Option<Expr<'a>>,
-    alloc: Global,
-) -> Result<Option<ExprNode<'a>>, AllocError>
+fn copy_maybe<'a>(expr: &Option<Expr<'a>>, alloc: Global) -> Made<Option<ExprNode<'a>>>
     ensures { IfOk result (λ r. option_map expr_view r ≡ option_map expr_view expr.now) }
 {
     match expr {
@@ -132,18 +129,18 @@ fn copy_maybe<'a>(
 }
 
 #[cycle(copy_expr)]
-pub(crate) fn copy_block<'a>(block: &Block<'a>, alloc: Global) -> Result<BlockNode<'a>, AllocError>
+pub(crate) fn copy_block<'a>(block: &Block<'a>, alloc: Global) -> Made<BlockNode<'a>>
     ensures { IfOk result (λ r. block_view r ≡ block_view block.now) }
 {
     let stmts = copy_stmts(block.stmts.as_slice(), alloc)?;
     match &block.last {
-        None => Ok(block_of(stmts, None)),
-        Some(last) => Ok(block_of(stmts, Some(copy_expr(last, alloc)?))),
+        None => Ok(block_of(alloc, stmts, None)?),
+        Some(last) => Ok(block_of(alloc, stmts, Some(copy_expr(last, alloc)?))?),
     }
 }
 
 #[cycle(copy_expr)]
-fn copy_stmts<'a>(all: &[Stmt<'a>], alloc: Global) -> Result<StmtNodes<'a>, AllocError>
+fn copy_stmts<'a>(all: &[Stmt<'a>], alloc: Global) -> Made<StmtNodes<'a>>
     ensures { IfOk result (λ r. map stmt_view r ≡ map stmt_view all.now) }
 {
     let mut found: StmtNodes<'a> = Gathers::none(alloc);
@@ -154,7 +151,7 @@ fn copy_stmts<'a>(all: &[Stmt<'a>], alloc: Global) -> Result<StmtNodes<'a>, Allo
 }
 
 #[cycle(copy_expr)]
-pub(crate) fn copy_stmt<'a>(stmt: &Stmt<'a>, alloc: Global) -> Result<StmtNode<'a>, AllocError>
+pub(crate) fn copy_stmt<'a>(stmt: &Stmt<'a>, alloc: Global) -> Made<StmtNode<'a>>
     ensures { IfOk result (λ r. stmt_view r ≡ stmt_view stmt.now) }
 {
     match stmt {
@@ -170,7 +167,7 @@ pub(crate) fn copy_stmt<'a>(stmt: &Stmt<'a>, alloc: Global) -> Result<StmtNode<'
 }
 
 #[cycle(copy_expr)]
-fn copy_arms<'a>(all: &[Arm<'a>], alloc: Global) -> Result<ArmNodes<'a>, AllocError>
+fn copy_arms<'a>(all: &[Arm<'a>], alloc: Global) -> Made<ArmNodes<'a>>
     ensures { IfOk result (λ r. map arm_view r ≡ map arm_view all.now) }
 {
     let mut found: ArmNodes<'a> = Gathers::none(alloc);
@@ -181,7 +178,7 @@ fn copy_arms<'a>(all: &[Arm<'a>], alloc: Global) -> Result<ArmNodes<'a>, AllocEr
 }
 
 #[cycle(copy_expr)]
-pub(crate) fn copy_arm<'a>(arm: &Arm<'a>, alloc: Global) -> Result<ArmNode<'a>, AllocError>
+pub(crate) fn copy_arm<'a>(arm: &Arm<'a>, alloc: Global) -> Made<ArmNode<'a>>
     ensures { IfOk result (λ r. arm_view r ≡ arm_view arm.now) }
 {
     let body = copy_body(&arm.body, alloc);
@@ -195,7 +192,7 @@ pub(crate) fn copy_arm<'a>(arm: &Arm<'a>, alloc: Global) -> Result<ArmNode<'a>, 
 }
 
 #[cycle(copy_expr)]
-pub(crate) fn copy_body<'a>(body: &ArmBody<'a>, alloc: Global) -> Result<BodyNode<'a>, AllocError>
+pub(crate) fn copy_body<'a>(body: &ArmBody<'a>, alloc: Global) -> Made<BodyNode<'a>>
     ensures { IfOk result (λ r. body_view r ≡ body_view body.now) }
 {
     match body {

@@ -13,12 +13,12 @@ use crate::node::{made, with_part};
 use dm_ast::{GenericParam, Path, Ty, WherePredicate};
 use dm_copy::{CloneIn, both};
 use dm_expansion::Expansion;
-use dm_gather::Gathers;
+use dm_gather::{Gathers, Made};
 use dm_nodes::block::BlockNode;
 use dm_nodes::item::{ItemNode, ItemNodes, MethodNode, MethodNodes};
 use dm_output::{Assoc, Item, ItemAttr, Method, MethodParam, Receiver};
 use dm_stream::{Ident, Seq};
-use std::alloc::{AllocError, Global};
+use std::alloc::Global;
 
 impl<'a> CloneEmitted for Item<'a> {
     ghost use Rattle.dm_output.specs.Output.{ItemTree};
@@ -27,7 +27,7 @@ impl<'a> CloneEmitted for Item<'a> {
 
     ghost shape = { item_view };
 
-    fn clone_in(&self, alloc: Global) -> Result<Self, AllocError> {
+    fn clone_in(&self, alloc: Global) -> Made<Self> {
         match copy_item(self, alloc) {
             Ok(node) => Ok(node.into_tree()),
             Err(error) => Err(error),
@@ -35,14 +35,14 @@ impl<'a> CloneEmitted for Item<'a> {
     }
 }
 
-fn copy_item<'a>(item: &Item<'a>, alloc: Global) -> Result<ItemNode<'a>, AllocError>
+fn copy_item<'a>(item: &Item<'a>, alloc: Global) -> Made<ItemNode<'a>>
     ensures { IfOk result (λ r. item_view r ≡ item_view item.now) }
 {
     let rest = both(item.ty.clone_in(alloc), copy_body(item, alloc));
     made(alloc, both(copy_head(item, alloc), rest), item_of)
 }
 
-fn copy_items<'a>(all: &[Item<'a>], alloc: Global) -> Result<ItemNodes<'a>, AllocError>
+fn copy_items<'a>(all: &[Item<'a>], alloc: Global) -> Made<ItemNodes<'a>>
     ensures { IfOk result (λ r. map item_view r ≡ map item_view all.now) }
 {
     let mut found: ItemNodes<'a> = Gathers::none(alloc);
@@ -59,10 +59,7 @@ type Head<'a> = (Seq<ItemAttr>, (Seq<GenericParam<'a>>, Option<Path<'a>>));
 type Body<'a> = (Seq<WherePredicate<'a>>, (Seq<Assoc<'a>>, MethodNodes<'a>));
 
 /// An implementation of its parts.
-fn item_of<'a>(
-    alloc: Global,
-    parts: (Head<'a>, (Ty<'a>, Body<'a>)),
-) -> Result<ItemNode<'a>, AllocError>
+fn item_of<'a>(alloc: Global, parts: (Head<'a>, (Ty<'a>, Body<'a>))) -> Made<ItemNode<'a>>
     ensures { IfOk result (λ i. item_view i ≡ item_parts parts.entry) }
 {
     let ((attrs, (params, trait_path)), (ty, (predicates, (assocs, methods)))) = parts;
@@ -79,7 +76,7 @@ fn item_of<'a>(
 }
 
 /// The attributes, the parameters and the trait of a copy.
-fn copy_head<'a>(item: &Item<'a>, alloc: Global) -> Result<Head<'a>, AllocError>
+fn copy_head<'a>(item: &Item<'a>, alloc: Global) -> Made<Head<'a>>
     ensures attrs { IfOk result (λ r. r.0 ≡ item.now.attrs) }
     ensures params { IfOk result (λ r. map param_view r.1.0 ≡ map param_view item.now.params) }
     ensures trait_path { IfOk result (λ r. option_map path_view r.1.1 ≡ option_map path_view item.now.trait_path) }
@@ -89,7 +86,7 @@ fn copy_head<'a>(item: &Item<'a>, alloc: Global) -> Result<Head<'a>, AllocError>
 }
 
 /// The predicates, the associated types and the methods of a copy.
-fn copy_body<'a>(item: &Item<'a>, alloc: Global) -> Result<Body<'a>, AllocError>
+fn copy_body<'a>(item: &Item<'a>, alloc: Global) -> Made<Body<'a>>
     ensures predicates { IfOk result (λ r. map predicate_view r.0 ≡ map predicate_view item.now.predicates) }
     ensures assocs { IfOk result (λ r. map assoc_view r.1.0 ≡ map assoc_view item.now.assocs) }
     ensures methods { IfOk result (λ r. map method_view r.1.1 ≡ map method_view item.now.methods) }
@@ -108,7 +105,7 @@ impl CloneEmitted for ItemAttr {
 
     ghost shape = { λ a. a };
 
-    fn clone_in(&self, _alloc: Global) -> Result<Self, AllocError> {
+    fn clone_in(&self, _alloc: Global) -> Made<Self> {
         Ok(*self)
     }
 }
@@ -120,7 +117,7 @@ impl<'a> CloneEmitted for Assoc<'a> {
 
     ghost shape = { assoc_view };
 
-    fn clone_in(&self, alloc: Global) -> Result<Self, AllocError> {
+    fn clone_in(&self, alloc: Global) -> Made<Self> {
         let (name, ty) = both(self.name.clone_in(alloc), self.ty.clone_in(alloc))?;
         Ok(Assoc { name, ty })
     }
@@ -133,7 +130,7 @@ impl<'a> CloneEmitted for Method<'a> {
 
     ghost shape = { method_view };
 
-    fn clone_in(&self, alloc: Global) -> Result<Self, AllocError> {
+    fn clone_in(&self, alloc: Global) -> Made<Self> {
         match copy_method(self, alloc) {
             Ok(node) => Ok(node.into_tree()),
             Err(error) => Err(error),
@@ -141,7 +138,7 @@ impl<'a> CloneEmitted for Method<'a> {
     }
 }
 
-fn copy_method<'a>(method: &Method<'a>, alloc: Global) -> Result<MethodNode<'a>, AllocError>
+fn copy_method<'a>(method: &Method<'a>, alloc: Global) -> Made<MethodNode<'a>>
     ensures { IfOk result (λ r. method_view r ≡ method_view method.now) }
 {
     let head = both(method.attrs.clone_in(alloc), method.name.clone_in(alloc));
@@ -151,7 +148,7 @@ fn copy_method<'a>(method: &Method<'a>, alloc: Global) -> Result<MethodNode<'a>,
     made(alloc, both(fixed, both(head, rest)), method_of)
 }
 
-fn copy_methods<'a>(all: &[Method<'a>], alloc: Global) -> Result<MethodNodes<'a>, AllocError>
+fn copy_methods<'a>(all: &[Method<'a>], alloc: Global) -> Made<MethodNodes<'a>>
     ensures { IfOk result (λ r. map method_view r ≡ map method_view all.now) }
 {
     let mut found: MethodNodes<'a> = Gathers::none(alloc);
@@ -174,7 +171,7 @@ fn method_of<'a>(
         Fixed,
         ((Seq<ItemAttr>, Ident<'a>), (Signature<'a>, BlockNode<'a>)),
     ),
-) -> Result<MethodNode<'a>, AllocError>
+) -> Made<MethodNode<'a>>
     ensures { IfOk result (λ m. method_view m ≡ method_parts parts.entry) }
 {
     let ((is_const, receiver), ((attrs, name), ((param, output), body))) = parts;
@@ -197,7 +194,7 @@ impl<'a> CloneEmitted for MethodParam<'a> {
 
     ghost shape = { method_param_view };
 
-    fn clone_in(&self, alloc: Global) -> Result<Self, AllocError> {
+    fn clone_in(&self, alloc: Global) -> Made<Self> {
         let (name, ty) = both(self.name.clone_in(alloc), self.ty.clone_in(alloc))?;
         Ok(MethodParam { name, ty })
     }
@@ -211,7 +208,7 @@ impl<'a> CloneEmitted for Expansion<'a> {
 
     ghost shape = { λ x. (map item_view x.items, x.text) };
 
-    fn clone_in(&self, alloc: Global) -> Result<Self, AllocError> {
+    fn clone_in(&self, alloc: Global) -> Made<Self> {
         let items = copy_items(self.items.as_slice(), alloc);
         match both(items, self.text.clone_in(alloc)) {
             Ok((items, text)) => Ok(Expansion {

@@ -8,8 +8,9 @@ ghost use Rattle.dm_output.specs.Views.{fmt_arg_view, fmt_view};
 use crate::clone_emitted::CloneEmitted;
 use dm_ast::QSelf;
 use dm_copy::{CloneIn, both};
+use dm_gather::Made;
 use dm_output::{FmtArg, FmtArgs, Member, PathExpr};
-use std::alloc::{AllocError, Global};
+use std::alloc::Global;
 
 impl<'a> CloneEmitted for PathExpr<'a> {
     ghost use Rattle.dm_ast.specs.Tree.{MaybeSelf, PathTree};
@@ -18,16 +19,13 @@ impl<'a> CloneEmitted for PathExpr<'a> {
 
     ghost shape = { λ p. (maybe_self_view p.qself, path_view p.path) };
 
-    fn clone_in(&self, alloc: Global) -> Result<Self, AllocError> {
+    fn clone_in(&self, alloc: Global) -> Made<Self> {
         let (qself, path) = both(copy_self(&self.qself, alloc), self.path.clone_in(alloc))?;
         Ok(PathExpr { qself, path })
     }
 }
 
-fn copy_self<'a>(
-    qself: &Option<Box<QSelf<'a>>>,
-    alloc: Global,
-) -> Result<Option<Box<QSelf<'a>>>, AllocError>
+fn copy_self<'a>(qself: &Option<Box<QSelf<'a>>>, alloc: Global) -> Made<Option<Box<QSelf<'a>>>>
     ensures { IfOk result (λ r. maybe_self_view r ≡ maybe_self_view qself.now) }
 {
     match qself {
@@ -43,7 +41,7 @@ impl<'a> CloneEmitted for Member<'a> {
 
     ghost shape = { λ it. it };
 
-    fn clone_in(&self, alloc: Global) -> Result<Self, AllocError> {
+    fn clone_in(&self, alloc: Global) -> Made<Self> {
         match self {
             Member::Named(name) => Ok(Member::Named(name.clone_in(alloc)?)),
             Member::Index(number) => Ok(Member::Index(number.clone_in(alloc)?)),
@@ -58,7 +56,7 @@ impl<'a> CloneEmitted for FmtArgs<'a> {
 
     ghost shape = { fmt_view };
 
-    fn clone_in(&self, alloc: Global) -> Result<Self, AllocError> {
+    fn clone_in(&self, alloc: Global) -> Made<Self> {
         let (lit, args) = both(self.lit.clone_in(alloc), self.args.clone_in(alloc))?;
         Ok(FmtArgs { lit, args })
     }
@@ -71,7 +69,7 @@ impl<'a> CloneEmitted for FmtArg<'a> {
 
     ghost shape = { fmt_arg_view };
 
-    fn clone_in(&self, alloc: Global) -> Result<Self, AllocError> {
+    fn clone_in(&self, alloc: Global) -> Made<Self> {
         let (alias, value) = both(self.alias.clone_in(alloc), self.value.clone_in(alloc))?;
         Ok(FmtArg { alias, value })
     }

@@ -9,20 +9,21 @@ ghost use Rattle.dm_output.specs.Views.{opaque_view, expr_view, named_expr_view,
 use crate::node::{made_of_three, made_of_two};
 use dm_ast::{Opaque, Ty};
 use dm_copy::{CloneIn, both};
+use dm_gather::Made;
 use dm_nodes::block::StmtNode;
 use dm_nodes::expr::{ExprNode, ExprNodes, FieldNode};
 use dm_nodes::make_block::{const_of, named_expr};
 use dm_nodes::make_expr::method_call_of;
 use dm_output::{Expr, NamedExpr};
 use dm_stream::{Ident, Literal, Seq};
-use std::alloc::{AllocError, Global};
+use std::alloc::Global;
 
 /// The copy of a field, of a copy of its value.
 pub(crate) fn field_of<'a>(
     field: &NamedExpr<'a>,
     alloc: Global,
-    value: Result<ExprNode<'a>, AllocError>,
-) -> Result<FieldNode<'a>, AllocError>
+    value: Made<ExprNode<'a>>,
+) -> Made<FieldNode<'a>>
     requires { IfOk value (λ v. expr_view v ≡ expr_view (out-NamedExpr field.now).value) }
     ensures { IfOk result (λ r. named_expr_view r ≡ named_expr_view field.now) }
 {
@@ -35,9 +36,9 @@ pub(crate) fn method_call<'a>(
     all: &Seq<Expr<'a>>,
     name: &Ident<'a>,
     alloc: Global,
-    receiver: Result<ExprNode<'a>, AllocError>,
-    arguments: Result<ExprNodes<'a>, AllocError>,
-) -> Result<ExprNode<'a>, AllocError>
+    receiver: Made<ExprNode<'a>>,
+    arguments: Made<ExprNodes<'a>>,
+) -> Made<ExprNode<'a>>
     requires receiver { IfOk receiver (λ x. expr_view x ≡ expr_view inner.now.value) }
     requires arguments { IfOk arguments (λ es. map expr_view es ≡ map expr_view all.now) }
     ensures { IfOk result (λ r. expr_view r ≡ tree.method_call (expr_view inner.now.value) name.now (tree.exprs_of (map expr_view all.now))) }
@@ -58,7 +59,7 @@ pub(crate) fn constant<'a>(
     base: &Option<Opaque<'a>>,
     number: &Literal<'a>,
     alloc: Global,
-) -> Result<StmtNode<'a>, AllocError>
+) -> Made<StmtNode<'a>>
     ensures { IfOk result (λ r. stmt_view r ≡ tree.const_stmt name.now (ty_view ty.now) (option_map opaque_view base.now) number.now) }
 {
     let value = both(base.clone_in(alloc), number.clone_in(alloc));

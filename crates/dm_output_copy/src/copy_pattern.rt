@@ -7,13 +7,13 @@ ghost use Rattle.dm_output.specs.Views.{pattern_view, named_view};
 use crate::clone_emitted::CloneEmitted;
 use crate::node::{made, made_of_two, with_part};
 use dm_copy::{CloneIn, both};
-use dm_gather::Gathers;
+use dm_gather::{Gathers, Made};
 use dm_output::{NamedPattern, Pattern};
 use dm_pattern_nodes::make::{
     bind, named_part, named_pattern, pair_of, path_of, str_pattern, tuple_pattern, wild,
 };
 use dm_pattern_nodes::node::{NamedNode, NamedNodes, PatternNode, PatternNodes};
-use std::alloc::{AllocError, Global};
+use std::alloc::Global;
 
 impl<'a> CloneEmitted for Pattern<'a> {
     ghost use Rattle.dm_output.specs.Output.{PatternTree};
@@ -22,7 +22,7 @@ impl<'a> CloneEmitted for Pattern<'a> {
 
     ghost shape = { pattern_view };
 
-    fn clone_in(&self, alloc: Global) -> Result<Self, AllocError> {
+    fn clone_in(&self, alloc: Global) -> Made<Self> {
         match copy_pattern(self, alloc) {
             Ok(node) => Ok(node.into_tree()),
             Err(error) => Err(error),
@@ -38,7 +38,7 @@ impl<'a> CloneEmitted for NamedPattern<'a> {
 
     ghost shape = { named_view };
 
-    fn clone_in(&self, alloc: Global) -> Result<Self, AllocError> {
+    fn clone_in(&self, alloc: Global) -> Made<Self> {
         match field_of(self, alloc, copy_pattern(&self.pattern, alloc)) {
             Ok(node) => Ok(node.into_tree()),
             Err(error) => Err(error),
@@ -47,7 +47,7 @@ impl<'a> CloneEmitted for NamedPattern<'a> {
 }
 
 #[cycle(copy_pattern)]
-fn copy_pattern<'a>(pattern: &Pattern<'a>, alloc: Global) -> Result<PatternNode<'a>, AllocError>
+fn copy_pattern<'a>(pattern: &Pattern<'a>, alloc: Global) -> Made<PatternNode<'a>>
     ensures { IfOk result (λ r. pattern_view r ≡ pattern_view pattern.now) }
 {
     match pattern {
@@ -71,10 +71,7 @@ fn copy_pattern<'a>(pattern: &Pattern<'a>, alloc: Global) -> Result<PatternNode<
 }
 
 #[cycle(copy_pattern)]
-pub(crate) fn copy_patterns<'a>(
-    all: &[Pattern<'a>],
-    alloc: Global,
-) -> Result<PatternNodes<'a>, AllocError>
+pub(crate) fn copy_patterns<'a>(all: &[Pattern<'a>], alloc: Global) -> Made<PatternNodes<'a>>
     ensures { IfOk result (λ r. map pattern_view r ≡ map pattern_view all.now) }
 {
     let mut found: PatternNodes<'a> = Gathers::none(alloc);
@@ -85,7 +82,7 @@ pub(crate) fn copy_patterns<'a>(
 }
 
 #[cycle(copy_pattern)]
-fn copy_fields<'a>(all: &[NamedPattern<'a>], alloc: Global) -> Result<NamedNodes<'a>, AllocError>
+fn copy_fields<'a>(all: &[NamedPattern<'a>], alloc: Global) -> Made<NamedNodes<'a>>
     ensures { IfOk result (λ r. map named_view r ≡ map named_view all.now) }
 {
     let mut found: NamedNodes<'a> = Gathers::none(alloc);
@@ -100,8 +97,8 @@ fn copy_fields<'a>(all: &[NamedPattern<'a>], alloc: Global) -> Result<NamedNodes
 fn field_of<'a>(
     field: &NamedPattern<'a>,
     alloc: Global,
-    pattern: Result<PatternNode<'a>, AllocError>,
-) -> Result<NamedNode<'a>, AllocError>
+    pattern: Made<PatternNode<'a>>,
+) -> Made<NamedNode<'a>>
     requires { IfOk pattern (λ p. pattern_view p ≡ pattern_view (out-NamedPattern field.now).pattern) }
     ensures { IfOk result (λ r. named_view r ≡ named_view field.now) }
 {

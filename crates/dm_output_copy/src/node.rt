@@ -3,15 +3,15 @@
 ghost use Rattle.std.specs.Prelude.{◌≡◌, [], ◌∷◌, ◌++◌, Ok, IfOk, IsOkAnd};
 
 use dm_copy::both;
-use dm_gather::Gathers;
-use std::alloc::{AllocError, Global};
+use dm_gather::{Gathers, Made};
+use std::alloc::Global;
 
 /// What `make` makes of a part.
-pub(crate) fn made<T: Drop, N: Drop, F: FnOnce(Global, T) -> Result<N, AllocError>>(
+pub(crate) fn made<T: Drop, N: Drop, F: FnOnce(Global, T) -> Made<N>>(
     alloc: Global,
-    part: Result<T, AllocError>,
+    part: Made<T>,
     make: F,
-) -> Result<N, AllocError>
+) -> Made<N>
     requires { F.IsAlwaysCallable make }
     ensures { IfOk result (λ r. IsOkAnd part (λ t. F.post make alloc t (Ok r))) }
 {
@@ -22,17 +22,12 @@ pub(crate) fn made<T: Drop, N: Drop, F: FnOnce(Global, T) -> Result<N, AllocErro
 }
 
 /// What `make` makes of two parts.
-pub(crate) fn made_of_two<
-    T: Drop,
-    U: Drop,
-    N: Drop,
-    F: FnOnce(Global, T, U) -> Result<N, AllocError>,
->(
+pub(crate) fn made_of_two<T: Drop, U: Drop, N: Drop, F: FnOnce(Global, T, U) -> Made<N>>(
     alloc: Global,
-    first: Result<T, AllocError>,
-    second: Result<U, AllocError>,
+    first: Made<T>,
+    second: Made<U>,
     make: F,
-) -> Result<N, AllocError>
+) -> Made<N>
     requires { F.IsAlwaysCallable make }
     ensures { IfOk result (λ r. IsOkAnd first (λ t. IsOkAnd second (λ u. F.post make alloc t u (Ok r)))) }
 {
@@ -48,14 +43,8 @@ pub(crate) fn made_of_three<
     U: Drop,
     V: Drop,
     N: Drop,
-    F: FnOnce(Global, T, U, V) -> Result<N, AllocError>,
->(
-    alloc: Global,
-    first: Result<T, AllocError>,
-    second: Result<U, AllocError>,
-    third: Result<V, AllocError>,
-    make: F,
-) -> Result<N, AllocError>
+    F: FnOnce(Global, T, U, V) -> Made<N>,
+>(alloc: Global, first: Made<T>, second: Made<U>, third: Made<V>, make: F) -> Made<N>
     requires { F.IsAlwaysCallable make }
     ensures { IfOk result (λ r. IsOkAnd first (λ t. IsOkAnd second (λ u. IsOkAnd third (λ v. F.post make alloc t u v (Ok r))))) }
 {
@@ -66,10 +55,7 @@ pub(crate) fn made_of_three<
 }
 
 /// The parts with this one behind them.
-pub(crate) fn with_part<T: Drop, L: Gathers<T>>(
-    parts: L,
-    part: Result<T, AllocError>,
-) -> Result<L, AllocError>
+pub(crate) fn with_part<T: Drop, L: Gathers<T>>(parts: L, part: Made<T>) -> Made<L>
     ensures { IfOk result (λ r. IsOkAnd part (λ t. L.parts r ≡ L.parts parts ++ t ∷ [])) }
 {
     let mut parts = parts;

@@ -9,9 +9,8 @@ ghost use Rattle.dm_operands.specs.Bodies as bodies;
 ghost use Rattle.dm_partial_eq.specs.Emitted as spec;
 ghost use Rattle.dm_partial_eq.specs.Printed as printed;
 
-use dm_layout::Layout;
+use dm_layout::{Layout, Printed};
 use dm_print_types::token::{fixed, joint, word};
-use std::alloc::AllocError;
 
 /// Which of the two methods is printed.
 #[derive(Clone, Copy, Debug, PartialEq, Eq)]
@@ -22,7 +21,7 @@ pub(crate) enum Comparing {
 
 impl Comparing {
     /// Adds the sign of a test.
-    pub(crate) fn sign(self, out: &mut Layout) -> Result<(), AllocError>
+    pub(crate) fn sign(self, out: &mut Layout) -> Printed
         ensures { OnOk result (out.new ≡ lay out.old (printed.sign_trees self)) }
     {
         match self {
@@ -32,7 +31,7 @@ impl Comparing {
     }
 
     /// Adds what joins two tests.
-    pub(crate) fn join(self, out: &mut Layout) -> Result<(), AllocError>
+    pub(crate) fn join(self, out: &mut Layout) -> Printed
         ensures { OnOk result (out.new ≡ lay out.old (printed.join_trees self)) }
     {
         match self {
@@ -42,7 +41,7 @@ impl Comparing {
     }
 
     /// Adds what no test at all gives.
-    pub(crate) fn neutral(self, out: &mut Layout) -> Result<(), AllocError>
+    pub(crate) fn neutral(self, out: &mut Layout) -> Printed
         ensures { OnOk result (out.new ≡ lay out.old (tokens.expr_trees (bool (spec.neutral_of self)))) }
     {
         match self {
@@ -52,7 +51,7 @@ impl Comparing {
     }
 
     /// Adds the arm of every other pair, which gives what no test at all gives.
-    pub(crate) fn other_pairs(self, out: &mut Layout) -> Result<(), AllocError>
+    pub(crate) fn other_pairs(self, out: &mut Layout) -> Printed
         ensures { OnOk result (out.new ≡ lay out.old (tokens.arms_trees (arms_of (bodies.otherwise (bool (spec.neutral_of self)) ∷ [])))) }
     {
         match self {
@@ -62,7 +61,7 @@ impl Comparing {
     }
 
     /// Adds the test of the discriminants.
-    pub(crate) fn discriminants(self, out: &mut Layout) -> Result<(), AllocError>
+    pub(crate) fn discriminants(self, out: &mut Layout) -> Printed
         ensures { OnOk result (out.new ≡ lay out.old (tokens.expr_trees (spec.discriminants self))) }
     {
         match self {
@@ -78,7 +77,7 @@ impl Comparing {
     }
 
     /// Adds what stands in front of the method's body.
-    pub(crate) fn method_head(self, out: &mut Layout) -> Result<(), AllocError>
+    pub(crate) fn method_head(self, out: &mut Layout) -> Printed
         ensures { OnOk result (out.new ≡ lay out.old (tokens.signature_trees (spec.method_with self (last_expr no_expr)))) }
     {
         match self {

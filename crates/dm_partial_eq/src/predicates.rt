@@ -14,15 +14,14 @@ ghost use Rattle.dm_operands.specs.CaseViews.{case_view};
 
 use dm_ast::{DeriveInput, Ty};
 use dm_bounds::Sought;
-use dm_layout::Layout;
+use dm_layout::{Layout, Printed};
 use dm_operands::cases::CaseRef;
 use dm_print_types::token::fixed;
 use dm_where_clauses::needed::{Asks, needs, with_needed};
 use dm_where_clauses::printing::clause;
-use std::alloc::{AllocError, Global};
 
 /// Adds the trait's path.
-pub(crate) fn trait_path(out: &mut Layout) -> Result<(), AllocError>
+pub(crate) fn trait_path(out: &mut Layout) -> Printed
     ensures { OnOk result (out.new ≡ lay out.old (path_trees nowhere partial_eq_path)) }
 {
     fixed(out, "derive_more :: core :: cmp :: PartialEq")
@@ -38,7 +37,7 @@ impl Asks for Compares {
         needs(sought, ty)
     }
 
-    fn print_path(&self, _ty: &Ty<'_>, _alloc: Global, out: &mut Layout) -> Result<(), AllocError> {
+    fn print_path(&self, _ty: &Ty<'_>, out: &mut Layout) -> Printed {
         trait_path(out)
     }
 }
@@ -47,11 +46,10 @@ impl Asks for Compares {
 pub(crate) fn predicates<'x, 'a>(
     input: &'x DeriveInput<'a>,
     cases: &[CaseRef<'x, 'a>],
-    alloc: Global,
     out: &mut Layout,
-) -> Result<(), AllocError>
+) -> Printed
     ensures { OnOk result (out.new ≡ lay out.old (tokens.where_trees (spec.predicates_for (declaration_view input.now) (map case_view cases.now)))) }
 {
-    let all = with_needed(input, cases, &Compares, alloc)?;
-    clause(all.as_slice(), &Compares, alloc, out)
+    let all = with_needed(input, cases, &Compares, out.allocator())?;
+    clause(all.as_slice(), &Compares, out)
 }

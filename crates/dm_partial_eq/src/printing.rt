@@ -15,7 +15,7 @@ mod heads;
 use crate::comparing::Comparing;
 use arms::arms;
 use dm_ast::DeriveInput;
-use dm_layout::Layout;
+use dm_layout::{Layout, Printed};
 use dm_operands::cases::{CaseRef, is_enum, some_case_left_out, some_compared};
 use dm_print_types::token::{close, fixed, open, word};
 use dm_stream::Delim;
@@ -30,7 +30,7 @@ fn needs_discriminants(input: &DeriveInput<'_>, cases: &[CaseRef<'_, '_>]) -> bo
 }
 
 /// Adds the pair of the operands.
-fn subject(out: &mut Layout) -> Result<(), AllocError>
+fn subject(out: &mut Layout) -> Printed
     ensures { OnOk result (out.new ≡ lay out.old (tokens.expr_trees spec.both)) }
 {
     fixed(out, "(self , __other)")
@@ -40,24 +40,19 @@ fn matching<'a>(
     input: &DeriveInput<'a>,
     cases: &[CaseRef<'_, 'a>],
     comparing: Comparing,
-    alloc: Global,
     out: &mut Layout,
-) -> Result<(), AllocError>
+) -> Printed
     ensures { OnOk result (out.new ≡ lay out.old (tokens.expr_trees (spec.matching comparing (declaration_view input.now) (map case_view cases.now)))) }
 {
     word(out, "match")?;
     subject(out)?;
     open(out, Delim::Brace)?;
-    arms(input, cases, comparing, alloc, out)?;
+    arms(input, cases, comparing, out)?;
     close(out, Delim::Brace)
 }
 
 /// Adds the tests of the discriminants, where they are wanted, and what joins them to the match.
-fn discriminants_part(
-    comparing: Comparing,
-    wanted: bool,
-    out: &mut Layout,
-) -> Result<(), AllocError>
+fn discriminants_part(comparing: Comparing, wanted: bool, out: &mut Layout) -> Printed
     ensures { OnOk result (out.new ≡ lay out.old (printed.discriminants_trees comparing wanted)) }
 {
     if wanted {
@@ -71,13 +66,12 @@ fn compared<'a>(
     input: &DeriveInput<'a>,
     cases: &[CaseRef<'_, 'a>],
     comparing: Comparing,
-    alloc: Global,
     out: &mut Layout,
-) -> Result<(), AllocError>
+) -> Printed
     ensures { OnOk result (out.new ≡ lay out.old (printed.compared_trees comparing (declaration_view input.now) (map case_view cases.now))) }
 {
     discriminants_part(comparing, needs_discriminants(input, cases), out)?;
-    matching(input, cases, comparing, alloc, out)
+    matching(input, cases, comparing, out)
 }
 
 /// Adds the body where no case is compared.
@@ -86,7 +80,7 @@ fn uncompared(
     cases: &[CaseRef<'_, '_>],
     comparing: Comparing,
     out: &mut Layout,
-) -> Result<(), AllocError>
+) -> Printed
     ensures { OnOk result (out.new ≡ lay out.old (tokens.expr_trees (printed.uncompared comparing (declaration_view input.now) (map case_view cases.now)))) }
 {
     if cases.is_empty() {
@@ -102,13 +96,12 @@ fn body<'a>(
     input: &DeriveInput<'a>,
     cases: &[CaseRef<'_, 'a>],
     comparing: Comparing,
-    alloc: Global,
     out: &mut Layout,
-) -> Result<(), AllocError>
+) -> Printed
     ensures { OnOk result (out.new ≡ lay out.old (tokens.expr_trees (spec.body_expr comparing (declaration_view input.now) (map case_view cases.now)))) }
 {
     if some_compared(cases) {
-        return compared(input, cases, comparing, alloc, out);
+        return compared(input, cases, comparing, out);
     }
     uncompared(input, cases, comparing, out)
 }
@@ -117,43 +110,32 @@ fn method<'a>(
     input: &DeriveInput<'a>,
     cases: &[CaseRef<'_, 'a>],
     comparing: Comparing,
-    alloc: Global,
     out: &mut Layout,
-) -> Result<(), AllocError>
+) -> Printed
     ensures { OnOk result (out.new ≡ lay out.old (tokens.method_trees (spec.method comparing (declaration_view input.now) (map case_view cases.now)))) }
 {
     comparing.method_head(out)?;
     open(out, Delim::Brace)?;
-    body(input, cases, comparing, alloc, out)?;
+    body(input, cases, comparing, out)?;
     close(out, Delim::Brace)
 }
 
-fn methods<'a>(
-    input: &DeriveInput<'a>,
-    cases: &[CaseRef<'_, 'a>],
-    alloc: Global,
-    out: &mut Layout,
-) -> Result<(), AllocError>
+fn methods<'a>(input: &DeriveInput<'a>, cases: &[CaseRef<'_, 'a>], out: &mut Layout) -> Printed
     ensures { OnOk result (out.new ≡ lay out.old (tokens.in_turn (map tokens.method_trees (spec.methods (declaration_view input.now) (map case_view cases.now))))) }
 {
-    method(input, cases, Comparing::Equal, alloc, out)?;
+    method(input, cases, Comparing::Equal, out)?;
     if !some_compared(cases) {
         return Ok(());
     }
-    method(input, cases, Comparing::Unequal, alloc, out)
+    method(input, cases, Comparing::Unequal, out)
 }
 
-fn item<'x, 'a>(
-    input: &'x DeriveInput<'a>,
-    cases: &[CaseRef<'x, 'a>],
-    alloc: Global,
-    out: &mut Layout,
-) -> Result<(), AllocError>
+fn item<'x, 'a>(input: &'x DeriveInput<'a>, cases: &[CaseRef<'x, 'a>], out: &mut Layout) -> Printed
     ensures { OnOk result (out.new ≡ lay out.old (tokens.item_trees (spec.item_for (declaration_view input.now) (map case_view cases.now)))) }
 {
-    item_head(input, cases, alloc, out)?;
+    item_head(input, cases, out)?;
     open(out, Delim::Brace)?;
-    methods(input, cases, alloc, out)?;
+    methods(input, cases, out)?;
     close(out, Delim::Brace)
 }
 
@@ -166,7 +148,7 @@ pub(crate) fn printed_item<'x, 'a>(
     ensures { IfOk result (λ s. string_bytes s ≡ tokens.printed (spec.item_for (declaration_view input.now) (map case_view cases.now) ∷ [])) }
 {
     let mut out = Layout::new(alloc);
-    item(input, cases, alloc, &mut out)?;
+    item(input, cases, &mut out)?;
     out.line_end()?;
     Ok(out.into_string())
 }

@@ -8,33 +8,34 @@ ghost use Rattle.dm_output.specs.Views.{pattern_view, named_view};
 
 use crate::node::{NamedNode, NamedNodes, PatternNode, PatternNodes};
 use dm_ast::Path;
+use dm_gather::Made;
 use dm_output::{Binding, NamedPattern, Pattern};
 use dm_stream::{Ident, Literal};
-use std::alloc::{AllocError, Global};
+use std::alloc::Global;
 
 /// `_`
-pub fn wild<'a>(alloc: Global) -> Result<PatternNode<'a>, AllocError>
+pub fn wild<'a>(alloc: Global) -> Made<PatternNode<'a>>
     ensures { IfOk result (λ p. pattern_view p ≡ tree.wild) }
 {
     Ok(PatternNode::new(alloc, Pattern::Wild)?)
 }
 
 /// `x`, `ref x` or `ref mut x`
-pub fn bind<'a>(alloc: Global, how: Binding, name: Ident<'a>) -> Result<PatternNode<'a>, AllocError>
+pub fn bind<'a>(alloc: Global, how: Binding, name: Ident<'a>) -> Made<PatternNode<'a>>
     ensures { IfOk result (λ p. pattern_view p ≡ tree.bind how name.entry) }
 {
     Ok(PatternNode::new(alloc, Pattern::Bind(how, name))?)
 }
 
 /// `"text"`
-pub fn str_pattern<'a>(alloc: Global, text: Literal<'a>) -> Result<PatternNode<'a>, AllocError>
+pub fn str_pattern<'a>(alloc: Global, text: Literal<'a>) -> Made<PatternNode<'a>>
     ensures { IfOk result (λ p. pattern_view p ≡ tree.str_pattern text.entry) }
 {
     Ok(PatternNode::new(alloc, Pattern::Str(text))?)
 }
 
 /// A path as a pattern.
-pub fn path_of<'a>(alloc: Global, path: Path<'a>) -> Result<PatternNode<'a>, AllocError>
+pub fn path_of<'a>(alloc: Global, path: Path<'a>) -> Made<PatternNode<'a>>
     ensures { IfOk result (λ p. pattern_view p ≡ tree.path_pattern (path_view path.entry)) }
 {
     Ok(PatternNode::new(alloc, Pattern::Path(path))?)
@@ -45,7 +46,7 @@ pub fn tuple_pattern<'a>(
     alloc: Global,
     path: Path<'a>,
     parts: PatternNodes<'a>,
-) -> Result<PatternNode<'a>, AllocError>
+) -> Made<PatternNode<'a>>
     ensures { IfOk result (λ p. pattern_view p ≡ tree.tuple_pattern (path_view path.entry) (tree.patterns_of (map pattern_view parts.entry))) }
 {
     Ok(PatternNode::new(alloc, Pattern::Tuple(path, parts.into_trees()))?)
@@ -56,7 +57,7 @@ pub fn named_pattern<'a>(
     alloc: Global,
     path: Path<'a>,
     fields: (NamedNodes<'a>, bool),
-) -> Result<PatternNode<'a>, AllocError>
+) -> Made<PatternNode<'a>>
     ensures { IfOk result (λ p. pattern_view p ≡ tree.named_pattern (path_view path.entry) (tree.named_of (map named_view fields.entry.0)) fields.entry.1) }
 {
     let (fields, rest) = fields;
@@ -68,7 +69,7 @@ pub fn pair_of<'a>(
     alloc: Global,
     first: PatternNode<'a>,
     second: PatternNode<'a>,
-) -> Result<PatternNode<'a>, AllocError>
+) -> Made<PatternNode<'a>>
     ensures { IfOk result (λ p. pattern_view p ≡ tree.pair_pattern (pattern_view first.entry) (pattern_view second.entry)) }
 {
     Ok(PatternNode::new(alloc, Pattern::Pair(first.into_box(), second.into_box()))?)
@@ -79,7 +80,7 @@ pub fn named_part<'a>(
     alloc: Global,
     name: Ident<'a>,
     pattern: PatternNode<'a>,
-) -> Result<NamedNode<'a>, AllocError>
+) -> Made<NamedNode<'a>>
     ensures { IfOk result (λ f. named_view f ≡ (name.entry, pattern_view pattern.entry)) }
 {
     let pattern = pattern.into_tree();

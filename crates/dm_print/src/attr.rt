@@ -6,10 +6,9 @@ ghost use Rattle.dm_output.specs.Tokens as spec;
 ghost use Rattle.dm_print.specs.Attributes.{attr_text};
 ghost use Rattle.dm_print_types.specs.Laying.{lay};
 
-use dm_layout::Layout;
+use dm_layout::{Layout, Printed};
 use dm_output::ItemAttr;
 use dm_print_types::token::fixed;
-use std::alloc::AllocError;
 
 #[tactic(auto, unfolding(crate::specs::Attributes::attr_text))]
 fn text(attr: ItemAttr) -> &'static str
@@ -30,14 +29,14 @@ fn text(attr: ItemAttr) -> &'static str
 }
 
 #[tactic(auto, using(crate::proofs::Attributes::attr_fixed, crate::proofs::Attributes::attr_laid))]
-fn attr(out: &mut Layout, attr: ItemAttr) -> Result<(), AllocError>
+fn attr(out: &mut Layout, attr: ItemAttr) -> Printed
     ensures { OnOk result (out.new ≡ lay out.old (spec.attr_trees attr)) }
 {
     fixed(out, text(attr))
 }
 
 /// Adds attributes one behind the other.
-pub(crate) fn attrs(out: &mut Layout, all: &[ItemAttr]) -> Result<(), AllocError>
+pub(crate) fn attrs(out: &mut Layout, all: &[ItemAttr]) -> Printed
     ensures { OnOk result (out.new ≡ lay out.old (spec.in_turn (map spec.attr_trees all.now))) }
 {
     for one in all {

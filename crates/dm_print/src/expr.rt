@@ -15,76 +15,75 @@ use crate::format::{format_call, write_call};
 use crate::pattern::patterns;
 use crate::stmt::{check, constant, import};
 use dm_ast::Opaque;
-use dm_layout::Layout;
+use dm_layout::{Layout, Printed};
 use dm_output::{Arm, ArmBody, Block, Expr, Member, NamedExpr, PathExpr, Stmt};
 use dm_print_types::path::path_expr;
 use dm_print_types::token::{
     close, fixed, joint, literal, name, opaque, open, punct, word, word_if,
 };
 use dm_stream::{Delim, Ident, Seq};
-use std::alloc::{AllocError, Global};
 
 /// Adds an expression.
 #[cycle(print)]
-pub fn expr(tree: &Expr<'_>, alloc: Global, out: &mut Layout) -> Result<(), AllocError>
+pub fn expr(tree: &Expr<'_>, out: &mut Layout) -> Printed
     ensures { OnOk result (out.new ≡ lay out.old (spec.expr_trees (expr_view tree.now))) }
 {
     match tree {
         Expr::Return(inner) => {
             word(out, "return")?;
-            expr(inner, alloc, out)
+            expr(inner, out)
         }
-        Expr::Or(parts) => chain(parts, '|', alloc, out),
-        Expr::And(parts) => chain(parts, '&', alloc, out),
+        Expr::Or(parts) => chain(parts, '|', out),
+        Expr::And(parts) => chain(parts, '&', out),
         Expr::Equal(left, right) => {
-            expr(left, alloc, out)?;
-            compared(right, '=', alloc, out)
+            expr(left, out)?;
+            compared(right, '=', out)
         }
         Expr::Unequal(left, right) => {
-            expr(left, alloc, out)?;
-            compared(right, '!', alloc, out)
+            expr(left, out)?;
+            compared(right, '!', out)
         }
         Expr::RefOpaque(tokens) => {
             punct(out, '&')?;
             opaque(out, tokens)
         }
-        Expr::Ref(is_mut, inner) => reference(inner, *is_mut, alloc, out),
+        Expr::Ref(is_mut, inner) => reference(inner, *is_mut, out),
         Expr::Deref(inner) => {
             punct(out, '*')?;
-            expr(inner, alloc, out)
+            expr(inner, out)
         }
         Expr::Member(inner, field) => {
-            expr(inner, alloc, out)?;
+            expr(inner, out)?;
             member(field, out)
         }
         Expr::MethodCall(inner, method, arguments) => {
-            expr(inner, alloc, out)?;
-            method_call(arguments, method, alloc, out)
+            expr(inner, out)?;
+            method_call(arguments, method, out)
         }
         Expr::Map(inner, body) => {
-            expr(inner, alloc, out)?;
-            mapped(body, alloc, out)
+            expr(inner, out)?;
+            mapped(body, out)
         }
-        Expr::MapErr(inner, function) => map_err(inner, function, alloc, out),
+        Expr::MapErr(inner, function) => map_err(inner, function, out),
         Expr::Question(inner) => {
-            expr(inner, alloc, out)?;
+            expr(inner, out)?;
             punct(out, '?')
         }
-        Expr::Path(path) => path_expr(path, alloc, out),
-        Expr::Call(path, arguments) => call(path, arguments, alloc, out),
-        Expr::Build(path, arguments) => build(path, arguments, alloc, out),
-        Expr::BuildNamed(path, fields) => build_named(path, fields, alloc, out),
-        Expr::Paren(inner) => enclosed(inner, Delim::Paren, alloc, out),
-        Expr::Tuple(parts) => in_parens(parts, alloc, out),
-        Expr::OpaqueCall(function, argument) => opaque_call(argument, function, alloc, out),
+        Expr::Path(path) => path_expr(path, out),
+        Expr::Call(path, arguments) => call(path, arguments, out),
+        Expr::Build(path, arguments) => build(path, arguments, out),
+        Expr::BuildNamed(path, fields) => build_named(path, fields, out),
+        Expr::Paren(inner) => enclosed(inner, Delim::Paren, out),
+        Expr::Tuple(parts) => in_parens(parts, out),
+        Expr::OpaqueCall(function, argument) => opaque_call(argument, function, out),
         Expr::Str(text) => literal(out, text),
         Expr::Bool(value) => truth(out, *value),
         Expr::Match(subject, all) => {
             word(out, "match")?;
-            expr(subject, alloc, out)?;
-            in_braces(all, alloc, out)
+            expr(subject, out)?;
+            in_braces(all, out)
         }
-        Expr::Unsafe(inner) => unsafe_block(inner, alloc, out),
+        Expr::Unsafe(inner) => unsafe_block(inner, out),
         Expr::Write(formatter, format) => write_call(format, formatter, out),
         Expr::FormatArgs(format) => format_call(format, out),
     }
@@ -92,21 +91,16 @@ pub fn expr(tree: &Expr<'_>, alloc: Global, out: &mut Layout) -> Result<(), Allo
 
 /// Adds `&a` or `&mut a`.
 #[cycle(print)]
-fn reference(
-    inner: &Box<Expr<'_>>,
-    is_mut: bool,
-    alloc: Global,
-    out: &mut Layout,
-) -> Result<(), AllocError>
+fn reference(inner: &Box<Expr<'_>>, is_mut: bool, out: &mut Layout) -> Printed
     ensures { OnOk result (out.new ≡ lay out.old (spec.expr_trees (ref_expr is_mut (expr_view inner.now.value)))) }
 {
     punct(out, '&')?;
     word_if(out, is_mut, "mut")?;
-    expr(inner, alloc, out)
+    expr(inner, out)
 }
 
 /// Adds `.x`.
-fn member(field: &Member<'_>, out: &mut Layout) -> Result<(), AllocError>
+fn member(field: &Member<'_>, out: &mut Layout) -> Printed
     ensures { OnOk result (out.new ≡ lay out.old (join (spec.punct 46) (spec.member_trees field.now))) }
 {
     punct(out, '.')?;
@@ -118,20 +112,15 @@ fn member(field: &Member<'_>, out: &mut Layout) -> Result<(), AllocError>
 
 /// Adds `a.map_err(tokens)`.
 #[cycle(print)]
-fn map_err<'a>(
-    inner: &Box<Expr<'a>>,
-    function: &Opaque<'a>,
-    alloc: Global,
-    out: &mut Layout,
-) -> Result<(), AllocError>
+fn map_err<'a>(inner: &Box<Expr<'a>>, function: &Opaque<'a>, out: &mut Layout) -> Printed
     ensures { OnOk result (out.new ≡ lay out.old (spec.expr_trees (map_err (expr_view inner.now.value) (opaque_view function.now)))) }
 {
-    expr(inner, alloc, out)?;
+    expr(inner, out)?;
     fixed(out, ". map_err")?;
     opaque(out, function)
 }
 
-fn truth(out: &mut Layout, value: bool) -> Result<(), AllocError>
+fn truth(out: &mut Layout, value: bool) -> Printed
     ensures { OnOk result (out.new ≡ lay out.old (spec.word (cond value (codes "true") (codes "false")))) }
 {
     if value {
@@ -142,102 +131,87 @@ fn truth(out: &mut Layout, value: bool) -> Result<(), AllocError>
 
 /// Expressions with an operator of two equal puncts between them.
 #[cycle(print)]
-fn chain(all: &Seq<Expr<'_>>, ch: char, alloc: Global, out: &mut Layout) -> Result<(), AllocError>
+fn chain(all: &Seq<Expr<'_>>, ch: char, out: &mut Layout) -> Printed
     ensures { OnOk result (out.new ≡ lay out.old (syntax.spaced (spec.joint ch ch) true (spec.each_expr (exprs_of (map expr_view all.now))))) }
 {
     for (i, one) in all.as_slice().iter().enumerate() {
         if i > 0 {
             joint(out, ch, ch)?;
         }
-        expr(one, alloc, out)?;
+        expr(one, out)?;
     }
     Ok(())
 }
 
 /// Adds the punct with `=` behind it, and the right side.
 #[cycle(print)]
-fn compared(
-    right: &Box<Expr<'_>>,
-    ch: char,
-    alloc: Global,
-    out: &mut Layout,
-) -> Result<(), AllocError>
+fn compared(right: &Box<Expr<'_>>, ch: char, out: &mut Layout) -> Printed
     ensures { OnOk result (out.new ≡ lay out.old (join (spec.joint ch 61) (spec.expr_trees (expr_view right.now.value)))) }
 {
     joint(out, ch, '=')?;
-    expr(right, alloc, out)
+    expr(right, out)
 }
 
 /// Adds `.f(a, b)`.
 #[cycle(print)]
-fn method_call<'a>(
-    arguments: &Seq<Expr<'a>>,
-    method: &Ident<'a>,
-    alloc: Global,
-    out: &mut Layout,
-) -> Result<(), AllocError>
+fn method_call<'a>(arguments: &Seq<Expr<'a>>, method: &Ident<'a>, out: &mut Layout) -> Printed
     ensures { OnOk result (out.new ≡ lay out.old (join (spec.punct 46) (join (syntax.name method.now) (spec.enclosed Paren (syntax.spaced spec.comma true (spec.each_expr (exprs_of (map expr_view arguments.now)))))))) }
 {
     punct(out, '.')?;
     name(out, method)?;
-    in_parens(arguments, alloc, out)
+    in_parens(arguments, out)
 }
 
 /// Adds `.map(|v| body)`.
 #[cycle(print)]
-fn mapped(body: &Box<Expr<'_>>, alloc: Global, out: &mut Layout) -> Result<(), AllocError>
+fn mapped(body: &Box<Expr<'_>>, out: &mut Layout) -> Printed
     ensures { OnOk result (out.new ≡ lay out.old (join (spec.punct 46) (join (spec.word (codes "map")) (spec.enclosed Paren (join (spec.punct 124) (join (spec.word (codes "v")) (join (spec.punct 124) (spec.expr_trees (expr_view body.now.value))))))))) }
 {
     fixed(out, ". map (| v |")?;
-    expr(body, alloc, out)?;
+    expr(body, out)?;
     close(out, Delim::Paren)
 }
 
 /// Expressions with commas between them.
 #[cycle(print)]
-fn list(all: &[Expr<'_>], alloc: Global, out: &mut Layout) -> Result<(), AllocError>
+fn list(all: &[Expr<'_>], out: &mut Layout) -> Printed
     ensures { OnOk result (out.new ≡ lay out.old (syntax.spaced spec.comma true (spec.each_expr (exprs_of (map expr_view all.now))))) }
 {
     for (i, one) in all.iter().enumerate() {
         if i > 0 {
             punct(out, ',')?;
         }
-        expr(one, alloc, out)?;
+        expr(one, out)?;
     }
     Ok(())
 }
 
 /// The same in parentheses.
 #[cycle(print)]
-fn in_parens(all: &Seq<Expr<'_>>, alloc: Global, out: &mut Layout) -> Result<(), AllocError>
+fn in_parens(all: &Seq<Expr<'_>>, out: &mut Layout) -> Printed
     ensures { OnOk result (out.new ≡ lay out.old (spec.enclosed Paren (syntax.spaced spec.comma true (spec.each_expr (exprs_of (map expr_view all.now)))))) }
 {
     open(out, Delim::Paren)?;
-    list(all.as_slice(), alloc, out)?;
+    list(all.as_slice(), out)?;
     close(out, Delim::Paren)
 }
 
 /// Adds `f(a, b)`.
 #[cycle(print)]
-fn call<'a>(
-    path: &PathExpr<'a>,
-    arguments: &Seq<Expr<'a>>,
-    alloc: Global,
-    out: &mut Layout,
-) -> Result<(), AllocError>
+fn call<'a>(path: &PathExpr<'a>, arguments: &Seq<Expr<'a>>, out: &mut Layout) -> Printed
     ensures { OnOk result (out.new ≡ lay out.old (spec.expr_trees (call (maybe_self_view path.now.qself) (path_view path.now.path) (exprs_of (map expr_view arguments.now))))) }
 {
-    path_expr(path, alloc, out)?;
-    in_parens(arguments, alloc, out)
+    path_expr(path, out)?;
+    in_parens(arguments, out)
 }
 
 /// Expressions, each with a comma behind it.
 #[cycle(print)]
-fn ended(all: &[Expr<'_>], alloc: Global, out: &mut Layout) -> Result<(), AllocError>
+fn ended(all: &[Expr<'_>], out: &mut Layout) -> Printed
     ensures { OnOk result (out.new ≡ lay out.old (spec.ended (spec.each_expr (exprs_of (map expr_view all.now))))) }
 {
     for one in all {
-        expr(one, alloc, out)?;
+        expr(one, out)?;
         punct(out, ',')?;
     }
     Ok(())
@@ -245,29 +219,24 @@ fn ended(all: &[Expr<'_>], alloc: Global, out: &mut Layout) -> Result<(), AllocE
 
 /// Adds `f(a, b,)`.
 #[cycle(print)]
-fn build<'a>(
-    path: &PathExpr<'a>,
-    arguments: &Seq<Expr<'a>>,
-    alloc: Global,
-    out: &mut Layout,
-) -> Result<(), AllocError>
+fn build<'a>(path: &PathExpr<'a>, arguments: &Seq<Expr<'a>>, out: &mut Layout) -> Printed
     ensures { OnOk result (out.new ≡ lay out.old (spec.expr_trees (build (maybe_self_view path.now.qself) (path_view path.now.path) (exprs_of (map expr_view arguments.now))))) }
 {
-    path_expr(path, alloc, out)?;
+    path_expr(path, out)?;
     open(out, Delim::Paren)?;
-    ended(arguments.as_slice(), alloc, out)?;
+    ended(arguments.as_slice(), out)?;
     close(out, Delim::Paren)
 }
 
 /// Fields with their values, each with a comma behind it.
 #[cycle(print)]
-fn named(all: &[NamedExpr<'_>], alloc: Global, out: &mut Layout) -> Result<(), AllocError>
+fn named(all: &[NamedExpr<'_>], out: &mut Layout) -> Printed
     ensures { OnOk result (out.new ≡ lay out.old (spec.ended (spec.each_named_expr (named_exprs_of (map named_expr_view all.now))))) }
 {
     for one in all {
         name(out, &one.name)?;
         punct(out, ':')?;
-        expr(&one.value, alloc, out)?;
+        expr(&one.value, out)?;
         punct(out, ',')?;
     }
     Ok(())
@@ -275,128 +244,113 @@ fn named(all: &[NamedExpr<'_>], alloc: Global, out: &mut Layout) -> Result<(), A
 
 /// Adds `f { x: a, y: b, }`.
 #[cycle(print)]
-fn build_named<'a>(
-    path: &PathExpr<'a>,
-    fields: &Seq<NamedExpr<'a>>,
-    alloc: Global,
-    out: &mut Layout,
-) -> Result<(), AllocError>
+fn build_named<'a>(path: &PathExpr<'a>, fields: &Seq<NamedExpr<'a>>, out: &mut Layout) -> Printed
     ensures { OnOk result (out.new ≡ lay out.old (spec.expr_trees (build_named (maybe_self_view path.now.qself) (path_view path.now.path) (named_exprs_of (map named_expr_view fields.now))))) }
 {
-    path_expr(path, alloc, out)?;
+    path_expr(path, out)?;
     open(out, Delim::Brace)?;
-    named(fields.as_slice(), alloc, out)?;
+    named(fields.as_slice(), out)?;
     close(out, Delim::Brace)
 }
 
 /// Adds an expression in a group.
 #[cycle(print)]
-fn enclosed(
-    inner: &Box<Expr<'_>>,
-    delim: Delim,
-    alloc: Global,
-    out: &mut Layout,
-) -> Result<(), AllocError>
+fn enclosed(inner: &Box<Expr<'_>>, delim: Delim, out: &mut Layout) -> Printed
     ensures { OnOk result (out.new ≡ lay out.old (spec.enclosed delim (spec.expr_trees (expr_view inner.now.value)))) }
 {
     open(out, delim)?;
-    expr(inner, alloc, out)?;
+    expr(inner, out)?;
     close(out, delim)
 }
 
 /// Adds `(tokens)(a)`.
 #[cycle(print)]
-fn opaque_call<'a>(
-    argument: &Box<Expr<'a>>,
-    function: &Opaque<'a>,
-    alloc: Global,
-    out: &mut Layout,
-) -> Result<(), AllocError>
+fn opaque_call<'a>(argument: &Box<Expr<'a>>, function: &Opaque<'a>, out: &mut Layout) -> Printed
     ensures { OnOk result (out.new ≡ lay out.old (spec.expr_trees (opaque_call (opaque_view function.now) (expr_view argument.now.value)))) }
 {
     opaque(out, function)?;
-    enclosed(argument, Delim::Paren, alloc, out)
+    enclosed(argument, Delim::Paren, out)
 }
 
 /// Adds `unsafe { a }`.
 #[cycle(print)]
-fn unsafe_block(inner: &Box<Expr<'_>>, alloc: Global, out: &mut Layout) -> Result<(), AllocError>
+fn unsafe_block(inner: &Box<Expr<'_>>, out: &mut Layout) -> Printed
     ensures { OnOk result (out.new ≡ lay out.old (spec.expr_trees (unsafe_expr (expr_view inner.now.value)))) }
 {
     word(out, "unsafe")?;
-    enclosed(inner, Delim::Brace, alloc, out)
+    enclosed(inner, Delim::Brace, out)
 }
 
 /// Adds the arms of a match.
 #[cycle(print)]
-pub fn arms(all: &[Arm<'_>], alloc: Global, out: &mut Layout) -> Result<(), AllocError>
+pub fn arms(all: &[Arm<'_>], out: &mut Layout) -> Printed
     ensures { OnOk result (out.new ≡ lay out.old (spec.arms_trees (arms_of (map arm_view all.now)))) }
 {
     for one in all {
-        arm(one, alloc, out)?;
+        arm(one, out)?;
     }
     Ok(())
 }
 
 /// The same in braces.
 #[cycle(print)]
-fn in_braces(all: &Seq<Arm<'_>>, alloc: Global, out: &mut Layout) -> Result<(), AllocError>
+fn in_braces(all: &Seq<Arm<'_>>, out: &mut Layout) -> Printed
     ensures { OnOk result (out.new ≡ lay out.old (spec.enclosed Brace (spec.arms_trees (arms_of (map arm_view all.now))))) }
 {
     open(out, Delim::Brace)?;
-    arms(all.as_slice(), alloc, out)?;
+    arms(all.as_slice(), out)?;
     close(out, Delim::Brace)
 }
 
 #[cycle(print)]
-fn arm(tree: &Arm<'_>, alloc: Global, out: &mut Layout) -> Result<(), AllocError>
+fn arm(tree: &Arm<'_>, out: &mut Layout) -> Printed
     ensures { OnOk result (out.new ≡ lay out.old (spec.arm_trees (arm_view tree.now))) }
 {
-    patterns(tree.patterns.as_slice(), alloc, out)?;
+    patterns(tree.patterns.as_slice(), out)?;
     if let Some(test) = &tree.guard {
         word(out, "if")?;
-        expr(test, alloc, out)?;
+        expr(test, out)?;
     }
     joint(out, '=', '>')?;
-    body(&tree.body, alloc, out)?;
+    body(&tree.body, out)?;
     punct(out, ',')
 }
 
 #[cycle(print)]
-fn body(tree: &ArmBody<'_>, alloc: Global, out: &mut Layout) -> Result<(), AllocError>
+fn body(tree: &ArmBody<'_>, out: &mut Layout) -> Printed
     ensures { OnOk result (out.new ≡ lay out.old (spec.body_trees (body_view tree.now))) }
 {
     match tree {
-        ArmBody::Block(inner) => block(inner, alloc, out),
-        ArmBody::Expr(inner) => expr(inner, alloc, out),
+        ArmBody::Block(inner) => block(inner, out),
+        ArmBody::Expr(inner) => expr(inner, out),
     }
 }
 
 /// Adds a block.
 #[cycle(print)]
-pub(crate) fn block(tree: &Block<'_>, alloc: Global, out: &mut Layout) -> Result<(), AllocError>
+pub(crate) fn block(tree: &Block<'_>, out: &mut Layout) -> Printed
     ensures { OnOk result (out.new ≡ lay out.old (spec.block_trees (block_view tree.now))) }
 {
     open(out, Delim::Brace)?;
-    stmts(tree.stmts.as_slice(), alloc, out)?;
+    stmts(tree.stmts.as_slice(), out)?;
     if let Some(last) = &tree.last {
-        expr(last, alloc, out)?;
+        expr(last, out)?;
     }
     close(out, Delim::Brace)
 }
 
 #[cycle(print)]
-fn stmts(all: &[Stmt<'_>], alloc: Global, out: &mut Layout) -> Result<(), AllocError>
+fn stmts(all: &[Stmt<'_>], out: &mut Layout) -> Printed
     ensures { OnOk result (out.new ≡ lay out.old (spec.stmts_trees (stmts_of (map stmt_view all.now)))) }
 {
     for one in all {
-        stmt(one, alloc, out)?;
+        stmt(one, out)?;
     }
     Ok(())
 }
 
 #[cycle(print)]
-fn stmt(tree: &Stmt<'_>, alloc: Global, out: &mut Layout) -> Result<(), AllocError>
+fn stmt(tree: &Stmt<'_>, out: &mut Layout) -> Printed
     ensures { OnOk result (out.new ≡ lay out.old (spec.stmt_trees (stmt_view tree.now))) }
 {
     match tree {
@@ -404,15 +358,15 @@ fn stmt(tree: &Stmt<'_>, alloc: Global, out: &mut Layout) -> Result<(), AllocErr
             word(out, "let")?;
             name(out, ident)?;
             punct(out, '=')?;
-            expr(value, alloc, out)?;
+            expr(value, out)?;
             punct(out, ';')
         }
-        Stmt::Check(ty) => check(ty, alloc, out),
-        Stmt::Import(path) => import(path, alloc, out),
+        Stmt::Check(ty) => check(ty, out),
+        Stmt::Import(path) => import(path, out),
         Stmt::Expr(value) => {
-            expr(value, alloc, out)?;
+            expr(value, out)?;
             punct(out, ';')
         }
-        Stmt::Const(ident, ty, base, number) => constant(ty, ident, base, number, alloc, out),
+        Stmt::Const(ident, ty, base, number) => constant(ty, ident, base, number, out),
     }
 }

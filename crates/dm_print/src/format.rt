@@ -8,18 +8,17 @@ ghost use Rattle.dm_output.specs.Tokens as spec;
 ghost use Rattle.dm_output.specs.Views.{fmt_view, fmt_arg_view};
 ghost use Rattle.dm_print_types.specs.Laying.{lay};
 
-use dm_layout::Layout;
+use dm_layout::{Layout, Printed};
 use dm_output::{FmtArg, FmtArgs};
 use dm_print_types::token::{close, fixed, literal, name, punct, stream};
 use dm_stream::{Delim, Ident};
-use std::alloc::AllocError;
 
 /// Adds `derive_more::core::write!(formatter, format)`.
 pub(crate) fn write_call<'a>(
     format: &FmtArgs<'a>,
     formatter: &Ident<'a>,
     out: &mut Layout,
-) -> Result<(), AllocError>
+) -> Printed
     ensures { OnOk result (out.new ≡ lay out.old (spec.expr_trees (output.write_expr formatter.now (fmt_view format.now)))) }
 {
     fixed(out, "derive_more :: core :: write ! (")?;
@@ -30,7 +29,7 @@ pub(crate) fn write_call<'a>(
 }
 
 /// Adds `derive_more::core::format_args!(format)`.
-pub(crate) fn format_call(format: &FmtArgs<'_>, out: &mut Layout) -> Result<(), AllocError>
+pub(crate) fn format_call(format: &FmtArgs<'_>, out: &mut Layout) -> Printed
     ensures { OnOk result (out.new ≡ lay out.old (spec.expr_trees (output.format_args (fmt_view format.now)))) }
 {
     fixed(out, "derive_more :: core :: format_args ! (")?;
@@ -39,7 +38,7 @@ pub(crate) fn format_call(format: &FmtArgs<'_>, out: &mut Layout) -> Result<(), 
 }
 
 /// Adds the literal, and the arguments behind it.
-fn formatted(format: &FmtArgs<'_>, out: &mut Layout) -> Result<(), AllocError>
+fn formatted(format: &FmtArgs<'_>, out: &mut Layout) -> Printed
     ensures { OnOk result (out.new ≡ lay out.old (spec.fmt_trees (fmt_view format.now))) }
 {
     literal(out, &format.lit)?;
@@ -47,7 +46,7 @@ fn formatted(format: &FmtArgs<'_>, out: &mut Layout) -> Result<(), AllocError>
 }
 
 /// Adds arguments, each behind a comma.
-fn arguments(all: &[FmtArg<'_>], out: &mut Layout) -> Result<(), AllocError>
+fn arguments(all: &[FmtArg<'_>], out: &mut Layout) -> Printed
     ensures { OnOk result (out.new ≡ lay out.old (syntax.spaced spec.comma false (map spec.fmt_arg_trees (map fmt_arg_view all.now)))) }
 {
     for one in all {
@@ -57,14 +56,14 @@ fn arguments(all: &[FmtArg<'_>], out: &mut Layout) -> Result<(), AllocError>
     Ok(())
 }
 
-fn argument(tree: &FmtArg<'_>, out: &mut Layout) -> Result<(), AllocError>
+fn argument(tree: &FmtArg<'_>, out: &mut Layout) -> Printed
     ensures { OnOk result (out.new ≡ lay out.old (spec.fmt_arg_trees (fmt_arg_view tree.now))) }
 {
     alias(&tree.alias, out)?;
     stream(out, &tree.value.tokens)
 }
 
-fn alias(alias: &Option<Ident<'_>>, out: &mut Layout) -> Result<(), AllocError>
+fn alias(alias: &Option<Ident<'_>>, out: &mut Layout) -> Printed
     ensures { OnOk result (out.new ≡ lay out.old (spec.alias_trees alias.now)) }
 {
     match alias {

@@ -12,107 +12,94 @@ ghost use Rattle.dm_print_types.specs.Laying.{lay};
 use crate::attr::attrs;
 use crate::expr::block;
 use dm_ast::{GenericParam, Path, Ty, WherePredicate};
-use dm_layout::Layout;
+use dm_layout::{Layout, Printed};
 use dm_output::{Assoc, Item, Method, MethodParam, Receiver};
 use dm_print_types::param::{param, predicate};
 use dm_print_types::path::{path, ty};
 use dm_print_types::token::{close, joint, name, open, punct, word, word_if};
 use dm_stream::Delim;
-use std::alloc::{AllocError, Global};
 
 /// Parameters with commas between them.
-fn joined_params(
-    all: &[GenericParam<'_>],
-    alloc: Global,
-    out: &mut Layout,
-) -> Result<(), AllocError>
+fn joined_params(all: &[GenericParam<'_>], out: &mut Layout) -> Printed
     ensures { OnOk result (out.new ≡ lay out.old (syntax.spaced spec.comma true (map spec.param_trees (map param_view all.now)))) }
 {
     for (i, one) in all.iter().enumerate() {
         if i > 0 {
             punct(out, ',')?;
         }
-        param(one, alloc, out)?;
+        param(one, out)?;
     }
     Ok(())
 }
 
 /// Adds an implementation's parameters, where it has some: `<'a, T>`.
-pub fn params(all: &[GenericParam<'_>], alloc: Global, out: &mut Layout) -> Result<(), AllocError>
+pub fn params(all: &[GenericParam<'_>], out: &mut Layout) -> Printed
     ensures { OnOk result (out.new ≡ lay out.old (spec.params_trees (map param_view all.now))) }
 {
     if all.is_empty() {
         return Ok(());
     }
     punct(out, '<')?;
-    joined_params(all, alloc, out)?;
+    joined_params(all, out)?;
     punct(out, '>')
 }
 
 /// Predicates with commas between them.
-fn joined_predicates(
-    all: &[WherePredicate<'_>],
-    alloc: Global,
-    out: &mut Layout,
-) -> Result<(), AllocError>
+fn joined_predicates(all: &[WherePredicate<'_>], out: &mut Layout) -> Printed
     ensures { OnOk result (out.new ≡ lay out.old (syntax.spaced spec.comma true (map spec.predicate_trees (map predicate_view all.now)))) }
 {
     for (i, one) in all.iter().enumerate() {
         if i > 0 {
             punct(out, ',')?;
         }
-        predicate(one, alloc, out)?;
+        predicate(one, out)?;
     }
     Ok(())
 }
 
 /// Adds an implementation's predicates, where it has some: `where T: A, U: B`.
-pub fn predicates(
-    all: &[WherePredicate<'_>],
-    alloc: Global,
-    out: &mut Layout,
-) -> Result<(), AllocError>
+pub fn predicates(all: &[WherePredicate<'_>], out: &mut Layout) -> Printed
     ensures { OnOk result (out.new ≡ lay out.old (spec.where_trees (map predicate_view all.now))) }
 {
     if all.is_empty() {
         return Ok(());
     }
     word(out, "where")?;
-    joined_predicates(all, alloc, out)
+    joined_predicates(all, out)
 }
 
-fn trait_path(of: &Option<Path<'_>>, alloc: Global, out: &mut Layout) -> Result<(), AllocError>
+fn trait_path(of: &Option<Path<'_>>, out: &mut Layout) -> Printed
     ensures { OnOk result (out.new ≡ lay out.old (spec.trait_trees (option_map path_view of.now))) }
 {
     match of {
         None => Ok(()),
         Some(of) => {
-            path(of, alloc, out)?;
+            path(of, out)?;
             word(out, "for")
         }
     }
 }
 
-fn assoc(tree: &Assoc<'_>, alloc: Global, out: &mut Layout) -> Result<(), AllocError>
+fn assoc(tree: &Assoc<'_>, out: &mut Layout) -> Printed
     ensures { OnOk result (out.new ≡ lay out.old (spec.assoc_trees (assoc_view tree.now))) }
 {
     word(out, "type")?;
     name(out, &tree.name)?;
     punct(out, '=')?;
-    ty(&tree.ty, alloc, out)?;
+    ty(&tree.ty, out)?;
     punct(out, ';')
 }
 
-fn assocs(all: &[Assoc<'_>], alloc: Global, out: &mut Layout) -> Result<(), AllocError>
+fn assocs(all: &[Assoc<'_>], out: &mut Layout) -> Printed
     ensures { OnOk result (out.new ≡ lay out.old (spec.in_turn (map spec.assoc_trees (map assoc_view all.now)))) }
 {
     for one in all {
-        assoc(one, alloc, out)?;
+        assoc(one, out)?;
     }
     Ok(())
 }
 
-fn receiver(out: &mut Layout, kind: Receiver) -> Result<(), AllocError>
+fn receiver(out: &mut Layout, kind: Receiver) -> Printed
     ensures { OnOk result (out.new ≡ lay out.old (spec.receiver_trees kind)) }
 {
     match kind {
@@ -129,43 +116,43 @@ fn receiver(out: &mut Layout, kind: Receiver) -> Result<(), AllocError>
     }
 }
 
-fn method_param(tree: &MethodParam<'_>, alloc: Global, out: &mut Layout) -> Result<(), AllocError>
+fn method_param(tree: &MethodParam<'_>, out: &mut Layout) -> Printed
     ensures { OnOk result (out.new ≡ lay out.old (spec.method_param_trees (method_param_view tree.now))) }
 {
     name(out, &tree.name)?;
     punct(out, ':')?;
-    ty(&tree.ty, alloc, out)
+    ty(&tree.ty, out)
 }
 
-fn inputs(method: &Method<'_>, alloc: Global, out: &mut Layout) -> Result<(), AllocError>
+fn inputs(method: &Method<'_>, out: &mut Layout) -> Printed
     ensures { OnOk result (out.new ≡ lay out.old (spec.inputs_trees method.now.receiver (option_map method_param_view method.now.param))) }
 {
     match (method.receiver, &method.param) {
         (None, None) => Ok(()),
-        (None, Some(param)) => method_param(param, alloc, out),
+        (None, Some(param)) => method_param(param, out),
         (Some(kind), None) => receiver(out, kind),
         (Some(kind), Some(param)) => {
             receiver(out, kind)?;
             punct(out, ',')?;
-            method_param(param, alloc, out)
+            method_param(param, out)
         }
     }
 }
 
-fn output(of: &Option<Ty<'_>>, alloc: Global, out: &mut Layout) -> Result<(), AllocError>
+fn output(of: &Option<Ty<'_>>, out: &mut Layout) -> Printed
     ensures { OnOk result (out.new ≡ lay out.old (spec.output_trees (option_map ty_view of.now))) }
 {
     match of {
         None => Ok(()),
         Some(of) => {
             joint(out, '-', '>')?;
-            ty(of, alloc, out)
+            ty(of, out)
         }
     }
 }
 
 /// Adds all of a method in front of its body.
-fn signature(tree: &Method<'_>, alloc: Global, out: &mut Layout) -> Result<(), AllocError>
+fn signature(tree: &Method<'_>, out: &mut Layout) -> Printed
     ensures { OnOk result (out.new ≡ lay out.old (spec.signature_trees (method_view tree.now))) }
 {
     attrs(out, tree.attrs.as_slice())?;
@@ -173,46 +160,46 @@ fn signature(tree: &Method<'_>, alloc: Global, out: &mut Layout) -> Result<(), A
     word(out, "fn")?;
     name(out, &tree.name)?;
     open(out, Delim::Paren)?;
-    inputs(tree, alloc, out)?;
+    inputs(tree, out)?;
     close(out, Delim::Paren)?;
-    output(&tree.output, alloc, out)
+    output(&tree.output, out)
 }
 
-fn method(tree: &Method<'_>, alloc: Global, out: &mut Layout) -> Result<(), AllocError>
+fn method(tree: &Method<'_>, out: &mut Layout) -> Printed
     ensures { OnOk result (out.new ≡ lay out.old (spec.method_trees (method_view tree.now))) }
 {
-    signature(tree, alloc, out)?;
-    block(&tree.body, alloc, out)
+    signature(tree, out)?;
+    block(&tree.body, out)
 }
 
-fn methods(all: &[Method<'_>], alloc: Global, out: &mut Layout) -> Result<(), AllocError>
+fn methods(all: &[Method<'_>], out: &mut Layout) -> Printed
     ensures { OnOk result (out.new ≡ lay out.old (spec.in_turn (map spec.method_trees (map method_view all.now)))) }
 {
     for one in all {
-        method(one, alloc, out)?;
+        method(one, out)?;
     }
     Ok(())
 }
 
 /// Adds all of an implementation in front of its brace.
-fn head(tree: &Item<'_>, alloc: Global, out: &mut Layout) -> Result<(), AllocError>
+fn head(tree: &Item<'_>, out: &mut Layout) -> Printed
     ensures { OnOk result (out.new ≡ lay out.old (spec.head_trees (item_view tree.now))) }
 {
     attrs(out, tree.attrs.as_slice())?;
     word(out, "impl")?;
-    params(tree.params.as_slice(), alloc, out)?;
-    trait_path(&tree.trait_path, alloc, out)?;
-    ty(&tree.ty, alloc, out)?;
-    predicates(tree.predicates.as_slice(), alloc, out)
+    params(tree.params.as_slice(), out)?;
+    trait_path(&tree.trait_path, out)?;
+    ty(&tree.ty, out)?;
+    predicates(tree.predicates.as_slice(), out)
 }
 
 /// Adds an implementation.
-pub fn item(tree: &Item<'_>, alloc: Global, out: &mut Layout) -> Result<(), AllocError>
+pub fn item(tree: &Item<'_>, out: &mut Layout) -> Printed
     ensures { OnOk result (out.new ≡ lay out.old (spec.item_trees (item_view tree.now))) }
 {
-    head(tree, alloc, out)?;
+    head(tree, out)?;
     open(out, Delim::Brace)?;
-    assocs(tree.assocs.as_slice(), alloc, out)?;
-    methods(tree.methods.as_slice(), alloc, out)?;
+    assocs(tree.assocs.as_slice(), out)?;
+    methods(tree.methods.as_slice(), out)?;
     close(out, Delim::Brace)
 }

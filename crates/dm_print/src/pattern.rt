@@ -8,14 +8,13 @@ ghost use Rattle.dm_output.specs.Tokens as spec;
 ghost use Rattle.dm_output.specs.Views.{pattern_view, named_view};
 ghost use Rattle.dm_print_types.specs.Laying.{lay};
 
-use dm_layout::Layout;
+use dm_layout::{Layout, Printed};
 use dm_output::{Binding, NamedPattern, Pattern};
 use dm_print_types::path::path;
 use dm_print_types::token::{close, joint_if, literal, name, open, punct, word};
 use dm_stream::Delim;
-use std::alloc::{AllocError, Global};
 
-fn binding(out: &mut Layout, how: Binding) -> Result<(), AllocError>
+fn binding(out: &mut Layout, how: Binding) -> Printed
     ensures { OnOk result (out.new ≡ lay out.old (spec.binding_trees how)) }
 {
     match how {
@@ -29,7 +28,7 @@ fn binding(out: &mut Layout, how: Binding) -> Result<(), AllocError>
 }
 
 #[cycle(pattern)]
-fn pattern(tree: &Pattern<'_>, alloc: Global, out: &mut Layout) -> Result<(), AllocError>
+fn pattern(tree: &Pattern<'_>, out: &mut Layout) -> Printed
     ensures { OnOk result (out.new ≡ lay out.old (spec.pattern_trees (pattern_view tree.now))) }
 {
     match tree {
@@ -39,25 +38,25 @@ fn pattern(tree: &Pattern<'_>, alloc: Global, out: &mut Layout) -> Result<(), Al
             name(out, ident)
         }
         Pattern::Str(text) => literal(out, text),
-        Pattern::Path(of) => path(of, alloc, out),
+        Pattern::Path(of) => path(of, out),
         Pattern::Tuple(of, fields) => {
-            path(of, alloc, out)?;
+            path(of, out)?;
             open(out, Delim::Paren)?;
-            ended(fields.as_slice(), alloc, out)?;
+            ended(fields.as_slice(), out)?;
             close(out, Delim::Paren)
         }
         Pattern::Named(of, fields, rest) => {
-            path(of, alloc, out)?;
+            path(of, out)?;
             open(out, Delim::Brace)?;
-            named(fields.as_slice(), alloc, out)?;
+            named(fields.as_slice(), out)?;
             joint_if(out, *rest, '.', '.')?;
             close(out, Delim::Brace)
         }
         Pattern::Pair(first, second) => {
             open(out, Delim::Paren)?;
-            pattern(first, alloc, out)?;
+            pattern(first, out)?;
             punct(out, ',')?;
-            pattern(second, alloc, out)?;
+            pattern(second, out)?;
             close(out, Delim::Paren)
         }
     }
@@ -65,11 +64,11 @@ fn pattern(tree: &Pattern<'_>, alloc: Global, out: &mut Layout) -> Result<(), Al
 
 /// Patterns, each with a comma behind it.
 #[cycle(pattern)]
-fn ended(all: &[Pattern<'_>], alloc: Global, out: &mut Layout) -> Result<(), AllocError>
+fn ended(all: &[Pattern<'_>], out: &mut Layout) -> Printed
     ensures { OnOk result (out.new ≡ lay out.old (spec.ended (spec.each_pattern (patterns_of (map pattern_view all.now))))) }
 {
     for one in all {
-        pattern(one, alloc, out)?;
+        pattern(one, out)?;
         punct(out, ',')?;
     }
     Ok(())
@@ -77,27 +76,27 @@ fn ended(all: &[Pattern<'_>], alloc: Global, out: &mut Layout) -> Result<(), All
 
 /// Fields, each with a comma behind it.
 #[cycle(pattern)]
-fn named(all: &[NamedPattern<'_>], alloc: Global, out: &mut Layout) -> Result<(), AllocError>
+fn named(all: &[NamedPattern<'_>], out: &mut Layout) -> Printed
     ensures { OnOk result (out.new ≡ lay out.old (spec.ended (spec.each_named (named_of (map named_view all.now))))) }
 {
     for one in all {
         name(out, &one.name)?;
         punct(out, ':')?;
-        pattern(&one.pattern, alloc, out)?;
+        pattern(&one.pattern, out)?;
         punct(out, ',')?;
     }
     Ok(())
 }
 
 /// Patterns with `|` between them.
-pub fn patterns(all: &[Pattern<'_>], alloc: Global, out: &mut Layout) -> Result<(), AllocError>
+pub fn patterns(all: &[Pattern<'_>], out: &mut Layout) -> Printed
     ensures { OnOk result (out.new ≡ lay out.old (syntax.spaced (spec.punct 124) true (spec.each_pattern (patterns_of (map pattern_view all.now))))) }
 {
     for (i, one) in all.iter().enumerate() {
         if i > 0 {
             punct(out, '|')?;
         }
-        pattern(one, alloc, out)?;
+        pattern(one, out)?;
     }
     Ok(())
 }

@@ -3,4 +3,3 @@ pub mod Texts
 pub mod Answers
 pub mod Derived
 pub mod Counts
-pub mod Codes

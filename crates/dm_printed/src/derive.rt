@@ -54,7 +54,7 @@ fn print_known(alloc: Global, derived: Trait, decl: &str) -> Result<String, Erro
     ensures { (name : List ℕ) → Names name (trait_view derived) → Prints name decl.now result }
 {
     match read(alloc, decl) {
-        Ok(input) => printed(alloc, derived, input.as_input()),
+        Ok(input) => printed(alloc, derived, input.as_tree()),
         Err(error) => Err(error),
     }
 }
@@ -75,7 +75,7 @@ fn count_known(alloc: Global, derived: Trait, decl: &str) -> Result<usize, Error
     ensures { (name : List ℕ) → Names name (trait_view derived) → Counts name decl.now result }
 {
     match read(alloc, decl) {
-        Ok(input) => counted(alloc, derived, input.as_input()),
+        Ok(input) => counted(alloc, derived, input.as_tree()),
         Err(error) => Err(error),
     }
 }

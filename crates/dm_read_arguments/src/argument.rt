@@ -18,8 +18,7 @@ use dm_input::join::joined;
 use dm_nodes::expr::{ExprNode, ExprNodes, FieldNode, FieldNodes};
 use dm_nodes::make_block::named_expr;
 use dm_read_places::list::{Rule, Turn, gathered};
-use dm_read_places::place::Place;
-use dm_stream::Error;
+use dm_read_places::place::{Place, Read};
 
 /// Arguments behind the first, each with a comma in front.
 #[derive(Drop)]
@@ -27,12 +26,8 @@ struct ArgRule<'g, F> {
     rules: &'g Exprs<F>,
 }
 
-impl<
-    'g,
-    'a,
-    F: Copy + for<'t, 'b> Fn(&mut Place<'t, 'b>, Wanted) -> Result<ExprNode<'b>, Error>,
-> Rule<'a> for ArgRule<'g, F> {
-    ghost use Rattle.std.specs.Prelude.{Bool};
+impl<'g, 'a, F: Copy + for<'t, 'b> Fn(&mut Place<'t, 'b>, Wanted) -> Read<ExprNode<'b>>> Rule<'a>
+    for ArgRule<'g, F> {
     ghost use Rattle.dm_output.specs.Output.{ExprTree};
     ghost use Rattle.dm_output.specs.Views.{expr_view};
     ghost use Rattle.dm_read_arguments.specs.ExprNests.{ExprNests};
@@ -44,21 +39,13 @@ impl<
 
     ghost Tree = { ExprTree };
 
-    ghost Tail = { Bool };
-
     ghost view = { expr_view };
-
-    ghost last = { λ b. b };
 
     ghost usable = { λ r. ExprNests r.rules.now.room (F.pre r.rules.now.expr) (F.post r.rules.now.expr) };
 
     ghost reader = { λ r. arg_turn };
 
-    fn turn(
-        &self,
-        fuel: usize,
-        place: &mut Place<'_, 'a>,
-    ) -> Result<Turn<ExprNode<'a>, bool>, Error> {
+    fn turn(&self, fuel: usize, place: &mut Place<'_, 'a>) -> Read<Turn<ExprNode<'a>, bool>> {
         if place.at_end() {
             return Ok(Turn::End(false));
         }
@@ -76,11 +63,8 @@ struct FieldRule<'g, F> {
     rules: &'g Exprs<F>,
 }
 
-impl<
-    'g,
-    'a,
-    F: Copy + for<'t, 'b> Fn(&mut Place<'t, 'b>, Wanted) -> Result<ExprNode<'b>, Error>,
-> Rule<'a> for FieldRule<'g, F> {
+impl<'g, 'a, F: Copy + for<'t, 'b> Fn(&mut Place<'t, 'b>, Wanted) -> Read<ExprNode<'b>>> Rule<'a>
+    for FieldRule<'g, F> {
     ghost use Rattle.dm_stream.specs.declared.tokens.Ident.{Ident};
     ghost use Rattle.dm_output.specs.Output.{ExprTree};
     ghost use Rattle.dm_output.specs.Views.{named_expr_view};
@@ -93,21 +77,13 @@ impl<
 
     ghost Tree = { Ident × ExprTree };
 
-    ghost Tail = { Unit {0} };
-
     ghost view = { named_expr_view };
-
-    ghost last = { λ u. u };
 
     ghost usable = { λ r. ExprNests r.rules.now.room (F.pre r.rules.now.expr) (F.post r.rules.now.expr) };
 
     ghost reader = { λ r. field_turn };
 
-    fn turn(
-        &self,
-        fuel: usize,
-        place: &mut Place<'_, 'a>,
-    ) -> Result<Turn<FieldNode<'a>, ()>, Error> {
+    fn turn(&self, fuel: usize, place: &mut Place<'_, 'a>) -> Read<Turn<FieldNode<'a>, ()>> {
         if place.at_end() {
             return Ok(Turn::End(()));
         }
@@ -115,9 +91,9 @@ impl<
     }
 }
 
-impl<F: Copy + for<'t, 'b> Fn(&mut Place<'t, 'b>, Wanted) -> Result<ExprNode<'b>, Error>> Exprs<F> {
+impl<F: Copy + for<'t, 'b> Fn(&mut Place<'t, 'b>, Wanted) -> Read<ExprNode<'b>>> Exprs<F> {
     /// Arguments behind the first, and whether a comma stands behind the last.
-    fn others<'a>(&self, place: &mut Place<'_, 'a>) -> Result<(ExprNodes<'a>, bool), Error>
+    fn others<'a>(&self, place: &mut Place<'_, 'a>) -> Read<(ExprNodes<'a>, bool)>
         requires { ExprNests self.now.room (F.pre self.now.expr) (F.post self.now.expr) }
         ensures { ReadsWhole (λ v. (exprs_of (map expr_view v.0), v.1)) (rows self.now.fuel).args place.old result }
     {
@@ -126,7 +102,7 @@ impl<F: Copy + for<'t, 'b> Fn(&mut Place<'t, 'b>, Wanted) -> Result<ExprNode<'b>
     }
 
     /// Some arguments to the end, and whether a comma stands behind the last.
-    fn some<'a>(&self, place: &mut Place<'_, 'a>) -> Result<(ExprNodes<'a>, bool), Error>
+    fn some<'a>(&self, place: &mut Place<'_, 'a>) -> Read<(ExprNodes<'a>, bool)>
         requires { ExprNests self.now.room (F.pre self.now.expr) (F.post self.now.expr) }
         ensures { ReadsWhole (λ v. (exprs_of (map expr_view v.0), v.1)) (first_arg (rows self.now.fuel)) place.old result }
     {
@@ -136,7 +112,7 @@ impl<F: Copy + for<'t, 'b> Fn(&mut Place<'t, 'b>, Wanted) -> Result<ExprNode<'b>
     }
 
     /// Arguments to the end, and whether a comma stands behind the last.
-    pub fn arguments<'a>(&self, place: &mut Place<'_, 'a>) -> Result<(ExprNodes<'a>, bool), Error>
+    pub fn arguments<'a>(&self, place: &mut Place<'_, 'a>) -> Read<(ExprNodes<'a>, bool)>
         requires { ExprNests self.now.room (F.pre self.now.expr) (F.post self.now.expr) }
         ensures { ReadsWhole (λ v. (exprs_of (map expr_view v.0), v.1)) (read_args (rows self.now.fuel) false) place.old result }
     {
@@ -147,7 +123,7 @@ impl<F: Copy + for<'t, 'b> Fn(&mut Place<'t, 'b>, Wanted) -> Result<ExprNode<'b>
     }
 
     /// `:`, a value and a comma.
-    fn value<'a>(&self, place: &mut Place<'_, 'a>) -> Result<ExprNode<'a>, Error>
+    fn value<'a>(&self, place: &mut Place<'_, 'a>) -> Read<ExprNode<'a>>
         requires { ExprNests self.now.room (F.pre self.now.expr) (F.post self.now.expr) }
         ensures { Reads expr_view (value_behind self.now.fuel) place.old result place.new }
     {
@@ -156,7 +132,7 @@ impl<F: Copy + for<'t, 'b> Fn(&mut Place<'t, 'b>, Wanted) -> Result<ExprNode<'b>
     }
 
     /// A field with its value and a comma.
-    fn field<'a>(&self, place: &mut Place<'_, 'a>) -> Result<FieldNode<'a>, Error>
+    fn field<'a>(&self, place: &mut Place<'_, 'a>) -> Read<FieldNode<'a>>
         requires { ExprNests self.now.room (F.pre self.now.expr) (F.post self.now.expr) }
         ensures { Reads named_expr_view (λ ts. field_value self.now.fuel (next ts)) place.old result place.new }
     {
@@ -166,7 +142,7 @@ impl<F: Copy + for<'t, 'b> Fn(&mut Place<'t, 'b>, Wanted) -> Result<ExprNode<'b>
     }
 
     /// Fields with values, to the end.
-    pub fn fields<'a>(&self, place: &mut Place<'_, 'a>) -> Result<FieldNodes<'a>, Error>
+    pub fn fields<'a>(&self, place: &mut Place<'_, 'a>) -> Read<FieldNodes<'a>>
         requires { ExprNests self.now.room (F.pre self.now.expr) (F.post self.now.expr) }
         ensures { ReadsWhole (λ v. named_exprs_of (map named_expr_view v)) (rows self.now.fuel).named_exprs place.old result }
     {

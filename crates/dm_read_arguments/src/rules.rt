@@ -12,8 +12,7 @@ ghost use Rattle.dm_read_arguments.specs.Turns as spec;
 use crate::sort::{Sort, Wanted};
 use dm_input::join::ended;
 use dm_nodes::expr::ExprNode;
-use dm_read_places::place::Place;
-use dm_stream::Error;
+use dm_read_places::place::{Place, Read};
 
 /// The rules of expressions.
 #[derive(Clone, Copy)]
@@ -26,7 +25,7 @@ pub struct Exprs<F> {
     pub expr: F,
 }
 
-impl<F: Copy + for<'t, 'b> Fn(&mut Place<'t, 'b>, Wanted) -> Result<ExprNode<'b>, Error>> Exprs<F> {
+impl<F: Copy + for<'t, 'b> Fn(&mut Place<'t, 'b>, Wanted) -> Read<ExprNode<'b>>> Exprs<F> {
     /// The rules with other fuel.
     pub fn with(&self, fuel: usize) -> Exprs<F>
         ensures { result ≡ record { fuel = fuel; room = self.now.room; expr = self.now.expr } }
@@ -50,7 +49,7 @@ impl<F: Copy + for<'t, 'b> Fn(&mut Place<'t, 'b>, Wanted) -> Result<ExprNode<'b>
     }
 
     /// An expression.
-    pub fn whole<'a>(&self, braces: bool, place: &mut Place<'_, 'a>) -> Result<ExprNode<'a>, Error>
+    pub fn whole<'a>(&self, braces: bool, place: &mut Place<'_, 'a>) -> Read<ExprNode<'a>>
         requires { ExprNests self.now.room (F.pre self.now.expr) (F.post self.now.expr) }
         ensures { Reads expr_view ((rows self.now.fuel).expr braces) place.old result place.new }
     {
@@ -58,11 +57,7 @@ impl<F: Copy + for<'t, 'b> Fn(&mut Place<'t, 'b>, Wanted) -> Result<ExprNode<'b>
     }
 
     /// An operand.
-    pub fn operand<'a>(
-        &self,
-        braces: bool,
-        place: &mut Place<'_, 'a>,
-    ) -> Result<ExprNode<'a>, Error>
+    pub fn operand<'a>(&self, braces: bool, place: &mut Place<'_, 'a>) -> Read<ExprNode<'a>>
         requires { ExprNests self.now.room (F.pre self.now.expr) (F.post self.now.expr) }
         ensures { Reads expr_view ((rows self.now.fuel).pre braces) place.old result place.new }
     {
@@ -70,7 +65,7 @@ impl<F: Copy + for<'t, 'b> Fn(&mut Place<'t, 'b>, Wanted) -> Result<ExprNode<'b>
     }
 
     /// An expression, and nothing behind it.
-    pub fn alone<'a>(&self, place: &mut Place<'_, 'a>) -> Result<ExprNode<'a>, Error>
+    pub fn alone<'a>(&self, place: &mut Place<'_, 'a>) -> Read<ExprNode<'a>>
         requires { ExprNests self.now.room (F.pre self.now.expr) (F.post self.now.expr) }
         ensures { ReadsWhole expr_view (λ ts. whole ((rows self.now.fuel).expr true ts)) place.old result }
     {
@@ -79,7 +74,7 @@ impl<F: Copy + for<'t, 'b> Fn(&mut Place<'t, 'b>, Wanted) -> Result<ExprNode<'b>
     }
 
     /// An expression, and a comma behind it.
-    pub fn before_comma<'a>(&self, place: &mut Place<'_, 'a>) -> Result<ExprNode<'a>, Error>
+    pub fn before_comma<'a>(&self, place: &mut Place<'_, 'a>) -> Read<ExprNode<'a>>
         requires { ExprNests self.now.room (F.pre self.now.expr) (F.post self.now.expr) }
         ensures { Reads expr_view (spec.before_comma self.now.fuel) place.old result place.new }
     {

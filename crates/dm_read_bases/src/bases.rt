@@ -27,7 +27,7 @@ use dm_read_leaves::qualified::{plain_path, qualified};
 use dm_read_places::expect::is_str;
 use dm_read_places::front::Sign;
 use dm_read_places::path::path;
-use dm_read_places::place::Place;
+use dm_read_places::place::{Place, Read};
 use dm_stream::{Delim, Error, Literal};
 use std::alloc::{AllocError, Global};
 
@@ -39,7 +39,7 @@ pub struct Bases<F> {
 }
 
 /// A string.
-fn text<'a>(found: &Literal<'a>, place: &Place<'_, 'a>) -> Result<ExprNode<'a>, Error>
+fn text<'a>(found: &Literal<'a>, place: &Place<'_, 'a>) -> Read<ExprNode<'a>>
     ensures { ReadsWhole expr_view spec.text found.now result }
 {
     if !is_str(found.kind) {
@@ -51,11 +51,7 @@ fn text<'a>(found: &Literal<'a>, place: &Place<'_, 'a>) -> Result<ExprNode<'a>, 
 
 /// One part without a comma is in parentheses, others are a tuple. A comma behind the last of some is refused.
 #[tactic(auto, using(crate::proofs::TupleSteps::tuple_steps))]
-fn tuple_or_paren<'a>(
-    parts: ExprNodes<'a>,
-    last: bool,
-    place: &Place<'_, 'a>,
-) -> Result<ExprNode<'a>, Error>
+fn tuple_or_paren<'a>(parts: ExprNodes<'a>, last: bool, place: &Place<'_, 'a>) -> Read<ExprNode<'a>>
     ensures { ReadsWhole expr_view (spec.tuple_only last) (exprs_of (map expr_view parts.entry)) result }
 {
     if parts.is_empty() {
@@ -91,13 +87,9 @@ fn called<'a>(
     }
 }
 
-impl<F: Copy + for<'t, 'b> Fn(&mut Place<'t, 'b>, Wanted) -> Result<ExprNode<'b>, Error>> Bases<F> {
+impl<F: Copy + for<'t, 'b> Fn(&mut Place<'t, 'b>, Wanted) -> Read<ExprNode<'b>>> Bases<F> {
     /// A path, or braces with fields behind it.
-    fn braced<'a>(
-        &self,
-        path: PathExpr<'a>,
-        place: &mut Place<'_, 'a>,
-    ) -> Result<ExprNode<'a>, Error>
+    fn braced<'a>(&self, path: PathExpr<'a>, place: &mut Place<'_, 'a>) -> Read<ExprNode<'a>>
         requires { ExprNests self.now.parts.room (F.pre self.now.parts.expr) (F.post self.now.parts.expr) }
         ensures { Reads expr_view (λ ts. spec.braced_path self.now.parts.fuel (maybe_self_view path.entry.qself) (path_view path.entry.path) ts (next ts)) place.old result place.new }
     {
@@ -114,7 +106,7 @@ impl<F: Copy + for<'t, 'b> Fn(&mut Place<'t, 'b>, Wanted) -> Result<ExprNode<'b>
         braces: bool,
         path: PathExpr<'a>,
         place: &mut Place<'_, 'a>,
-    ) -> Result<ExprNode<'a>, Error>
+    ) -> Read<ExprNode<'a>>
         requires { ExprNests self.now.parts.room (F.pre self.now.parts.expr) (F.post self.now.parts.expr) }
         ensures { Reads expr_view (λ ts. spec.behind_path self.now.parts.fuel braces (maybe_self_view path.entry.qself) (path_view path.entry.path) ts (next ts)) place.old result place.new }
     {
@@ -129,11 +121,7 @@ impl<F: Copy + for<'t, 'b> Fn(&mut Place<'t, 'b>, Wanted) -> Result<ExprNode<'b>
     }
 
     /// The call of the macro with this path, behind `!`.
-    fn macro_behind<'a>(
-        &self,
-        path: &Path<'a>,
-        place: &mut Place<'_, 'a>,
-    ) -> Result<ExprNode<'a>, Error>
+    fn macro_behind<'a>(&self, path: &Path<'a>, place: &mut Place<'_, 'a>) -> Read<ExprNode<'a>>
         requires { ExprNests self.now.parts.room (F.pre self.now.parts.expr) (F.post self.now.parts.expr) }
         ensures { Reads expr_view (λ ts. plain.macro_from (rows self.now.parts.fuel) (path_view path.now) (next ts)) place.old result place.new }
     {
@@ -149,7 +137,7 @@ impl<F: Copy + for<'t, 'b> Fn(&mut Place<'t, 'b>, Wanted) -> Result<ExprNode<'b>
         braces: bool,
         path: Path<'a>,
         place: &mut Place<'_, 'a>,
-    ) -> Result<ExprNode<'a>, Error>
+    ) -> Read<ExprNode<'a>>
         requires { ExprNests self.now.parts.room (F.pre self.now.parts.expr) (F.post self.now.parts.expr) }
         ensures { Reads expr_view (spec.with_path self.now.parts.fuel braces (path_view path.entry)) place.old result place.new }
     {
@@ -160,7 +148,7 @@ impl<F: Copy + for<'t, 'b> Fn(&mut Place<'t, 'b>, Wanted) -> Result<ExprNode<'b>
     }
 
     /// What begins with a path.
-    fn path_base<'a>(&self, braces: bool, place: &mut Place<'_, 'a>) -> Result<ExprNode<'a>, Error>
+    fn path_base<'a>(&self, braces: bool, place: &mut Place<'_, 'a>) -> Read<ExprNode<'a>>
         requires { ExprNests self.now.parts.room (F.pre self.now.parts.expr) (F.post self.now.parts.expr) }
         ensures { Reads expr_view (λ ts. plain.path_base (rows self.now.parts.fuel) braces (next ts)) place.old result place.new }
     {
@@ -169,11 +157,7 @@ impl<F: Copy + for<'t, 'b> Fn(&mut Place<'t, 'b>, Wanted) -> Result<ExprNode<'b>
     }
 
     /// What begins with a qualified path.
-    fn qualified_base<'a>(
-        &self,
-        braces: bool,
-        place: &mut Place<'_, 'a>,
-    ) -> Result<ExprNode<'a>, Error>
+    fn qualified_base<'a>(&self, braces: bool, place: &mut Place<'_, 'a>) -> Read<ExprNode<'a>>
         requires { ExprNests self.now.parts.room (F.pre self.now.parts.expr) (F.post self.now.parts.expr) }
         ensures { Reads expr_view (plain.qualified_base (rows self.now.parts.fuel) braces) place.old result place.new }
     {
@@ -186,7 +170,7 @@ impl<F: Copy + for<'t, 'b> Fn(&mut Place<'t, 'b>, Wanted) -> Result<ExprNode<'b>
         &self,
         inside: &Place<'_, 'a>,
         second: &mut Place<'_, 'a>,
-    ) -> Result<ExprNode<'a>, Error>
+    ) -> Read<ExprNode<'a>>
         requires { ExprNests self.now.parts.room (F.pre self.now.parts.expr) (F.post self.now.parts.expr) }
         ensures { ReadsWhole expr_view (spec.opaque_called self.now.parts.fuel inside.now) second.old result }
     {
@@ -199,7 +183,7 @@ impl<F: Copy + for<'t, 'b> Fn(&mut Place<'t, 'b>, Wanted) -> Result<ExprNode<'b>
     }
 
     /// The inside of a group: an expression in parentheses, or a tuple.
-    fn parts<'a>(&self, inside: &mut Place<'_, 'a>) -> Result<ExprNode<'a>, Error>
+    fn parts<'a>(&self, inside: &mut Place<'_, 'a>) -> Read<ExprNode<'a>>
         requires { ExprNests self.now.parts.room (F.pre self.now.parts.expr) (F.post self.now.parts.expr) }
         ensures { ReadsWhole expr_view (spec.parts self.now.parts.fuel) inside.old result }
     {
@@ -212,7 +196,7 @@ impl<F: Copy + for<'t, 'b> Fn(&mut Place<'t, 'b>, Wanted) -> Result<ExprNode<'b>
         &self,
         inside: &mut Place<'_, 'a>,
         place: &mut Place<'_, 'a>,
-    ) -> Result<ExprNode<'a>, Error>
+    ) -> Read<ExprNode<'a>>
         requires { ExprNests self.now.parts.room (F.pre self.now.parts.expr) (F.post self.now.parts.expr) }
         ensures { Reads expr_view (λ ts. plain.group_from (rows self.now.parts.fuel) inside.old ts (next ts)) place.old result place.new }
     {
@@ -223,7 +207,7 @@ impl<F: Copy + for<'t, 'b> Fn(&mut Place<'t, 'b>, Wanted) -> Result<ExprNode<'b>
     }
 
     /// What stands behind `unsafe`: a block of one expression. Refused where an expression inside is, or at the first token that doesn't fit.
-    pub fn unsafe_block<'a>(&self, place: &mut Place<'_, 'a>) -> Result<ExprNode<'a>, Error>
+    pub fn unsafe_block<'a>(&self, place: &mut Place<'_, 'a>) -> Read<ExprNode<'a>>
         requires { ExprNests self.now.parts.room (F.pre self.now.parts.expr) (F.post self.now.parts.expr) }
         ensures { Reads expr_view (λ ts. plain.unsafe_of (rows self.now.parts.fuel) (next ts)) place.old result place.new }
     {
@@ -235,7 +219,7 @@ impl<F: Copy + for<'t, 'b> Fn(&mut Place<'t, 'b>, Wanted) -> Result<ExprNode<'b>
     }
 
     /// A string, or what begins with a path. Refused where an expression inside is, or at the first token that doesn't fit.
-    pub fn leaf<'a>(&self, braces: bool, place: &mut Place<'_, 'a>) -> Result<ExprNode<'a>, Error>
+    pub fn leaf<'a>(&self, braces: bool, place: &mut Place<'_, 'a>) -> Read<ExprNode<'a>>
         requires { ExprNests self.now.parts.room (F.pre self.now.parts.expr) (F.post self.now.parts.expr) }
         ensures { Reads expr_view (λ ts. spec.leaf self.now.parts.fuel braces ts (next ts)) place.old result place.new }
     {

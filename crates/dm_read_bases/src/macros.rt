@@ -17,8 +17,7 @@ use dm_output::FmtArgs;
 use dm_read::token::is_word;
 use dm_read_formats::format::format;
 use dm_read_places::path::segment_alone;
-use dm_read_places::place::Place;
-use dm_stream::Error;
+use dm_read_places::place::{Place, Read};
 
 /// Whether a segment is this word, without arguments.
 fn is_segment(word: &str, segment: &PathSegment<'_>) -> bool
@@ -49,7 +48,7 @@ fn is_core_macro(called: &str, path: &Path<'_>) -> bool
 }
 
 /// A comma and a format, to the end.
-fn behind_comma<'a>(fuel: usize, place: &mut Place<'_, 'a>) -> Result<FmtArgs<'a>, Error>
+fn behind_comma<'a>(fuel: usize, place: &mut Place<'_, 'a>) -> Read<FmtArgs<'a>>
     ensures { ReadsWhole fmt_view (fmt_behind_comma fuel) place.old result }
 {
     place.comma()?;
@@ -57,7 +56,7 @@ fn behind_comma<'a>(fuel: usize, place: &mut Place<'_, 'a>) -> Result<FmtArgs<'a
 }
 
 /// What stands in the parentheses of `write!`.
-fn write_call<'a>(fuel: usize, place: &mut Place<'_, 'a>) -> Result<ExprNode<'a>, Error>
+fn write_call<'a>(fuel: usize, place: &mut Place<'_, 'a>) -> Read<ExprNode<'a>>
     ensures { ReadsWhole expr_view (named_write fuel) place.old result }
 {
     let name = place.declared()?;
@@ -66,7 +65,7 @@ fn write_call<'a>(fuel: usize, place: &mut Place<'_, 'a>) -> Result<ExprNode<'a>
 }
 
 /// What stands in the parentheses of `format_args!`.
-fn format_args_call<'a>(fuel: usize, place: &mut Place<'_, 'a>) -> Result<ExprNode<'a>, Error>
+fn format_args_call<'a>(fuel: usize, place: &mut Place<'_, 'a>) -> Read<ExprNode<'a>>
     ensures { ReadsWhole expr_view (format_args_from fuel) place.old result }
 {
     let format = format(fuel, place)?;
@@ -79,7 +78,7 @@ pub(crate) fn macro_call<'a>(
     path: &Path<'_>,
     fuel: usize,
     place: &mut Place<'_, 'a>,
-) -> Result<ExprNode<'a>, Error>
+) -> Read<ExprNode<'a>>
     ensures { ReadsWhole expr_view (plain.macro_of (rows fuel) (path_view path.now)) place.old result }
 {
     if is_core_macro("write", path) {

@@ -23,14 +23,12 @@ use dm_read_arguments::sort::Wanted;
 use dm_read_patterns::arm::arm_patterns;
 use dm_read_places::front::Keyword;
 use dm_read_places::list::Turn;
-use dm_read_places::place::Place;
-use dm_stream::{Delim, Error};
+use dm_read_places::place::{Place, Read};
+use dm_stream::Delim;
 
-impl<F: Copy + for<'t, 'b> Fn(&mut Place<'t, 'b>, Wanted) -> Result<ExprNode<'b>, Error>> Blocks<
-    F,
-> {
+impl<F: Copy + for<'t, 'b> Fn(&mut Place<'t, 'b>, Wanted) -> Read<ExprNode<'b>>> Blocks<F> {
     /// `if` and a condition, or nothing.
-    fn guard<'a>(&self, place: &mut Place<'_, 'a>) -> Result<Option<ExprNode<'a>>, Error>
+    fn guard<'a>(&self, place: &mut Place<'_, 'a>) -> Read<Option<ExprNode<'a>>>
         requires { ExprNests self.now.parts.room (F.pre self.now.parts.expr) (F.post self.now.parts.expr) }
         ensures { Reads (λ o. tree.maybe_expr (option_map expr_view o)) (λ ts. plain.read_guard (rows self.now.parts.fuel) ts (next ts)) place.old result place.new }
     {
@@ -41,7 +39,7 @@ impl<F: Copy + for<'t, 'b> Fn(&mut Place<'t, 'b>, Wanted) -> Result<ExprNode<'b>
     }
 
     /// A block, or an expression.
-    fn body<'a>(&self, place: &mut Place<'_, 'a>) -> Result<BodyNode<'a>, Error>
+    fn body<'a>(&self, place: &mut Place<'_, 'a>) -> Read<BodyNode<'a>>
         requires { ExprNests self.now.parts.room (F.pre self.now.parts.expr) (F.post self.now.parts.expr) }
         ensures { Reads body_view (λ ts. plain.read_body (rows self.now.parts.fuel) ts (next ts)) place.old result place.new }
     {
@@ -54,7 +52,7 @@ impl<F: Copy + for<'t, 'b> Fn(&mut Place<'t, 'b>, Wanted) -> Result<ExprNode<'b>
     }
 
     /// `=>`, a body and a comma.
-    fn arm_body<'a>(&self, place: &mut Place<'_, 'a>) -> Result<BodyNode<'a>, Error>
+    fn arm_body<'a>(&self, place: &mut Place<'_, 'a>) -> Read<BodyNode<'a>>
         requires { ExprNests self.now.parts.room (F.pre self.now.parts.expr) (F.post self.now.parts.expr) }
         ensures { Reads body_view (turns.arm_body self.now.parts.fuel) place.old result place.new }
     {
@@ -67,7 +65,7 @@ impl<F: Copy + for<'t, 'b> Fn(&mut Place<'t, 'b>, Wanted) -> Result<ExprNode<'b>
     fn behind_patterns<'a>(
         &self,
         place: &mut Place<'_, 'a>,
-    ) -> Result<(Option<ExprNode<'a>>, BodyNode<'a>), Error>
+    ) -> Read<(Option<ExprNode<'a>>, BodyNode<'a>)>
         requires { ExprNests self.now.parts.room (F.pre self.now.parts.expr) (F.post self.now.parts.expr) }
         ensures { Reads (λ v. (tree.maybe_expr (option_map expr_view v.0), body_view v.1)) (turns.arm_behind self.now.parts.fuel) place.old result place.new }
     {
@@ -76,7 +74,7 @@ impl<F: Copy + for<'t, 'b> Fn(&mut Place<'t, 'b>, Wanted) -> Result<ExprNode<'b>
     }
 
     /// An arm.
-    fn arm<'a>(&self, place: &mut Place<'_, 'a>) -> Result<ArmNode<'a>, Error>
+    fn arm<'a>(&self, place: &mut Place<'_, 'a>) -> Read<ArmNode<'a>>
         requires { ExprNests self.now.parts.room (F.pre self.now.parts.expr) (F.post self.now.parts.expr) }
         ensures { Reads arm_view (turns.one_arm self.now.parts.fuel) place.old result place.new }
     {
@@ -86,11 +84,7 @@ impl<F: Copy + for<'t, 'b> Fn(&mut Place<'t, 'b>, Wanted) -> Result<ExprNode<'b>
     }
 
     /// An arm, or the end of a list of them, with fuel for what is in it.
-    fn arm_turn<'a>(
-        &self,
-        fuel: usize,
-        place: &mut Place<'_, 'a>,
-    ) -> Result<Turn<ArmNode<'a>, ()>, Error>
+    fn arm_turn<'a>(&self, fuel: usize, place: &mut Place<'_, 'a>) -> Read<Turn<ArmNode<'a>, ()>>
         requires { ExprNests self.now.parts.room (F.pre self.now.parts.expr) (F.post self.now.parts.expr) }
         ensures { Reads (turn_view arm_view (λ u. u)) (turns.arm_turn fuel) place.old result place.new }
     {
@@ -102,7 +96,7 @@ impl<F: Copy + for<'t, 'b> Fn(&mut Place<'t, 'b>, Wanted) -> Result<ExprNode<'b>
 
     /// Arms, to the end, and what ends them, which is nothing. Its loop is that of `gathered`: for a rule over these rules the check compares two
     /// spellings of its parts' types, and passes its step limit.
-    fn listed<'a>(&self, place: &mut Place<'_, 'a>) -> Result<(ArmNodes<'a>, ()), Error>
+    fn listed<'a>(&self, place: &mut Place<'_, 'a>) -> Read<(ArmNodes<'a>, ())>
         requires { ExprNests self.now.parts.room (F.pre self.now.parts.expr) (F.post self.now.parts.expr) }
         ensures { Reads (λ v. (map arm_view v.0, v.1)) (repeat turns.arm_turn self.now.parts.fuel) place.old result place.new }
     {
@@ -120,7 +114,7 @@ impl<F: Copy + for<'t, 'b> Fn(&mut Place<'t, 'b>, Wanted) -> Result<ExprNode<'b>
     }
 
     /// Arms, to the end.
-    fn arms<'a>(&self, place: &mut Place<'_, 'a>) -> Result<ArmNodes<'a>, Error>
+    fn arms<'a>(&self, place: &mut Place<'_, 'a>) -> Read<ArmNodes<'a>>
         requires { ExprNests self.now.parts.room (F.pre self.now.parts.expr) (F.post self.now.parts.expr) }
         ensures { ReadsWhole (λ v. tree.arms_of (map arm_view v)) (rows self.now.parts.fuel).arms place.old result }
     {
@@ -129,7 +123,7 @@ impl<F: Copy + for<'t, 'b> Fn(&mut Place<'t, 'b>, Wanted) -> Result<ExprNode<'b>
     }
 
     /// Arms in braces.
-    pub fn braced_arms<'a>(&self, place: &mut Place<'_, 'a>) -> Result<ArmNodes<'a>, Error>
+    pub fn braced_arms<'a>(&self, place: &mut Place<'_, 'a>) -> Read<ArmNodes<'a>>
         requires { ExprNests self.now.parts.room (F.pre self.now.parts.expr) (F.post self.now.parts.expr) }
         ensures { Reads (λ v. tree.arms_of (map arm_view v)) (λ ts. spec.braced_arms self.now.parts.fuel (next ts)) place.old result place.new }
     {

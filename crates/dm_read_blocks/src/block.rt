@@ -22,9 +22,8 @@ use dm_nodes::make_block::{block_of, do_of, let_of};
 use dm_read_arguments::sort::Wanted;
 use dm_read_places::front::Keyword;
 use dm_read_places::list::Turn;
-use dm_read_places::place::Place;
+use dm_read_places::place::{Place, Read};
 use dm_read_statements::statement::{check, constant_ended, import_ended};
-use dm_stream::Error;
 
 /// What ends a block: perhaps an expression.
 type Last<'a> = Option<ExprNode<'a>>;
@@ -33,7 +32,7 @@ type Last<'a> = Option<ExprNode<'a>>;
 fn value_end<'a>(
     value: ExprNode<'a>,
     place: &mut Place<'_, 'a>,
-) -> Result<Turn<StmtNode<'a>, Last<'a>>, Error>
+) -> Read<Turn<StmtNode<'a>, Last<'a>>>
     ensures { Reads (turn_view stmt_view last_view) (λ ts. turns.value_end (expr_view value.entry) ts (next ts)) place.old result place.new }
 {
     if place.at_end() {
@@ -43,11 +42,9 @@ fn value_end<'a>(
     Ok(Turn::One(do_of(place.alloc(), value)?))
 }
 
-impl<F: Copy + for<'t, 'b> Fn(&mut Place<'t, 'b>, Wanted) -> Result<ExprNode<'b>, Error>> Blocks<
-    F,
-> {
+impl<F: Copy + for<'t, 'b> Fn(&mut Place<'t, 'b>, Wanted) -> Read<ExprNode<'b>>> Blocks<F> {
     /// `=` and an expression.
-    fn assigned<'a>(&self, place: &mut Place<'_, 'a>) -> Result<ExprNode<'a>, Error>
+    fn assigned<'a>(&self, place: &mut Place<'_, 'a>) -> Read<ExprNode<'a>>
         requires { ExprNests self.now.parts.room (F.pre self.now.parts.expr) (F.post self.now.parts.expr) }
         ensures { Reads expr_view (spec.assigned self.now.parts.fuel) place.old result place.new }
     {
@@ -56,7 +53,7 @@ impl<F: Copy + for<'t, 'b> Fn(&mut Place<'t, 'b>, Wanted) -> Result<ExprNode<'b>
     }
 
     /// A name and its value.
-    fn named_let<'a>(&self, place: &mut Place<'_, 'a>) -> Result<StmtNode<'a>, Error>
+    fn named_let<'a>(&self, place: &mut Place<'_, 'a>) -> Read<StmtNode<'a>>
         requires { ExprNests self.now.parts.room (F.pre self.now.parts.expr) (F.post self.now.parts.expr) }
         ensures { Reads stmt_view (spec.named_let self.now.parts.fuel) place.old result place.new }
     {
@@ -66,7 +63,7 @@ impl<F: Copy + for<'t, 'b> Fn(&mut Place<'t, 'b>, Wanted) -> Result<ExprNode<'b>
     }
 
     /// A name's value, or a type that is checked, behind `let`.
-    fn bound<'a>(&self, place: &mut Place<'_, 'a>) -> Result<StmtNode<'a>, Error>
+    fn bound<'a>(&self, place: &mut Place<'_, 'a>) -> Read<StmtNode<'a>>
         requires { ExprNests self.now.parts.room (F.pre self.now.parts.expr) (F.post self.now.parts.expr) }
         ensures { Reads stmt_view (λ ts. turns.let_of self.now.parts.fuel (next ts)) place.old result place.new }
     {
@@ -77,7 +74,7 @@ impl<F: Copy + for<'t, 'b> Fn(&mut Place<'t, 'b>, Wanted) -> Result<ExprNode<'b>
     }
 
     /// The same, and a semicolon.
-    fn let_ended<'a>(&self, place: &mut Place<'_, 'a>) -> Result<StmtNode<'a>, Error>
+    fn let_ended<'a>(&self, place: &mut Place<'_, 'a>) -> Read<StmtNode<'a>>
         requires { ExprNests self.now.parts.room (F.pre self.now.parts.expr) (F.post self.now.parts.expr) }
         ensures { Reads stmt_view (λ ts. ended_stmt (turns.let_of self.now.parts.fuel (next ts))) place.old result place.new }
     {
@@ -86,10 +83,7 @@ impl<F: Copy + for<'t, 'b> Fn(&mut Place<'t, 'b>, Wanted) -> Result<ExprNode<'b>
     }
 
     /// A turn that begins with an expression.
-    fn value_turn<'a>(
-        &self,
-        place: &mut Place<'_, 'a>,
-    ) -> Result<Turn<StmtNode<'a>, Last<'a>>, Error>
+    fn value_turn<'a>(&self, place: &mut Place<'_, 'a>) -> Read<Turn<StmtNode<'a>, Last<'a>>>
         requires { ExprNests self.now.parts.room (F.pre self.now.parts.expr) (F.post self.now.parts.expr) }
         ensures { Reads (turn_view stmt_view last_view) (turns.value_turn self.now.parts.fuel) place.old result place.new }
     {
@@ -98,11 +92,7 @@ impl<F: Copy + for<'t, 'b> Fn(&mut Place<'t, 'b>, Wanted) -> Result<ExprNode<'b>
     }
 
     /// One statement with a semicolon behind it, or what ends a block, with fuel for what is in it.
-    fn turn<'a>(
-        &self,
-        fuel: usize,
-        place: &mut Place<'_, 'a>,
-    ) -> Result<Turn<StmtNode<'a>, Last<'a>>, Error>
+    fn turn<'a>(&self, fuel: usize, place: &mut Place<'_, 'a>) -> Read<Turn<StmtNode<'a>, Last<'a>>>
         requires { ExprNests self.now.parts.room (F.pre self.now.parts.expr) (F.post self.now.parts.expr) }
         ensures { Reads (turn_view stmt_view last_view) (turns.block_turn fuel) place.old result place.new }
     {
@@ -123,7 +113,7 @@ impl<F: Copy + for<'t, 'b> Fn(&mut Place<'t, 'b>, Wanted) -> Result<ExprNode<'b>
     }
 
     /// Statements, and perhaps an expression behind them, to the end. Its loop is that of `gathered`, as for arms.
-    fn statements<'a>(&self, place: &mut Place<'_, 'a>) -> Result<(StmtNodes<'a>, Last<'a>), Error>
+    fn statements<'a>(&self, place: &mut Place<'_, 'a>) -> Read<(StmtNodes<'a>, Last<'a>)>
         requires { ExprNests self.now.parts.room (F.pre self.now.parts.expr) (F.post self.now.parts.expr) }
         ensures { Reads (λ v. (map stmt_view v.0, last_view v.1)) (repeat turns.block_turn self.now.parts.fuel) place.old result place.new }
     {
@@ -141,11 +131,11 @@ impl<F: Copy + for<'t, 'b> Fn(&mut Place<'t, 'b>, Wanted) -> Result<ExprNode<'b>
     }
 
     /// The inside of a block, to the end.
-    pub fn block<'a>(&self, place: &mut Place<'_, 'a>) -> Result<BlockNode<'a>, Error>
+    pub fn block<'a>(&self, place: &mut Place<'_, 'a>) -> Read<BlockNode<'a>>
         requires { ExprNests self.now.parts.room (F.pre self.now.parts.expr) (F.post self.now.parts.expr) }
         ensures { ReadsWhole block_view (rows self.now.parts.fuel).block place.old result }
     {
         let (stmts, last) = self.statements(place)?;
-        Ok(block_of(stmts, last))
+        Ok(block_of(place.alloc(), stmts, last)?)
     }
 }

@@ -8,9 +8,9 @@ ghost use Rattle.dm_read_places.specs.Reads.{ReadsWhole};
 ghost use Rattle.dm_read_exact.specs.Exact.{only};
 
 use dm_quote::ToTokens;
-use dm_read_places::place::Place;
+use dm_read_places::place::{Place, Read};
 use dm_same::all_alike;
-use dm_stream::{Cursor, Entry, Error, TokenStream};
+use dm_stream::{Cursor, Entry, TokenStream};
 use std::alloc::{AllocError, Global};
 
 /// The tokens and delimiters from one place to another.
@@ -42,7 +42,7 @@ pub fn exact<'a, T: ToTokens<'a> + Drop>(
     value: T,
     begun: Cursor<'_, 'a>,
     place: &Place<'_, 'a>,
-) -> Result<T, Error>
+) -> Read<T>
     requires begun { sound begun }
     requires stands { T.stands value }
     ensures { ReadsWhole (λ x. x) (only T.trees_of (passed (left begun.entry) place.now)) value result }

@@ -21,14 +21,12 @@ use dm_read_arguments::sort::Wanted;
 use dm_read_bases::bases::Bases;
 use dm_read_blocks::blocks::Blocks;
 use dm_read_places::front::Keyword;
-use dm_read_places::place::Place;
-use dm_stream::{Delim, Error};
+use dm_read_places::place::{Place, Read};
+use dm_stream::Delim;
 
-impl<F: Copy + for<'t, 'b> Fn(&mut Place<'t, 'b>, Wanted) -> Result<ExprNode<'b>, Error>> Operators<
-    F,
-> {
+impl<F: Copy + for<'t, 'b> Fn(&mut Place<'t, 'b>, Wanted) -> Read<ExprNode<'b>>> Operators<F> {
     /// Arms in braces.
-    fn braced_arms<'a>(&self, place: &mut Place<'_, 'a>) -> Result<ArmNodes<'a>, Error>
+    fn braced_arms<'a>(&self, place: &mut Place<'_, 'a>) -> Read<ArmNodes<'a>>
         requires { ExprNests self.now.parts.room (F.pre self.now.parts.expr) (F.post self.now.parts.expr) }
         ensures { Reads (λ v. arms_of (map arm_view v)) (λ ts. braced_arms self.now.parts.fuel (next ts)) place.old result place.new }
     {
@@ -37,7 +35,7 @@ impl<F: Copy + for<'t, 'b> Fn(&mut Place<'t, 'b>, Wanted) -> Result<ExprNode<'b>
     }
 
     /// What stands behind `match`.
-    fn matched<'a>(&self, place: &mut Place<'_, 'a>) -> Result<ExprNode<'a>, Error>
+    fn matched<'a>(&self, place: &mut Place<'_, 'a>) -> Read<ExprNode<'a>>
         requires { ExprNests self.now.parts.room (F.pre self.now.parts.expr) (F.post self.now.parts.expr) }
         ensures { Reads expr_view (spec.match_from self.now.parts.fuel) place.old result place.new }
     {
@@ -47,11 +45,7 @@ impl<F: Copy + for<'t, 'b> Fn(&mut Place<'t, 'b>, Wanted) -> Result<ExprNode<'b>
     }
 
     /// An expression that no operator stands in or behind.
-    pub(crate) fn base<'a>(
-        &self,
-        braces: bool,
-        place: &mut Place<'_, 'a>,
-    ) -> Result<ExprNode<'a>, Error>
+    pub(crate) fn base<'a>(&self, braces: bool, place: &mut Place<'_, 'a>) -> Read<ExprNode<'a>>
         requires { ExprNests self.now.parts.room (F.pre self.now.parts.expr) (F.post self.now.parts.expr) }
         ensures { Reads expr_view (λ ts. plain.read_base (rows self.now.parts.fuel) braces ts (next ts)) place.old result place.new }
     {

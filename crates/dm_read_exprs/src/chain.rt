@@ -18,8 +18,7 @@ use dm_nodes::make_expr::{and_of, equal_of, or_of, return_of, unequal_of};
 use dm_read_arguments::sort::Wanted;
 use dm_read_places::front::{Keyword, Sign};
 use dm_read_places::list::{Rule, Turn, gathered};
-use dm_read_places::place::Place;
-use dm_stream::Error;
+use dm_read_places::place::{Place, Read};
 
 /// `&&` and what stands behind it. The truth value says whether a brace continues a path.
 #[derive(Drop)]
@@ -28,11 +27,8 @@ struct AndRule<'g, F> {
     braces: bool,
 }
 
-impl<
-    'g,
-    'a,
-    F: Copy + for<'t, 'b> Fn(&mut Place<'t, 'b>, Wanted) -> Result<ExprNode<'b>, Error>,
-> Rule<'a> for AndRule<'g, F> {
+impl<'g, 'a, F: Copy + for<'t, 'b> Fn(&mut Place<'t, 'b>, Wanted) -> Read<ExprNode<'b>>> Rule<'a>
+    for AndRule<'g, F> {
     ghost use Rattle.dm_output.specs.Output.{ExprTree};
     ghost use Rattle.dm_output.specs.Views.{expr_view};
     ghost use Rattle.dm_read_arguments.specs.ExprNests.{ExprNests};
@@ -44,21 +40,13 @@ impl<
 
     ghost Tree = { ExprTree };
 
-    ghost Tail = { Unit {0} };
-
     ghost view = { expr_view };
-
-    ghost last = { λ u. u };
 
     ghost usable = { λ r. ExprNests r.rules.now.parts.room (F.pre r.rules.now.parts.expr) (F.post r.rules.now.parts.expr) };
 
     ghost reader = { λ r. and_turn r.braces };
 
-    fn turn(
-        &self,
-        fuel: usize,
-        place: &mut Place<'_, 'a>,
-    ) -> Result<Turn<ExprNode<'a>, ()>, Error> {
+    fn turn(&self, fuel: usize, place: &mut Place<'_, 'a>) -> Read<Turn<ExprNode<'a>, ()>> {
         if !place.take(Sign::AndAnd) {
             return Ok(Turn::End(()));
         }
@@ -73,11 +61,8 @@ struct OrRule<'g, F> {
     braces: bool,
 }
 
-impl<
-    'g,
-    'a,
-    F: Copy + for<'t, 'b> Fn(&mut Place<'t, 'b>, Wanted) -> Result<ExprNode<'b>, Error>,
-> Rule<'a> for OrRule<'g, F> {
+impl<'g, 'a, F: Copy + for<'t, 'b> Fn(&mut Place<'t, 'b>, Wanted) -> Read<ExprNode<'b>>> Rule<'a>
+    for OrRule<'g, F> {
     ghost use Rattle.dm_output.specs.Output.{ExprTree};
     ghost use Rattle.dm_output.specs.Views.{expr_view};
     ghost use Rattle.dm_read_arguments.specs.ExprNests.{ExprNests};
@@ -89,21 +74,13 @@ impl<
 
     ghost Tree = { ExprTree };
 
-    ghost Tail = { Unit {0} };
-
     ghost view = { expr_view };
-
-    ghost last = { λ u. u };
 
     ghost usable = { λ r. ExprNests r.rules.now.parts.room (F.pre r.rules.now.parts.expr) (F.post r.rules.now.parts.expr) };
 
     ghost reader = { λ r. or_turn r.braces };
 
-    fn turn(
-        &self,
-        fuel: usize,
-        place: &mut Place<'_, 'a>,
-    ) -> Result<Turn<ExprNode<'a>, ()>, Error> {
+    fn turn(&self, fuel: usize, place: &mut Place<'_, 'a>) -> Read<Turn<ExprNode<'a>, ()>> {
         if !place.take(Sign::OrOr) {
             return Ok(Turn::End(()));
         }
@@ -111,16 +88,14 @@ impl<
     }
 }
 
-impl<F: Copy + for<'t, 'b> Fn(&mut Place<'t, 'b>, Wanted) -> Result<ExprNode<'b>, Error>> Operators<
-    F,
-> {
+impl<F: Copy + for<'t, 'b> Fn(&mut Place<'t, 'b>, Wanted) -> Read<ExprNode<'b>>> Operators<F> {
     /// What stands behind an operand: `==` or `!=` and another, or neither.
     fn behind_operand<'a>(
         &self,
         braces: bool,
         first: ExprNode<'a>,
         place: &mut Place<'_, 'a>,
-    ) -> Result<ExprNode<'a>, Error>
+    ) -> Read<ExprNode<'a>>
         requires { ExprNests self.now.parts.room (F.pre self.now.parts.expr) (F.post self.now.parts.expr) }
         ensures { Reads expr_view (λ ts. plain.after_pre (rows self.now.parts.fuel) braces (expr_view first.entry) ts (next ts)) place.old result place.new }
     {
@@ -136,7 +111,7 @@ impl<F: Copy + for<'t, 'b> Fn(&mut Place<'t, 'b>, Wanted) -> Result<ExprNode<'b>
     }
 
     /// An operand, or two with `==` or `!=` between.
-    fn comparison<'a>(&self, braces: bool, place: &mut Place<'_, 'a>) -> Result<ExprNode<'a>, Error>
+    fn comparison<'a>(&self, braces: bool, place: &mut Place<'_, 'a>) -> Read<ExprNode<'a>>
         requires { ExprNests self.now.parts.room (F.pre self.now.parts.expr) (F.post self.now.parts.expr) }
         ensures { Reads expr_view (plain.read_cmp (rows self.now.parts.fuel) braces) place.old result place.new }
     {
@@ -145,7 +120,7 @@ impl<F: Copy + for<'t, 'b> Fn(&mut Place<'t, 'b>, Wanted) -> Result<ExprNode<'b>
     }
 
     /// Comparisons with `&&` before each.
-    fn ands<'a>(&self, braces: bool, place: &mut Place<'_, 'a>) -> Result<ExprNodes<'a>, Error>
+    fn ands<'a>(&self, braces: bool, place: &mut Place<'_, 'a>) -> Read<ExprNodes<'a>>
         requires { ExprNests self.now.parts.room (F.pre self.now.parts.expr) (F.post self.now.parts.expr) }
         ensures { Reads (λ v. exprs_of (map expr_view v)) ((rows self.now.parts.fuel).ands braces) place.old result place.new }
     {
@@ -163,7 +138,7 @@ impl<F: Copy + for<'t, 'b> Fn(&mut Place<'t, 'b>, Wanted) -> Result<ExprNode<'b>
         braces: bool,
         first: ExprNode<'a>,
         place: &mut Place<'_, 'a>,
-    ) -> Result<ExprNode<'a>, Error>
+    ) -> Read<ExprNode<'a>>
         requires { ExprNests self.now.parts.room (F.pre self.now.parts.expr) (F.post self.now.parts.expr) }
         ensures { Reads expr_view (λ ts. plain.after_cmp (rows self.now.parts.fuel) braces (expr_view first.entry) ts (next ts)) place.old result place.new }
     {
@@ -176,11 +151,7 @@ impl<F: Copy + for<'t, 'b> Fn(&mut Place<'t, 'b>, Wanted) -> Result<ExprNode<'b>
     }
 
     /// Comparisons with `&&` between.
-    fn conjunction<'a>(
-        &self,
-        braces: bool,
-        place: &mut Place<'_, 'a>,
-    ) -> Result<ExprNode<'a>, Error>
+    fn conjunction<'a>(&self, braces: bool, place: &mut Place<'_, 'a>) -> Read<ExprNode<'a>>
         requires { ExprNests self.now.parts.room (F.pre self.now.parts.expr) (F.post self.now.parts.expr) }
         ensures { Reads expr_view (plain.read_and (rows self.now.parts.fuel) braces) place.old result place.new }
     {
@@ -189,7 +160,7 @@ impl<F: Copy + for<'t, 'b> Fn(&mut Place<'t, 'b>, Wanted) -> Result<ExprNode<'b>
     }
 
     /// Conjunctions with `||` before each.
-    fn ors<'a>(&self, braces: bool, place: &mut Place<'_, 'a>) -> Result<ExprNodes<'a>, Error>
+    fn ors<'a>(&self, braces: bool, place: &mut Place<'_, 'a>) -> Read<ExprNodes<'a>>
         requires { ExprNests self.now.parts.room (F.pre self.now.parts.expr) (F.post self.now.parts.expr) }
         ensures { Reads (λ v. exprs_of (map expr_view v)) ((rows self.now.parts.fuel).ors braces) place.old result place.new }
     {
@@ -207,7 +178,7 @@ impl<F: Copy + for<'t, 'b> Fn(&mut Place<'t, 'b>, Wanted) -> Result<ExprNode<'b>
         braces: bool,
         first: ExprNode<'a>,
         place: &mut Place<'_, 'a>,
-    ) -> Result<ExprNode<'a>, Error>
+    ) -> Read<ExprNode<'a>>
         requires { ExprNests self.now.parts.room (F.pre self.now.parts.expr) (F.post self.now.parts.expr) }
         ensures { Reads expr_view (λ ts. plain.after_and (rows self.now.parts.fuel) braces (expr_view first.entry) ts (next ts)) place.old result place.new }
     {
@@ -220,11 +191,7 @@ impl<F: Copy + for<'t, 'b> Fn(&mut Place<'t, 'b>, Wanted) -> Result<ExprNode<'b>
     }
 
     /// An expression that isn't `return`.
-    fn disjunction<'a>(
-        &self,
-        braces: bool,
-        place: &mut Place<'_, 'a>,
-    ) -> Result<ExprNode<'a>, Error>
+    fn disjunction<'a>(&self, braces: bool, place: &mut Place<'_, 'a>) -> Read<ExprNode<'a>>
         requires { ExprNests self.now.parts.room (F.pre self.now.parts.expr) (F.post self.now.parts.expr) }
         ensures { Reads expr_view (plain_or self.now.parts.fuel braces) place.old result place.new }
     {
@@ -233,11 +200,7 @@ impl<F: Copy + for<'t, 'b> Fn(&mut Place<'t, 'b>, Wanted) -> Result<ExprNode<'b>
     }
 
     /// An expression.
-    pub(crate) fn any<'a>(
-        &self,
-        braces: bool,
-        place: &mut Place<'_, 'a>,
-    ) -> Result<ExprNode<'a>, Error>
+    pub(crate) fn any<'a>(&self, braces: bool, place: &mut Place<'_, 'a>) -> Read<ExprNode<'a>>
         requires { ExprNests self.now.parts.room (F.pre self.now.parts.expr) (F.post self.now.parts.expr) }
         ensures { Reads expr_view (plain.read_or (rows self.now.parts.fuel) braces) place.old result place.new }
     {

@@ -12,13 +12,13 @@ use dm_nodes::expr::ExprNode;
 use dm_read_arguments::rules::Exprs;
 use dm_read_arguments::sort::{Sort, Wanted};
 use dm_read_blocks::blocks::Blocks;
-use dm_read_places::place::Place;
+use dm_read_places::place::{Place, Read};
 use dm_stream::Error;
 
 /// The expression that is wanted. Where more than `room` expressions stand in one another it wants memory: that of the stack. With less
 /// fuel than a list in it is long, or than expressions nest deep there, what is there isn't read. Refuses where no such expression stands
 /// there, or a type in it nests deeper than 128.
-pub fn expr<'a>(place: &mut Place<'_, 'a>, wanted: Wanted) -> Result<ExprNode<'a>, Error>
+pub fn expr<'a>(place: &mut Place<'_, 'a>, wanted: Wanted) -> Read<ExprNode<'a>>
     ensures { Reads expr_view (sorted wanted.sort (rows wanted.fuel)) place.old result place.new }
 {
     if wanted.room == 0 {
@@ -41,11 +41,7 @@ pub fn expr<'a>(place: &mut Place<'_, 'a>, wanted: Wanted) -> Result<ExprNode<'a
 }
 
 /// The inside of a block, to the end. `fuel` and `room` as for an expression in it. Refuses where anything else stands there.
-pub fn block<'a>(
-    place: &mut Place<'_, 'a>,
-    fuel: usize,
-    room: usize,
-) -> Result<BlockNode<'a>, Error>
+pub fn block<'a>(place: &mut Place<'_, 'a>, fuel: usize, room: usize) -> Read<BlockNode<'a>>
     ensures { ReadsWhole block_view (rows fuel).block place.old result }
 {
     let rules = Blocks {

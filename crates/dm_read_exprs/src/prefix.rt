@@ -16,9 +16,9 @@ use dm_nodes::make_expr::{deref_of, ref_of, ref_opaque};
 use dm_read_arguments::sort::Wanted;
 use dm_read_formats::opaque::kept;
 use dm_read_places::front::{Keyword, Sign};
-use dm_read_places::place::Place;
+use dm_read_places::place::{Place, Read};
 use dm_read_posts::posts::Posts;
-use dm_stream::{Delim, Error};
+use dm_stream::Delim;
 
 /// Whether what comes next goes on with a group in front of it: arguments, `.` or `?`.
 fn goes_on(place: &Place<'_, '_>) -> bool
@@ -43,7 +43,7 @@ fn sees_closed_group(place: &Place<'_, '_>) -> bool
 }
 
 /// `&` in front of a group that isn't read.
-fn opaque_ref<'a>(place: &mut Place<'_, 'a>) -> Result<ExprNode<'a>, Error>
+fn opaque_ref<'a>(place: &mut Place<'_, 'a>) -> Read<ExprNode<'a>>
     ensures { Reads expr_view (λ ts. spec.opaque_group (next ts)) place.old result place.new }
 {
     let Some(inside) = place.group(Delim::Paren) else {
@@ -56,16 +56,14 @@ fn opaque_ref<'a>(place: &mut Place<'_, 'a>) -> Result<ExprNode<'a>, Error>
     Ok(ref_opaque(place.alloc(), tokens)?)
 }
 
-impl<F: Copy + for<'t, 'b> Fn(&mut Place<'t, 'b>, Wanted) -> Result<ExprNode<'b>, Error>> Operators<
-    F,
-> {
+impl<F: Copy + for<'t, 'b> Fn(&mut Place<'t, 'b>, Wanted) -> Read<ExprNode<'b>>> Operators<F> {
     /// The operand of `&` or `&mut`.
     fn referred<'a>(
         &self,
         braces: bool,
         is_mut: bool,
         place: &mut Place<'_, 'a>,
-    ) -> Result<ExprNode<'a>, Error>
+    ) -> Read<ExprNode<'a>>
         requires { ExprNests self.now.parts.room (F.pre self.now.parts.expr) (F.post self.now.parts.expr) }
         ensures { Reads expr_view (plain.ref_from_pre (rows self.now.parts.fuel) braces is_mut) place.old result place.new }
     {
@@ -74,7 +72,7 @@ impl<F: Copy + for<'t, 'b> Fn(&mut Place<'t, 'b>, Wanted) -> Result<ExprNode<'b>
     }
 
     /// What stands behind `&mut`.
-    fn behind_mut<'a>(&self, braces: bool, place: &mut Place<'_, 'a>) -> Result<ExprNode<'a>, Error>
+    fn behind_mut<'a>(&self, braces: bool, place: &mut Place<'_, 'a>) -> Read<ExprNode<'a>>
         requires { ExprNests self.now.parts.room (F.pre self.now.parts.expr) (F.post self.now.parts.expr) }
         ensures { Reads expr_view (λ ts. plain.read_mut_ref (rows self.now.parts.fuel) braces ts (next ts)) place.old result place.new }
     {
@@ -85,7 +83,7 @@ impl<F: Copy + for<'t, 'b> Fn(&mut Place<'t, 'b>, Wanted) -> Result<ExprNode<'b>
     }
 
     /// What stands behind `&`.
-    fn behind_amp<'a>(&self, braces: bool, place: &mut Place<'_, 'a>) -> Result<ExprNode<'a>, Error>
+    fn behind_amp<'a>(&self, braces: bool, place: &mut Place<'_, 'a>) -> Read<ExprNode<'a>>
         requires { ExprNests self.now.parts.room (F.pre self.now.parts.expr) (F.post self.now.parts.expr) }
         ensures { Reads expr_view (λ ts. plain.read_ref (rows self.now.parts.fuel) braces ts (next ts)) place.old result place.new }
     {
@@ -99,7 +97,7 @@ impl<F: Copy + for<'t, 'b> Fn(&mut Place<'t, 'b>, Wanted) -> Result<ExprNode<'b>
     }
 
     /// An expression of the rows from members on.
-    fn received<'a>(&self, braces: bool, place: &mut Place<'_, 'a>) -> Result<ExprNode<'a>, Error>
+    fn received<'a>(&self, braces: bool, place: &mut Place<'_, 'a>) -> Read<ExprNode<'a>>
         requires { ExprNests self.now.parts.room (F.pre self.now.parts.expr) (F.post self.now.parts.expr) }
         ensures { Reads expr_view (λ ts. plain.read_post (rows self.now.parts.fuel) braces ts (next ts)) place.old result place.new }
     {
@@ -109,11 +107,7 @@ impl<F: Copy + for<'t, 'b> Fn(&mut Place<'t, 'b>, Wanted) -> Result<ExprNode<'b>
     }
 
     /// An operand with what stands in front of it.
-    pub(crate) fn prefixed<'a>(
-        &self,
-        braces: bool,
-        place: &mut Place<'_, 'a>,
-    ) -> Result<ExprNode<'a>, Error>
+    pub(crate) fn prefixed<'a>(&self, braces: bool, place: &mut Place<'_, 'a>) -> Read<ExprNode<'a>>
         requires { ExprNests self.now.parts.room (F.pre self.now.parts.expr) (F.post self.now.parts.expr) }
         ensures { Reads expr_view (λ ts. plain.read_pre (rows self.now.parts.fuel) braces ts (next ts)) place.old result place.new }
     {

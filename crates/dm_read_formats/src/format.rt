@@ -16,8 +16,8 @@ use dm_input::join::joined;
 use dm_output::{FmtArg, FmtArgs};
 use dm_read::words::is_name;
 use dm_read_places::list::{Rule, Turn, repeated};
-use dm_read_places::place::Place;
-use dm_stream::{Cursor, Error, Ident, Punct, Seq, Spacing};
+use dm_read_places::place::{Place, Read};
+use dm_stream::{Cursor, Ident, Punct, Seq, Spacing};
 use std::alloc::AllocError;
 
 fn is_alone(spacing: Spacing) -> bool
@@ -63,7 +63,7 @@ fn alias<'a>(place: &mut Place<'_, 'a>) -> Result<Option<Ident<'a>>, AllocError>
 }
 
 /// An argument of a format.
-fn argument<'a>(place: &mut Place<'_, 'a>) -> Result<FmtArg<'a>, Error>
+fn argument<'a>(place: &mut Place<'_, 'a>) -> Read<FmtArg<'a>>
     ensures { Reads fmt_arg_view (plain.read_fmt_arg leaves) place.old result place.new }
 {
     let alias = alias(place)?;
@@ -86,17 +86,13 @@ impl<'a> Rule<'a> for ArgumentRule {
 
     ghost Tree = { FmtArgTree };
 
-    ghost Tail = { Unit {0} };
-
     ghost view = { fmt_arg_view };
-
-    ghost last = { λ u. u };
 
     ghost usable = { λ r. Unit {0} };
 
     ghost reader = { λ r. fmt_turn };
 
-    fn turn(&self, _fuel: usize, place: &mut Place<'_, 'a>) -> Result<Turn<FmtArg<'a>, ()>, Error> {
+    fn turn(&self, _fuel: usize, place: &mut Place<'_, 'a>) -> Read<Turn<FmtArg<'a>, ()>> {
         if place.at_end() {
             return Ok(Turn::End(()));
         }
@@ -106,7 +102,7 @@ impl<'a> Rule<'a> for ArgumentRule {
 }
 
 /// Arguments of a format, to the end.
-fn arguments<'a>(fuel: usize, place: &mut Place<'_, 'a>) -> Result<Seq<FmtArg<'a>>, Error>
+fn arguments<'a>(fuel: usize, place: &mut Place<'_, 'a>) -> Read<Seq<FmtArg<'a>>>
     ensures { ReadsWhole (map fmt_arg_view) (rows fuel).fmt_args place.old result }
 {
     let (found, _) = repeated(&ArgumentRule {}, fuel, place)?;
@@ -114,7 +110,7 @@ fn arguments<'a>(fuel: usize, place: &mut Place<'_, 'a>) -> Result<Seq<FmtArg<'a
 }
 
 /// A format and its arguments, to the end.
-pub fn format<'a>(fuel: usize, place: &mut Place<'_, 'a>) -> Result<FmtArgs<'a>, Error>
+pub fn format<'a>(fuel: usize, place: &mut Place<'_, 'a>) -> Read<FmtArgs<'a>>
     ensures { ReadsWhole fmt_view (λ ts. plain.read_fmt (rows fuel) (next ts)) place.old result }
 {
     let Some(found) = place.literal() else {

@@ -11,8 +11,8 @@ ghost use Rattle.dm_read_formats.specs.Values.{closes};
 
 use dm_ast::Opaque;
 use dm_expr::{pair_size, take_until1};
-use dm_read_places::place::Place;
-use dm_stream::{Cursor, Error, TokenStream};
+use dm_read_places::place::{Place, Read};
+use dm_stream::{Cursor, TokenStream};
 use std::alloc::AllocError;
 
 /// All that is left, as it stands.
@@ -53,7 +53,7 @@ fn is_closed(c: Cursor<'_, '_>) -> bool
 }
 
 /// The value of a format's argument, up to a comma or the end. Refuses where none stands there, or one leaves a `<` or a `|` open.
-pub fn run<'a>(place: &mut Place<'_, 'a>) -> Result<Opaque<'a>, Error>
+pub fn run<'a>(place: &mut Place<'_, 'a>) -> Read<Opaque<'a>>
     ensures { Reads opaque_view closed_run place.old result place.new }
 {
     let Some((piece, rest)) = take_until1(place.cursor()) else {

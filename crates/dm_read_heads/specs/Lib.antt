@@ -3,4 +3,3 @@ pub mod Heads
 pub mod Named
 pub mod Members
 pub mod Signatures
-pub mod Codes

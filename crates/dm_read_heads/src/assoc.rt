@@ -11,51 +11,19 @@ ghost use Rattle.dm_read_places.specs.Reads.{Reads};
 ghost use Rattle.dm_read_heads.specs.Members as spec;
 
 use dm_ast::Ty;
+use dm_gather::Nodes;
 use dm_input::join::{ended, joined};
 use dm_output::Assoc;
 use dm_read_leaves::ty::ty;
 use dm_read_places::front::Keyword;
 use dm_read_places::list::{Rule, Turn, repeated};
-use dm_read_places::place::Place;
-use dm_stream::{Error, Seq};
-use std::marker::Model;
+use dm_read_places::place::{Place, Read};
 
-/// Associated types that were read. They are private, so that what holds them needs to know nothing of how types are dropped; contracts
-/// see their list.
-pub struct AssocTypes<'a> {
-    trees: Seq<Assoc<'a>>,
-}
-
-impl<'a> Model for AssocTypes<'a> {
-    ghost use Rattle.std.specs.Prelude.{List};
-    ghost use Rattle.std.specs.Coded.{coded_list};
-    ghost use Rattle.dm_output.specs.declared.item.Assoc.{Assoc};
-    ghost use Rattle.dm_read_heads.specs.Codes.{assoc_code};
-
-    ghost Value = { List Assoc };
-
-    ghost coded = { coded_list assoc_code };
-
-    ghost view = { λ a. a.trees };
-}
-
-impl Drop for AssocTypes<'_> {
-    fn drop(self) {
-        let Self { trees: _ } = self;
-    }
-}
-
-impl<'a> AssocTypes<'a> {
-    pub(crate) fn into_trees(self) -> Seq<Assoc<'a>>
-        ensures { result ≡ self.entry }
-    {
-        let Self { trees } = self;
-        trees
-    }
-}
+/// Associated types that were read.
+pub type AssocTypes<'a> = Nodes<Assoc<'a>>;
 
 /// A type and a semicolon.
-fn type_ended<'a>(place: &mut Place<'_, 'a>) -> Result<Ty<'a>, Error>
+fn type_ended<'a>(place: &mut Place<'_, 'a>) -> Read<Ty<'a>>
     ensures { Reads ty_view spec.type_ended place.old result place.new }
 {
     let found = ty(place)?;
@@ -63,7 +31,7 @@ fn type_ended<'a>(place: &mut Place<'_, 'a>) -> Result<Ty<'a>, Error>
 }
 
 /// `=`, a type and a semicolon.
-fn type_assigned<'a>(place: &mut Place<'_, 'a>) -> Result<Ty<'a>, Error>
+fn type_assigned<'a>(place: &mut Place<'_, 'a>) -> Read<Ty<'a>>
     ensures { Reads ty_view spec.type_assigned place.old result place.new }
 {
     place.assigns()?;
@@ -71,7 +39,7 @@ fn type_assigned<'a>(place: &mut Place<'_, 'a>) -> Result<Ty<'a>, Error>
 }
 
 /// A name and its type.
-fn assoc<'a>(place: &mut Place<'_, 'a>) -> Result<Assoc<'a>, Error>
+fn assoc<'a>(place: &mut Place<'_, 'a>) -> Read<Assoc<'a>>
     ensures { Reads assoc_view (λ ts. spec.assoc_at (next ts)) place.old result place.new }
 {
     let name = place.declared()?;
@@ -94,17 +62,13 @@ impl<'a> Rule<'a> for AssocRule {
 
     ghost Tree = { AssocTree };
 
-    ghost Tail = { Unit {0} };
-
     ghost view = { assoc_view };
-
-    ghost last = { λ u. u };
 
     ghost usable = { λ _. Unit {0} };
 
     ghost reader = { λ _. assoc_turn };
 
-    fn turn(&self, _fuel: usize, place: &mut Place<'_, 'a>) -> Result<Turn<Assoc<'a>, ()>, Error> {
+    fn turn(&self, _fuel: usize, place: &mut Place<'_, 'a>) -> Read<Turn<Assoc<'a>, ()>> {
         if !place.take_keyword(Keyword::Type) {
             return Ok(Turn::End(()));
         }
@@ -113,9 +77,9 @@ impl<'a> Rule<'a> for AssocRule {
 }
 
 /// The associated types in front, perhaps none. Refused is `type` where no associated type stands behind it. `fuel` is more than their number.
-pub fn assocs<'a>(place: &mut Place<'_, 'a>, fuel: usize) -> Result<AssocTypes<'a>, Error>
+pub fn assocs<'a>(place: &mut Place<'_, 'a>, fuel: usize) -> Read<AssocTypes<'a>>
     ensures { Reads (map assoc_view) (plain.read_assocs leaves fuel) place.old result place.new }
 {
     let (trees, _) = repeated(&AssocRule, fuel, place)?;
-    Ok(AssocTypes { trees })
+    Ok(AssocTypes::new(trees))
 }

@@ -19,8 +19,8 @@ use dm_output::ItemAttr;
 use dm_read::token::at_end;
 use dm_read_places::front::Sign;
 use dm_read_places::list::{Rule, Turn, repeated};
-use dm_read_places::place::Place;
-use dm_stream::{Cursor, Delim, Error, Seq, Spacing};
+use dm_read_places::place::{Place, Read};
+use dm_stream::{Cursor, Delim, Seq, Spacing};
 
 // ---- words and puncts
 
@@ -220,7 +220,7 @@ fn attr_among(all: &[ItemAttr], c: Cursor<'_, '_>) -> Option<ItemAttr>
 }
 
 /// An attribute in brackets.
-fn attr(place: &mut Place<'_, '_>) -> Result<ItemAttr, Error>
+fn attr(place: &mut Place<'_, '_>) -> Read<ItemAttr>
     ensures { Reads (λ a. a) (λ ts. spec.attr_at (next ts)) place.old result place.new }
 {
     let Some(inside) = place.group(Delim::Bracket) else {
@@ -246,17 +246,13 @@ impl<'a> Rule<'a> for AttrRule {
 
     ghost Tree = { ItemAttr };
 
-    ghost Tail = { Unit {0} };
-
     ghost view = { λ a. a };
-
-    ghost last = { λ u. u };
 
     ghost usable = { λ _. Unit {0} };
 
     ghost reader = { λ _. attr_turn };
 
-    fn turn(&self, _fuel: usize, place: &mut Place<'_, 'a>) -> Result<Turn<ItemAttr, ()>, Error> {
+    fn turn(&self, _fuel: usize, place: &mut Place<'_, 'a>) -> Read<Turn<ItemAttr, ()>> {
         if !place.take(Sign::Hash) {
             return Ok(Turn::End(()));
         }
@@ -265,7 +261,7 @@ impl<'a> Rule<'a> for AttrRule {
 }
 
 /// The attributes in front, in at most so many turns.
-fn turned(place: &mut Place<'_, '_>, fuel: usize) -> Result<Seq<ItemAttr>, Error>
+fn turned(place: &mut Place<'_, '_>, fuel: usize) -> Read<Seq<ItemAttr>>
     ensures { Reads (map (λ a. a)) (plain.read_attrs fuel) place.old result place.new }
 {
     let (found, _) = repeated(&AttrRule, fuel, place)?;
@@ -280,7 +276,7 @@ fn enough(place: &Place<'_, '_>) -> usize
 }
 
 /// The attributes in front, perhaps none. Refused is `#` where no attribute of the language stands behind it.
-pub fn attrs(place: &mut Place<'_, '_>) -> Result<Seq<ItemAttr>, Error>
+pub fn attrs(place: &mut Place<'_, '_>) -> Read<Seq<ItemAttr>>
     ensures { Reads (λ all. all) (λ ts. plain.read_attrs (suc (size ts)) ts) place.old result place.new }
 {
     let fuel = enough(place);

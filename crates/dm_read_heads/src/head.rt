@@ -26,8 +26,8 @@ use dm_read_decl::generics::{generics, where_clause};
 use dm_read_exact::exact::exact;
 use dm_read_leaves::ty::front_type;
 use dm_read_paths::path::path_alone;
-use dm_read_places::place::Place;
-use dm_stream::{Error, Punctuated, Seq};
+use dm_read_places::place::{Place, Read};
+use dm_stream::{Punctuated, Seq};
 use std::alloc::{AllocError, Global};
 
 /// What stands between `impl` and the brace: parameters, perhaps a trait, the type, and predicates. Its drop is a function, so that what
@@ -94,9 +94,7 @@ struct Named<'a> {
 // ---- parameters and predicates
 
 /// Whether `<` stands in front, and the parameters, however they are spaced.
-fn front_params<'a>(
-    place: &mut Place<'_, 'a>,
-) -> Result<(bool, Punctuated<GenericParam<'a>>), Error>
+fn front_params<'a>(place: &mut Place<'_, 'a>) -> Read<(bool, Punctuated<GenericParam<'a>>)>
     ensures { Reads angled_view plain.read_generics place.old result place.new }
 {
     let mut input = Input::new(place.alloc(), 0, place.cursor());
@@ -110,7 +108,7 @@ fn front_params<'a>(
 }
 
 /// The parameters alone.
-fn params<'a>(place: &mut Place<'_, 'a>) -> Result<Seq<GenericParam<'a>>, Error>
+fn params<'a>(place: &mut Place<'_, 'a>) -> Read<Seq<GenericParam<'a>>>
     ensures { Reads (map param_view) spec.params_at place.old result place.new }
 {
     let (_, found) = front_params(place)?;
@@ -131,9 +129,7 @@ fn predicates_of<'a>(
 }
 
 /// The clause in front, however it is spaced.
-fn front_clause<'a>(
-    place: &mut Place<'_, 'a>,
-) -> Result<Option<Punctuated<WherePredicate<'a>>>, Error>
+fn front_clause<'a>(place: &mut Place<'_, 'a>) -> Read<Option<Punctuated<WherePredicate<'a>>>>
     ensures { Reads clause_view plain.read_where place.old result place.new }
 {
     let mut input = Input::new(place.alloc(), 0, place.cursor());
@@ -147,7 +143,7 @@ fn front_clause<'a>(
 }
 
 /// Its predicates.
-fn predicates<'a>(place: &mut Place<'_, 'a>) -> Result<Seq<WherePredicate<'a>>, Error>
+fn predicates<'a>(place: &mut Place<'_, 'a>) -> Read<Seq<WherePredicate<'a>>>
     ensures { Reads (map predicate_view) spec.predicates_at place.old result place.new }
 {
     let found = front_clause(place)?;
@@ -157,7 +153,7 @@ fn predicates<'a>(place: &mut Place<'_, 'a>) -> Result<Seq<WherePredicate<'a>>, 
 // ---- the type, and the trait
 
 /// A type behind `for`, and the path before it.
-fn type_behind<'a>(path: Path<'a>, place: &mut Place<'_, 'a>) -> Result<Named<'a>, Error>
+fn type_behind<'a>(path: Path<'a>, place: &mut Place<'_, 'a>) -> Read<Named<'a>>
     ensures { Reads named_view (spec.behind_path (path_view path.entry)) place.old result place.new }
 {
     place.go(behind(place.cursor()));
@@ -169,7 +165,7 @@ fn type_behind<'a>(path: Path<'a>, place: &mut Place<'_, 'a>) -> Result<Named<'a
 }
 
 /// The same, where the type before `for` is a path.
-fn implementing<'a>(found: Ty<'a>, place: &mut Place<'_, 'a>) -> Result<Named<'a>, Error>
+fn implementing<'a>(found: Ty<'a>, place: &mut Place<'_, 'a>) -> Read<Named<'a>>
     ensures { Reads named_view (spec.type_behind (path_alone (ty_view found.entry))) place.old result place.new }
 {
     match path_alone(found) {
@@ -179,7 +175,7 @@ fn implementing<'a>(found: Ty<'a>, place: &mut Place<'_, 'a>) -> Result<Named<'a
 }
 
 /// A type is the trait where `for` stands behind it.
-fn trait_first<'a>(found: Ty<'a>, place: &mut Place<'_, 'a>) -> Result<Named<'a>, Error>
+fn trait_first<'a>(found: Ty<'a>, place: &mut Place<'_, 'a>) -> Read<Named<'a>>
     ensures { Reads named_view (plain.trait_first (ty_view found.entry)) place.old result place.new }
 {
     if sees_word("for", place.cursor()) {
@@ -191,7 +187,7 @@ fn trait_first<'a>(found: Ty<'a>, place: &mut Place<'_, 'a>) -> Result<Named<'a>
     })
 }
 
-fn named_type<'a>(place: &mut Place<'_, 'a>) -> Result<Named<'a>, Error>
+fn named_type<'a>(place: &mut Place<'_, 'a>) -> Read<Named<'a>>
     ensures { Reads named_view plain.read_named place.old result place.new }
 {
     let found = front_type(place)?;
@@ -203,7 +199,7 @@ fn named_type<'a>(place: &mut Place<'_, 'a>) -> Result<Named<'a>, Error>
 type Behind<'a> = (Named<'a>, Seq<WherePredicate<'a>>);
 
 /// What stands behind the parameters.
-fn behind_params<'a>(place: &mut Place<'_, 'a>) -> Result<Behind<'a>, Error>
+fn behind_params<'a>(place: &mut Place<'_, 'a>) -> Read<Behind<'a>>
     ensures { Reads behind_view spec.behind_params place.old result place.new }
 {
     let found = named_type(place)?;
@@ -224,7 +220,7 @@ fn head_of<'a>(params: Seq<GenericParam<'a>>, behind: Behind<'a>) -> Head<'a>
 }
 
 /// A head, however it is spaced.
-fn front_head<'a>(place: &mut Place<'_, 'a>) -> Result<Head<'a>, Error>
+fn front_head<'a>(place: &mut Place<'_, 'a>) -> Read<Head<'a>>
     ensures { Reads head_view plain.read_head place.old result place.new }
 {
     let found = params(place)?;
@@ -275,7 +271,7 @@ fn are_plain(params: &[GenericParam<'_>]) -> bool
 }
 
 /// A head with such parameters, however it is spaced.
-fn plain_head<'a>(place: &mut Place<'_, 'a>) -> Result<Head<'a>, Error>
+fn plain_head<'a>(place: &mut Place<'_, 'a>) -> Read<Head<'a>>
     ensures { Reads head_view plain.plain_head place.old result place.new }
 {
     let found = front_head(place)?;
@@ -286,7 +282,7 @@ fn plain_head<'a>(place: &mut Place<'_, 'a>) -> Result<Head<'a>, Error>
 }
 
 /// A head, spaced as heads are printed. Refused where none stands there.
-pub fn printed_head<'a>(place: &mut Place<'_, 'a>) -> Result<Head<'a>, Error>
+pub fn printed_head<'a>(place: &mut Place<'_, 'a>) -> Read<Head<'a>>
     ensures { Reads head_view exact_head place.old result place.new }
 {
     let begun = place.cursor();

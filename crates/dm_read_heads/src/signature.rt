@@ -21,8 +21,8 @@ use dm_read::token::is_word;
 use dm_read::words::is_name;
 use dm_read_leaves::ty::ty;
 use dm_read_places::front::{Keyword, Sign};
-use dm_read_places::place::Place;
-use dm_stream::{Delim, Error, Ident, Seq};
+use dm_read_places::place::{Place, Read};
+use dm_stream::{Delim, Ident, Seq};
 use std::alloc::{AllocError, Global};
 
 /// What stands in a method's parentheses: its receiver, its parameter, both or none.
@@ -75,7 +75,7 @@ impl<'a> Signature<'a> {
 }
 
 /// A type, to the end.
-fn last_type<'a>(place: &mut Place<'_, 'a>) -> Result<Ty<'a>, Error>
+fn last_type<'a>(place: &mut Place<'_, 'a>) -> Read<Ty<'a>>
     ensures { ReadsWhole ty_view spec.last_type place.old result }
 {
     let found = ty(place)?;
@@ -83,7 +83,7 @@ fn last_type<'a>(place: &mut Place<'_, 'a>) -> Result<Ty<'a>, Error>
 }
 
 /// `:` and a type, to the end.
-fn typed<'a>(place: &mut Place<'_, 'a>) -> Result<Ty<'a>, Error>
+fn typed<'a>(place: &mut Place<'_, 'a>) -> Read<Ty<'a>>
     ensures { ReadsWhole ty_view spec.typed place.old result }
 {
     place.colon()?;
@@ -91,7 +91,7 @@ fn typed<'a>(place: &mut Place<'_, 'a>) -> Result<Ty<'a>, Error>
 }
 
 /// A name and its type, to the end.
-fn param<'a>(place: &mut Place<'_, 'a>) -> Result<MethodParam<'a>, Error>
+fn param<'a>(place: &mut Place<'_, 'a>) -> Read<MethodParam<'a>>
     ensures { ReadsWhole method_param_view spec.param_at place.old result }
 {
     let name = place.declared()?;
@@ -100,7 +100,7 @@ fn param<'a>(place: &mut Place<'_, 'a>) -> Result<MethodParam<'a>, Error>
 }
 
 /// A parameter behind a receiver.
-fn with_param<'a>(receiver: Receiver, place: &mut Place<'_, 'a>) -> Result<Inputs<'a>, Error>
+fn with_param<'a>(receiver: Receiver, place: &mut Place<'_, 'a>) -> Read<Inputs<'a>>
     ensures { ReadsWhole inputs_view (spec.with_param receiver) place.old result }
 {
     Ok(Inputs {
@@ -110,7 +110,7 @@ fn with_param<'a>(receiver: Receiver, place: &mut Place<'_, 'a>) -> Result<Input
 }
 
 /// A comma, and a parameter behind a receiver.
-fn behind_comma<'a>(receiver: Receiver, place: &mut Place<'_, 'a>) -> Result<Inputs<'a>, Error>
+fn behind_comma<'a>(receiver: Receiver, place: &mut Place<'_, 'a>) -> Read<Inputs<'a>>
     ensures { ReadsWhole inputs_view (spec.behind_comma receiver) place.old result }
 {
     place.comma()?;
@@ -118,7 +118,7 @@ fn behind_comma<'a>(receiver: Receiver, place: &mut Place<'_, 'a>) -> Result<Inp
 }
 
 /// What stands behind `self`.
-fn behind_receiver<'a>(receiver: Receiver, place: &mut Place<'_, 'a>) -> Result<Inputs<'a>, Error>
+fn behind_receiver<'a>(receiver: Receiver, place: &mut Place<'_, 'a>) -> Read<Inputs<'a>>
     ensures { ReadsWhole inputs_view (λ ts. plain.behind_receiver leaves receiver (next ts)) place.old result }
 {
     if place.at_end() {
@@ -131,7 +131,7 @@ fn behind_receiver<'a>(receiver: Receiver, place: &mut Place<'_, 'a>) -> Result<
 }
 
 /// `self`, and what stands behind it.
-fn receiver_first<'a>(receiver: Receiver, place: &mut Place<'_, 'a>) -> Result<Inputs<'a>, Error>
+fn receiver_first<'a>(receiver: Receiver, place: &mut Place<'_, 'a>) -> Read<Inputs<'a>>
     ensures { ReadsWhole inputs_view (λ ts. plain.self_from leaves receiver (next ts)) place.old result }
 {
     let Some(name) = place.name() else {
@@ -144,7 +144,7 @@ fn receiver_first<'a>(receiver: Receiver, place: &mut Place<'_, 'a>) -> Result<I
 }
 
 /// What stands behind `&`.
-fn reference<'a>(place: &mut Place<'_, 'a>) -> Result<Inputs<'a>, Error>
+fn reference<'a>(place: &mut Place<'_, 'a>) -> Read<Inputs<'a>>
     ensures { ReadsWhole inputs_view (λ ts. plain.ref_input leaves (next ts)) place.old result }
 {
     if place.take_keyword(Keyword::Mut) {
@@ -165,7 +165,7 @@ fn sees_declared(place: &Place<'_, '_>) -> bool
 }
 
 /// A parameter without a receiver.
-fn only_param<'a>(place: &mut Place<'_, 'a>) -> Result<Inputs<'a>, Error>
+fn only_param<'a>(place: &mut Place<'_, 'a>) -> Read<Inputs<'a>>
     ensures { ReadsWhole inputs_view spec.only_param place.old result }
 {
     Ok(Inputs {
@@ -175,7 +175,7 @@ fn only_param<'a>(place: &mut Place<'_, 'a>) -> Result<Inputs<'a>, Error>
 }
 
 /// What stands in a method's parentheses.
-fn all_inputs<'a>(place: &mut Place<'_, 'a>) -> Result<Inputs<'a>, Error>
+fn all_inputs<'a>(place: &mut Place<'_, 'a>) -> Read<Inputs<'a>>
     ensures { ReadsWhole inputs_view (λ ts. plain.read_inputs leaves (next ts)) place.old result }
 {
     if place.at_end() {
@@ -194,7 +194,7 @@ fn all_inputs<'a>(place: &mut Place<'_, 'a>) -> Result<Inputs<'a>, Error>
 }
 
 /// The same in their parentheses.
-fn inputs_in_parens<'a>(place: &mut Place<'_, 'a>) -> Result<Inputs<'a>, Error>
+fn inputs_in_parens<'a>(place: &mut Place<'_, 'a>) -> Read<Inputs<'a>>
     ensures { Reads inputs_view (λ ts. plain.inputs_after leaves (next ts)) place.old result place.new }
 {
     let Some(mut inside) = place.group(Delim::Paren) else {
@@ -204,7 +204,7 @@ fn inputs_in_parens<'a>(place: &mut Place<'_, 'a>) -> Result<Inputs<'a>, Error>
 }
 
 /// `->` and a type, or nothing.
-fn output<'a>(place: &mut Place<'_, 'a>) -> Result<Option<Ty<'a>>, Error>
+fn output<'a>(place: &mut Place<'_, 'a>) -> Read<Option<Ty<'a>>>
     ensures { Reads (option_map ty_view) (λ ts. plain.output_after leaves ts (next ts)) place.old result place.new }
 {
     if !place.take(Sign::Arrow) {
@@ -214,7 +214,7 @@ fn output<'a>(place: &mut Place<'_, 'a>) -> Result<Option<Ty<'a>>, Error>
 }
 
 /// Parameters in parentheses, and perhaps a type behind `->`.
-fn unnamed_signature<'a>(place: &mut Place<'_, 'a>) -> Result<Signature<'a>, Error>
+fn unnamed_signature<'a>(place: &mut Place<'_, 'a>) -> Read<Signature<'a>>
     ensures { Reads signature_view spec.signature_at place.old result place.new }
 {
     let inputs = inputs_in_parens(place)?;
@@ -223,7 +223,7 @@ fn unnamed_signature<'a>(place: &mut Place<'_, 'a>) -> Result<Signature<'a>, Err
 }
 
 /// A method's name and what it takes and gives. Refused where they don't stand there.
-pub fn named_signature<'a>(place: &mut Place<'_, 'a>) -> Result<(Ident<'a>, Signature<'a>), Error>
+pub fn named_signature<'a>(place: &mut Place<'_, 'a>) -> Read<(Ident<'a>, Signature<'a>)>
     ensures { Reads named_view spec.named_signature place.old result place.new }
 {
     let name = place.declared()?;

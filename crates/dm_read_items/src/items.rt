@@ -8,14 +8,13 @@ ghost use Rattle.dm_read_places.specs.Reads.{ReadsWhole};
 use dm_nodes::item::ItemNodes;
 use dm_read_exprs::nested::expr;
 use dm_read_members::Bodies;
-use dm_read_places::place::Place;
-use dm_stream::Error;
+use dm_read_places::place::{Place, Read};
 
 /// How many expressions may stand in one another. Deeper ones want memory: that of the stack.
 const ROOM: usize = 1024;
 
 /// Implementations, to the end of the trees. Refuses where none stand there, or anything else does.
-pub(crate) fn items<'a>(place: &mut Place<'_, 'a>) -> Result<ItemNodes<'a>, Error>
+pub(crate) fn items<'a>(place: &mut Place<'_, 'a>) -> Read<ItemNodes<'a>>
     ensures { ReadsWhole (map item_view) read_output place.old result }
 {
     let bodies = Bodies { room: ROOM, expr };

@@ -21,8 +21,8 @@ use dm_expr::pair_size;
 use dm_input::join::ended;
 use dm_output::PathExpr;
 use dm_read_exact::exact::exact;
-use dm_read_places::place::Place;
-use dm_stream::{Cursor, Error, Piece, Punct, Spacing, Span};
+use dm_read_places::place::{Place, Read};
+use dm_stream::{Cursor, Piece, Punct, Spacing, Span};
 use std::alloc::Global;
 
 fn is_joint(spacing: Spacing) -> bool
@@ -97,7 +97,7 @@ fn unranged<'a>(found: Ty<'a>) -> Ty<'a>
 }
 
 /// The type that a run of trees is.
-fn cut_out<'a>(alloc: Global, piece: Piece<'_, 'a>) -> Result<Ty<'a>, Error>
+fn cut_out<'a>(alloc: Global, piece: Piece<'_, 'a>) -> Read<Ty<'a>>
     requires { sound_piece piece }
     ensures { ReadsWhole ty_view (λ ts. whole (read_type ts)) (trees_in piece.entry) result }
 {
@@ -107,7 +107,7 @@ fn cut_out<'a>(alloc: Global, piece: Piece<'_, 'a>) -> Result<Ty<'a>, Error>
 }
 
 /// The type that a qualified path is, without its range, however it is spaced.
-fn front_path<'a>(place: &mut Place<'_, 'a>) -> Result<Ty<'a>, Error>
+fn front_path<'a>(place: &mut Place<'_, 'a>) -> Read<Ty<'a>>
     ensures { Reads ty_view cut_type place.old result place.new }
 {
     let Some((piece, rest)) = cut(place.cursor()) else {
@@ -118,7 +118,7 @@ fn front_path<'a>(place: &mut Place<'_, 'a>) -> Result<Ty<'a>, Error>
 }
 
 /// The same, spaced as paths are printed.
-fn exact_path<'a>(place: &mut Place<'_, 'a>) -> Result<Ty<'a>, Error>
+fn exact_path<'a>(place: &mut Place<'_, 'a>) -> Read<Ty<'a>>
     ensures { Reads ty_view exact_cut place.old result place.new }
 {
     let begun = place.cursor();
@@ -155,7 +155,7 @@ fn qualified_of<'a>(found: Ty<'a>) -> Option<PathExpr<'a>>
 }
 
 /// A qualified path, spaced as types are printed. Refuses as [ty](crate::ty::ty).
-pub fn qualified<'a>(place: &mut Place<'_, 'a>) -> Result<PathExpr<'a>, Error>
+pub fn qualified<'a>(place: &mut Place<'_, 'a>) -> Read<PathExpr<'a>>
     ensures { Reads path_expr_view exact_qualified place.old result place.new }
 {
     let found = exact_path(place)?;

@@ -9,12 +9,11 @@ ghost use Rattle.dm_read_places.specs.Reads.{Reads};
 use dm_ast::Ty;
 use dm_input::Input;
 use dm_read_exact::exact::exact;
-use dm_read_places::place::Place;
+use dm_read_places::place::{Place, Read};
 use dm_read_types::entry;
-use dm_stream::Error;
 
 /// The type in front, however it is spaced.
-pub fn front_type<'a>(place: &mut Place<'_, 'a>) -> Result<Ty<'a>, Error>
+pub fn front_type<'a>(place: &mut Place<'_, 'a>) -> Read<Ty<'a>>
     ensures { Reads ty_view read_type place.old result place.new }
 {
     let mut input = Input::new(place.alloc(), 0, place.cursor());
@@ -24,7 +23,7 @@ pub fn front_type<'a>(place: &mut Place<'_, 'a>) -> Result<Ty<'a>, Error>
 }
 
 /// A type, spaced as types are printed. Refuses where none stands there, or one that nests deeper than 128.
-pub fn ty<'a>(place: &mut Place<'_, 'a>) -> Result<Ty<'a>, Error>
+pub fn ty<'a>(place: &mut Place<'_, 'a>) -> Read<Ty<'a>>
     ensures { Reads ty_view exact_type place.old result place.new }
 {
     let begun = place.cursor();

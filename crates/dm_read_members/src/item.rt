@@ -23,14 +23,14 @@ use dm_read_heads::attr::attrs;
 use dm_read_heads::head::{Head, printed_head};
 use dm_read_places::front::Keyword;
 use dm_read_places::list::{Rule, Turn, gathered};
-use dm_read_places::place::Place;
-use dm_stream::{Delim, Error, Seq};
+use dm_read_places::place::{Place, Read};
+use dm_stream::{Delim, Seq};
 use std::alloc::{AllocError, Global};
 
 type Members<'a> = (AssocTypes<'a>, MethodNodes<'a>);
 
 /// The associated types in front.
-fn all_assocs<'a>(place: &mut Place<'_, 'a>) -> Result<AssocTypes<'a>, Error>
+fn all_assocs<'a>(place: &mut Place<'_, 'a>) -> Read<AssocTypes<'a>>
     ensures { Reads (map assoc_view) spec.all_assocs place.old result place.new }
 {
     let fuel = turns(place.cursor());
@@ -55,11 +55,8 @@ struct ItemRule<'g, F> {
     bodies: &'g Bodies<F>,
 }
 
-impl<
-    'g,
-    'a,
-    F: Copy + for<'t, 'b> Fn(&mut Place<'t, 'b>, Wanted) -> Result<ExprNode<'b>, Error>,
-> Rule<'a> for ItemRule<'g, F> {
+impl<'g, 'a, F: Copy + for<'t, 'b> Fn(&mut Place<'t, 'b>, Wanted) -> Read<ExprNode<'b>>> Rule<'a>
+    for ItemRule<'g, F> {
     ghost use Rattle.dm_output.specs.Output.{ItemTree};
     ghost use Rattle.dm_output.specs.Views.{item_view};
     ghost use Rattle.dm_read_arguments.specs.ExprNests.{ExprNests};
@@ -71,21 +68,13 @@ impl<
 
     ghost Tree = { ItemTree };
 
-    ghost Tail = { Unit {0} };
-
     ghost view = { item_view };
-
-    ghost last = { λ u. u };
 
     ghost usable = { λ r. ExprNests r.bodies.now.room (F.pre r.bodies.now.expr) (F.post r.bodies.now.expr) };
 
     ghost reader = { λ _. item_turn };
 
-    fn turn(
-        &self,
-        _fuel: usize,
-        place: &mut Place<'_, 'a>,
-    ) -> Result<Turn<ItemNode<'a>, ()>, Error> {
+    fn turn(&self, _fuel: usize, place: &mut Place<'_, 'a>) -> Read<Turn<ItemNode<'a>, ()>> {
         if place.at_end() {
             return Ok(Turn::End(()));
         }
@@ -93,11 +82,9 @@ impl<
     }
 }
 
-impl<F: Copy + for<'t, 'b> Fn(&mut Place<'t, 'b>, Wanted) -> Result<ExprNode<'b>, Error>> Bodies<
-    F,
-> {
+impl<F: Copy + for<'t, 'b> Fn(&mut Place<'t, 'b>, Wanted) -> Read<ExprNode<'b>>> Bodies<F> {
     /// Associated types, and methods to the end.
-    fn all_members<'a>(&self, place: &mut Place<'_, 'a>) -> Result<Members<'a>, Error>
+    fn all_members<'a>(&self, place: &mut Place<'_, 'a>) -> Read<Members<'a>>
         requires { ExprNests self.now.room (F.pre self.now.expr) (F.post self.now.expr) }
         ensures { ReadsWhole members_view spec.all_members place.old result }
     {
@@ -106,7 +93,7 @@ impl<F: Copy + for<'t, 'b> Fn(&mut Place<'t, 'b>, Wanted) -> Result<ExprNode<'b>
     }
 
     /// Members in braces.
-    fn braced<'a>(&self, place: &mut Place<'_, 'a>) -> Result<Members<'a>, Error>
+    fn braced<'a>(&self, place: &mut Place<'_, 'a>) -> Read<Members<'a>>
         requires { ExprNests self.now.room (F.pre self.now.expr) (F.post self.now.expr) }
         ensures { Reads members_view (λ ts. spec.braced (next ts)) place.old result place.new }
     {
@@ -117,7 +104,7 @@ impl<F: Copy + for<'t, 'b> Fn(&mut Place<'t, 'b>, Wanted) -> Result<ExprNode<'b>
     }
 
     /// A head and its members.
-    fn behind_impl<'a>(&self, place: &mut Place<'_, 'a>) -> Result<(Head<'a>, Members<'a>), Error>
+    fn behind_impl<'a>(&self, place: &mut Place<'_, 'a>) -> Read<(Head<'a>, Members<'a>)>
         requires { ExprNests self.now.room (F.pre self.now.expr) (F.post self.now.expr) }
         ensures { Reads unmarked_view spec.behind_impl place.old result place.new }
     {
@@ -126,7 +113,7 @@ impl<F: Copy + for<'t, 'b> Fn(&mut Place<'t, 'b>, Wanted) -> Result<ExprNode<'b>
     }
 
     /// What stands behind the attributes.
-    fn unmarked<'a>(&self, place: &mut Place<'_, 'a>) -> Result<(Head<'a>, Members<'a>), Error>
+    fn unmarked<'a>(&self, place: &mut Place<'_, 'a>) -> Read<(Head<'a>, Members<'a>)>
         requires { ExprNests self.now.room (F.pre self.now.expr) (F.post self.now.expr) }
         ensures { Reads unmarked_view spec.unmarked place.old result place.new }
     {
@@ -137,7 +124,7 @@ impl<F: Copy + for<'t, 'b> Fn(&mut Place<'t, 'b>, Wanted) -> Result<ExprNode<'b>
     }
 
     /// An implementation.
-    fn item<'a>(&self, place: &mut Place<'_, 'a>) -> Result<ItemNode<'a>, Error>
+    fn item<'a>(&self, place: &mut Place<'_, 'a>) -> Read<ItemNode<'a>>
         requires { ExprNests self.now.room (F.pre self.now.expr) (F.post self.now.expr) }
         ensures { Reads item_view (plain.read_item item_leaves) place.old result place.new }
     {
@@ -147,11 +134,7 @@ impl<F: Copy + for<'t, 'b> Fn(&mut Place<'t, 'b>, Wanted) -> Result<ExprNode<'b>
     }
 
     /// Implementations, to the end, in at most so many turns.
-    fn items_within<'a>(
-        &self,
-        most: usize,
-        place: &mut Place<'_, 'a>,
-    ) -> Result<ItemNodes<'a>, Error>
+    fn items_within<'a>(&self, most: usize, place: &mut Place<'_, 'a>) -> Read<ItemNodes<'a>>
         requires { ExprNests self.now.room (F.pre self.now.expr) (F.post self.now.expr) }
         ensures { ReadsWhole (map item_view) (plain.items_with item_leaves most) place.old result }
     {
@@ -160,7 +143,7 @@ impl<F: Copy + for<'t, 'b> Fn(&mut Place<'t, 'b>, Wanted) -> Result<ExprNode<'b>
     }
 
     /// Implementations, to the end of the trees. Refuses where none stand there, or anything else does.
-    pub fn items<'a>(&self, place: &mut Place<'_, 'a>) -> Result<ItemNodes<'a>, Error>
+    pub fn items<'a>(&self, place: &mut Place<'_, 'a>) -> Read<ItemNodes<'a>>
         requires { ExprNests self.now.room (F.pre self.now.expr) (F.post self.now.expr) }
         ensures { ReadsWhole (map item_view) read_output place.old result }
     {

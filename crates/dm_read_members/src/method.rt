@@ -26,7 +26,7 @@ use dm_read_heads::attr::attrs;
 use dm_read_heads::signature::{Signature, named_signature};
 use dm_read_places::front::Keyword;
 use dm_read_places::list::{Rule, Turn, gathered};
-use dm_read_places::place::Place;
+use dm_read_places::place::{Place, Read};
 use dm_stream::{Delim, Error, Ident, Seq};
 use std::alloc::{AllocError, Global};
 
@@ -40,7 +40,7 @@ pub struct Bodies<F> {
 }
 
 /// `const` perhaps, and `fn`: whether it is `const`.
-fn const_fn(place: &mut Place<'_, '_>) -> Result<bool, Error>
+fn const_fn(place: &mut Place<'_, '_>) -> Read<bool>
     ensures { Reads (λ b. b) (λ ts. spec.const_fn (next ts)) place.old result place.new }
 {
     let is_const = place.take_keyword(Keyword::Const);
@@ -70,11 +70,8 @@ struct MethodRule<'g, F> {
     bodies: &'g Bodies<F>,
 }
 
-impl<
-    'g,
-    'a,
-    F: Copy + for<'t, 'b> Fn(&mut Place<'t, 'b>, Wanted) -> Result<ExprNode<'b>, Error>,
-> Rule<'a> for MethodRule<'g, F> {
+impl<'g, 'a, F: Copy + for<'t, 'b> Fn(&mut Place<'t, 'b>, Wanted) -> Read<ExprNode<'b>>> Rule<'a>
+    for MethodRule<'g, F> {
     ghost use Rattle.dm_output.specs.Output.{MethodTree};
     ghost use Rattle.dm_output.specs.Views.{method_view};
     ghost use Rattle.dm_read_arguments.specs.ExprNests.{ExprNests};
@@ -86,21 +83,13 @@ impl<
 
     ghost Tree = { MethodTree };
 
-    ghost Tail = { Unit {0} };
-
     ghost view = { method_view };
-
-    ghost last = { λ u. u };
 
     ghost usable = { λ r. ExprNests r.bodies.now.room (F.pre r.bodies.now.expr) (F.post r.bodies.now.expr) };
 
     ghost reader = { λ _. method_turn };
 
-    fn turn(
-        &self,
-        _fuel: usize,
-        place: &mut Place<'_, 'a>,
-    ) -> Result<Turn<MethodNode<'a>, ()>, Error> {
+    fn turn(&self, _fuel: usize, place: &mut Place<'_, 'a>) -> Read<Turn<MethodNode<'a>, ()>> {
         if place.at_end() {
             return Ok(Turn::End(()));
         }
@@ -108,11 +97,9 @@ impl<
     }
 }
 
-impl<F: Copy + for<'t, 'b> Fn(&mut Place<'t, 'b>, Wanted) -> Result<ExprNode<'b>, Error>> Bodies<
-    F,
-> {
+impl<F: Copy + for<'t, 'b> Fn(&mut Place<'t, 'b>, Wanted) -> Read<ExprNode<'b>>> Bodies<F> {
     /// The inside of a block, to the end.
-    fn block<'a>(&self, place: &mut Place<'_, 'a>, fuel: usize) -> Result<BlockNode<'a>, Error>
+    fn block<'a>(&self, place: &mut Place<'_, 'a>, fuel: usize) -> Read<BlockNode<'a>>
         requires { ExprNests self.now.room (F.pre self.now.expr) (F.post self.now.expr) }
         ensures { ReadsWhole block_view (rows fuel).block place.old result }
     {
@@ -127,7 +114,7 @@ impl<F: Copy + for<'t, 'b> Fn(&mut Place<'t, 'b>, Wanted) -> Result<ExprNode<'b>
     }
 
     /// The inside of a body, to the end.
-    fn inside<'a>(&self, place: &mut Place<'_, 'a>) -> Result<BlockNode<'a>, Error>
+    fn inside<'a>(&self, place: &mut Place<'_, 'a>) -> Read<BlockNode<'a>>
         requires { ExprNests self.now.room (F.pre self.now.expr) (F.post self.now.expr) }
         ensures { ReadsWhole block_view (read_inside leaves) place.old result }
     {
@@ -138,7 +125,7 @@ impl<F: Copy + for<'t, 'b> Fn(&mut Place<'t, 'b>, Wanted) -> Result<ExprNode<'b>
     }
 
     /// A body in braces.
-    fn body<'a>(&self, place: &mut Place<'_, 'a>) -> Result<BlockNode<'a>, Error>
+    fn body<'a>(&self, place: &mut Place<'_, 'a>) -> Read<BlockNode<'a>>
         requires { ExprNests self.now.room (F.pre self.now.expr) (F.post self.now.expr) }
         ensures { Reads block_view (λ ts. plain.body_after leaves (next ts)) place.old result place.new }
     {
@@ -149,7 +136,7 @@ impl<F: Copy + for<'t, 'b> Fn(&mut Place<'t, 'b>, Wanted) -> Result<ExprNode<'b>
     }
 
     /// What stands behind `fn`.
-    fn behind_fn<'a>(&self, place: &mut Place<'_, 'a>) -> Result<Behind<'a>, Error>
+    fn behind_fn<'a>(&self, place: &mut Place<'_, 'a>) -> Read<Behind<'a>>
         requires { ExprNests self.now.room (F.pre self.now.expr) (F.post self.now.expr) }
         ensures { Reads behind_view spec.behind_fn place.old result place.new }
     {
@@ -158,7 +145,7 @@ impl<F: Copy + for<'t, 'b> Fn(&mut Place<'t, 'b>, Wanted) -> Result<ExprNode<'b>
     }
 
     /// What stands behind the attributes.
-    fn unnamed<'a>(&self, place: &mut Place<'_, 'a>) -> Result<(bool, Behind<'a>), Error>
+    fn unnamed<'a>(&self, place: &mut Place<'_, 'a>) -> Read<(bool, Behind<'a>)>
         requires { ExprNests self.now.room (F.pre self.now.expr) (F.post self.now.expr) }
         ensures { Reads unnamed_view spec.unnamed place.old result place.new }
     {
@@ -167,7 +154,7 @@ impl<F: Copy + for<'t, 'b> Fn(&mut Place<'t, 'b>, Wanted) -> Result<ExprNode<'b>
     }
 
     /// A method.
-    fn method<'a>(&self, place: &mut Place<'_, 'a>) -> Result<MethodNode<'a>, Error>
+    fn method<'a>(&self, place: &mut Place<'_, 'a>) -> Read<MethodNode<'a>>
         requires { ExprNests self.now.room (F.pre self.now.expr) (F.post self.now.expr) }
         ensures { Reads method_view (plain.read_method leaves) place.old result place.new }
     {
@@ -177,11 +164,7 @@ impl<F: Copy + for<'t, 'b> Fn(&mut Place<'t, 'b>, Wanted) -> Result<ExprNode<'b>
     }
 
     /// Methods, to the end, in at most so many turns.
-    fn methods_within<'a>(
-        &self,
-        most: usize,
-        place: &mut Place<'_, 'a>,
-    ) -> Result<MethodNodes<'a>, Error>
+    fn methods_within<'a>(&self, most: usize, place: &mut Place<'_, 'a>) -> Read<MethodNodes<'a>>
         requires { ExprNests self.now.room (F.pre self.now.expr) (F.post self.now.expr) }
         ensures { ReadsWhole (map method_view) (plain.read_methods leaves most) place.old result }
     {
@@ -190,7 +173,7 @@ impl<F: Copy + for<'t, 'b> Fn(&mut Place<'t, 'b>, Wanted) -> Result<ExprNode<'b>
     }
 
     /// Methods, to the end.
-    pub(crate) fn methods<'a>(&self, place: &mut Place<'_, 'a>) -> Result<MethodNodes<'a>, Error>
+    pub(crate) fn methods<'a>(&self, place: &mut Place<'_, 'a>) -> Read<MethodNodes<'a>>
         requires { ExprNests self.now.room (F.pre self.now.expr) (F.post self.now.expr) }
         ensures { ReadsWhole (map method_view) spec.all_methods place.old result }
     {

@@ -12,15 +12,10 @@ use crate::nested::pattern;
 use crate::pattern::Patterns;
 use dm_input::join::joined;
 use dm_pattern_nodes::node::PatternNodes;
-use dm_read_places::place::Place;
-use dm_stream::Error;
+use dm_read_places::place::{Place, Read};
 
 /// The patterns behind the first of an arm, with `|` before each.
-fn alternatives<'a>(
-    place: &mut Place<'_, 'a>,
-    fuel: usize,
-    room: usize,
-) -> Result<PatternNodes<'a>, Error>
+fn alternatives<'a>(place: &mut Place<'_, 'a>, fuel: usize, room: usize) -> Read<PatternNodes<'a>>
     ensures { Reads (λ v. patterns_of (map pattern_view v)) (rows fuel).bars place.old result place.new }
 {
     let rules = Patterns {
@@ -37,7 +32,7 @@ pub fn arm_patterns<'a>(
     place: &mut Place<'_, 'a>,
     fuel: usize,
     room: usize,
-) -> Result<PatternNodes<'a>, Error>
+) -> Read<PatternNodes<'a>>
     ensures { Reads (λ v. patterns_of (map pattern_view v)) (spec.arm_patterns fuel) place.old result place.new }
 {
     let first = pattern(place, fuel, room)?;

@@ -24,8 +24,8 @@ use dm_read_places::expect::is_str;
 use dm_read_places::front::{Keyword, Sign};
 use dm_read_places::list::{Rule, Turn, gathered};
 use dm_read_places::path::path;
-use dm_read_places::place::Place;
-use dm_stream::{Delim, Error, Literal};
+use dm_read_places::place::{Place, Read};
+use dm_stream::{Delim, Literal};
 
 /// The rules of patterns.
 #[derive(Clone, Copy)]
@@ -38,12 +38,11 @@ pub struct Patterns<F> {
     pub pattern: F,
 }
 
-impl<
-    'a,
-    F: Copy + for<'t> Fn(&mut Place<'t, 'a>, usize, usize) -> Result<PatternNode<'a>, Error>,
-> Patterns<F> {
+impl<'a, F: Copy + for<'t> Fn(&mut Place<'t, 'a>, usize, usize) -> Read<PatternNode<'a>>> Patterns<
+    F,
+> {
     /// A pattern in a pattern.
-    pub fn inner(&self, place: &mut Place<'_, 'a>) -> Result<PatternNode<'a>, Error>
+    pub fn inner(&self, place: &mut Place<'_, 'a>) -> Read<PatternNode<'a>>
         requires { PatternNests self.now.room (F.pre self.now.pattern) (F.post self.now.pattern) }
         ensures { Reads pattern_view (rows self.now.fuel).pattern place.old result place.new }
     {
@@ -62,7 +61,7 @@ impl<
     }
 
     /// A pattern, and a comma behind it.
-    fn before_comma(&self, place: &mut Place<'_, 'a>) -> Result<PatternNode<'a>, Error>
+    fn before_comma(&self, place: &mut Place<'_, 'a>) -> Read<PatternNode<'a>>
         requires { PatternNests self.now.room (F.pre self.now.pattern) (F.post self.now.pattern) }
         ensures { Reads pattern_view (spec.before_comma self.now.fuel) place.old result place.new }
     {
@@ -71,7 +70,7 @@ impl<
     }
 
     /// A field's pattern behind its name, and a comma.
-    fn behind_colon(&self, place: &mut Place<'_, 'a>) -> Result<PatternNode<'a>, Error>
+    fn behind_colon(&self, place: &mut Place<'_, 'a>) -> Read<PatternNode<'a>>
         requires { PatternNests self.now.room (F.pre self.now.pattern) (F.post self.now.pattern) }
         ensures { Reads pattern_view (spec.behind_colon self.now.fuel) place.old result place.new }
     {
@@ -80,7 +79,7 @@ impl<
     }
 
     /// A field with its pattern and a comma.
-    fn field(&self, place: &mut Place<'_, 'a>) -> Result<NamedNode<'a>, Error>
+    fn field(&self, place: &mut Place<'_, 'a>) -> Read<NamedNode<'a>>
         requires { PatternNests self.now.room (F.pre self.now.pattern) (F.post self.now.pattern) }
         ensures { Reads named_view (spec.field self.now.fuel) place.old result place.new }
     {
@@ -90,7 +89,7 @@ impl<
     }
 
     /// Patterns with a comma behind each, to the end.
-    fn all(&self, place: &mut Place<'_, 'a>) -> Result<PatternNodes<'a>, Error>
+    fn all(&self, place: &mut Place<'_, 'a>) -> Read<PatternNodes<'a>>
         requires { PatternNests self.now.room (F.pre self.now.pattern) (F.post self.now.pattern) }
         ensures { ReadsWhole (λ v. patterns_of (map pattern_view v)) (rows self.now.fuel).patterns place.old result }
     {
@@ -99,7 +98,7 @@ impl<
     }
 
     /// Fields with their patterns, to the end, and whether `..` stands there.
-    fn fields(&self, place: &mut Place<'_, 'a>) -> Result<(NamedNodes<'a>, bool), Error>
+    fn fields(&self, place: &mut Place<'_, 'a>) -> Read<(NamedNodes<'a>, bool)>
         requires { PatternNests self.now.room (F.pre self.now.pattern) (F.post self.now.pattern) }
         ensures { ReadsWhole (λ v. (named_of (map named_view v.0), v.1)) (rows self.now.fuel).named_patterns place.old result }
     {
@@ -107,7 +106,7 @@ impl<
     }
 
     /// The patterns behind the first, with `|` before each.
-    pub fn alternatives(&self, place: &mut Place<'_, 'a>) -> Result<PatternNodes<'a>, Error>
+    pub fn alternatives(&self, place: &mut Place<'_, 'a>) -> Read<PatternNodes<'a>>
         requires { PatternNests self.now.room (F.pre self.now.pattern) (F.post self.now.pattern) }
         ensures { Reads (λ v. patterns_of (map pattern_view v)) (rows self.now.fuel).bars place.old result place.new }
     {
@@ -116,11 +115,7 @@ impl<
     }
 
     /// A pattern by the path that it begins with.
-    fn behind_path(
-        &self,
-        found: Path<'a>,
-        place: &mut Place<'_, 'a>,
-    ) -> Result<PatternNode<'a>, Error>
+    fn behind_path(&self, found: Path<'a>, place: &mut Place<'_, 'a>) -> Read<PatternNode<'a>>
         requires { PatternNests self.now.room (F.pre self.now.pattern) (F.post self.now.pattern) }
         ensures { Reads pattern_view (λ ts. plain.after_pattern_path (rows self.now.fuel) (path_view found.entry) ts (next ts)) place.old result place.new }
     {
@@ -136,7 +131,7 @@ impl<
     }
 
     /// A pattern that begins with a path.
-    fn with_path(&self, place: &mut Place<'_, 'a>) -> Result<PatternNode<'a>, Error>
+    fn with_path(&self, place: &mut Place<'_, 'a>) -> Read<PatternNode<'a>>
         requires { PatternNests self.now.room (F.pre self.now.pattern) (F.post self.now.pattern) }
         ensures { Reads pattern_view (λ ts. plain.pattern_path (rows self.now.fuel) (next ts)) place.old result place.new }
     {
@@ -145,7 +140,7 @@ impl<
     }
 
     /// A comma, and the last pattern.
-    fn last(&self, place: &mut Place<'_, 'a>) -> Result<PatternNode<'a>, Error>
+    fn last(&self, place: &mut Place<'_, 'a>) -> Read<PatternNode<'a>>
         requires { PatternNests self.now.room (F.pre self.now.pattern) (F.post self.now.pattern) }
         ensures { ReadsWhole pattern_view (spec.last self.now.fuel) place.old result }
     {
@@ -155,7 +150,7 @@ impl<
     }
 
     /// Two patterns with a comma between.
-    fn pair(&self, place: &mut Place<'_, 'a>) -> Result<PatternNode<'a>, Error>
+    fn pair(&self, place: &mut Place<'_, 'a>) -> Read<PatternNode<'a>>
         requires { PatternNests self.now.room (F.pre self.now.pattern) (F.post self.now.pattern) }
         ensures { ReadsWhole pattern_view (spec.pair self.now.fuel) place.old result }
     {
@@ -165,7 +160,7 @@ impl<
     }
 
     /// A pattern.
-    pub fn row(&self, place: &mut Place<'_, 'a>) -> Result<PatternNode<'a>, Error>
+    pub fn row(&self, place: &mut Place<'_, 'a>) -> Read<PatternNode<'a>>
         requires { PatternNests self.now.room (F.pre self.now.pattern) (F.post self.now.pattern) }
         ensures { Reads pattern_view (λ ts. plain.read_pattern (rows self.now.fuel) (next ts)) place.old result place.new }
     {
@@ -191,11 +186,9 @@ struct PatternRule<'g, F> {
     rules: &'g Patterns<F>,
 }
 
-impl<
-    'g,
+impl<'g, 'a, F: Copy + for<'t> Fn(&mut Place<'t, 'a>, usize, usize) -> Read<PatternNode<'a>>> Rule<
     'a,
-    F: Copy + for<'t> Fn(&mut Place<'t, 'a>, usize, usize) -> Result<PatternNode<'a>, Error>,
-> Rule<'a> for PatternRule<'g, F> {
+> for PatternRule<'g, F> {
     ghost use Rattle.dm_output.specs.Output.{PatternTree};
     ghost use Rattle.dm_output.specs.Views.{pattern_view};
     ghost use Rattle.dm_read_patterns.specs.PatternNests.{PatternNests};
@@ -207,21 +200,13 @@ impl<
 
     ghost Tree = { PatternTree };
 
-    ghost Tail = { Unit {0} };
-
     ghost view = { pattern_view };
-
-    ghost last = { λ u. u };
 
     ghost usable = { λ r. PatternNests r.rules.now.room (F.pre r.rules.now.pattern) (F.post r.rules.now.pattern) };
 
     ghost reader = { λ r. pattern_turn };
 
-    fn turn(
-        &self,
-        fuel: usize,
-        place: &mut Place<'_, 'a>,
-    ) -> Result<Turn<PatternNode<'a>, ()>, Error> {
+    fn turn(&self, fuel: usize, place: &mut Place<'_, 'a>) -> Read<Turn<PatternNode<'a>, ()>> {
         if place.at_end() {
             return Ok(Turn::End(()));
         }
@@ -235,12 +220,9 @@ struct FieldRule<'g, F> {
     rules: &'g Patterns<F>,
 }
 
-impl<
-    'g,
+impl<'g, 'a, F: Copy + for<'t> Fn(&mut Place<'t, 'a>, usize, usize) -> Read<PatternNode<'a>>> Rule<
     'a,
-    F: Copy + for<'t> Fn(&mut Place<'t, 'a>, usize, usize) -> Result<PatternNode<'a>, Error>,
-> Rule<'a> for FieldRule<'g, F> {
-    ghost use Rattle.std.specs.Prelude.{Bool};
+> for FieldRule<'g, F> {
     ghost use Rattle.dm_stream.specs.declared.tokens.Ident.{Ident};
     ghost use Rattle.dm_output.specs.Output.{PatternTree};
     ghost use Rattle.dm_output.specs.Views.{named_view};
@@ -253,21 +235,13 @@ impl<
 
     ghost Tree = { Ident × PatternTree };
 
-    ghost Tail = { Bool };
-
     ghost view = { named_view };
-
-    ghost last = { λ b. b };
 
     ghost usable = { λ r. PatternNests r.rules.now.room (F.pre r.rules.now.pattern) (F.post r.rules.now.pattern) };
 
     ghost reader = { λ r. named_pattern_turn };
 
-    fn turn(
-        &self,
-        fuel: usize,
-        place: &mut Place<'_, 'a>,
-    ) -> Result<Turn<NamedNode<'a>, bool>, Error> {
+    fn turn(&self, fuel: usize, place: &mut Place<'_, 'a>) -> Read<Turn<NamedNode<'a>, bool>> {
         if place.at_end() {
             return Ok(Turn::End(false));
         }
@@ -285,11 +259,9 @@ struct BarRule<'g, F> {
     rules: &'g Patterns<F>,
 }
 
-impl<
-    'g,
+impl<'g, 'a, F: Copy + for<'t> Fn(&mut Place<'t, 'a>, usize, usize) -> Read<PatternNode<'a>>> Rule<
     'a,
-    F: Copy + for<'t> Fn(&mut Place<'t, 'a>, usize, usize) -> Result<PatternNode<'a>, Error>,
-> Rule<'a> for BarRule<'g, F> {
+> for BarRule<'g, F> {
     ghost use Rattle.dm_output.specs.Output.{PatternTree};
     ghost use Rattle.dm_output.specs.Views.{pattern_view};
     ghost use Rattle.dm_read_patterns.specs.PatternNests.{PatternNests};
@@ -301,21 +273,13 @@ impl<
 
     ghost Tree = { PatternTree };
 
-    ghost Tail = { Unit {0} };
-
     ghost view = { pattern_view };
-
-    ghost last = { λ u. u };
 
     ghost usable = { λ r. PatternNests r.rules.now.room (F.pre r.rules.now.pattern) (F.post r.rules.now.pattern) };
 
     ghost reader = { λ r. bar_turn };
 
-    fn turn(
-        &self,
-        fuel: usize,
-        place: &mut Place<'_, 'a>,
-    ) -> Result<Turn<PatternNode<'a>, ()>, Error> {
+    fn turn(&self, fuel: usize, place: &mut Place<'_, 'a>) -> Read<Turn<PatternNode<'a>, ()>> {
         if !place.take(Sign::Bar) {
             return Ok(Turn::End(()));
         }
@@ -324,7 +288,7 @@ impl<
 }
 
 /// A name that is bound.
-fn bound<'a>(how: Binding, place: &mut Place<'_, 'a>) -> Result<PatternNode<'a>, Error>
+fn bound<'a>(how: Binding, place: &mut Place<'_, 'a>) -> Read<PatternNode<'a>>
     ensures { Reads pattern_view (λ ts. plain.bind_name how (next ts)) place.old result place.new }
 {
     let name = place.declared()?;
@@ -332,7 +296,7 @@ fn bound<'a>(how: Binding, place: &mut Place<'_, 'a>) -> Result<PatternNode<'a>,
 }
 
 /// What stands behind `ref`.
-fn referred<'a>(place: &mut Place<'_, 'a>) -> Result<PatternNode<'a>, Error>
+fn referred<'a>(place: &mut Place<'_, 'a>) -> Read<PatternNode<'a>>
     ensures { Reads pattern_view (λ ts. plain.ref_from (next ts)) place.old result place.new }
 {
     if place.take_keyword(Keyword::Mut) {
@@ -342,7 +306,7 @@ fn referred<'a>(place: &mut Place<'_, 'a>) -> Result<PatternNode<'a>, Error>
 }
 
 /// A string.
-fn text<'a>(found: &Literal<'a>, place: &Place<'_, 'a>) -> Result<PatternNode<'a>, Error>
+fn text<'a>(found: &Literal<'a>, place: &Place<'_, 'a>) -> Read<PatternNode<'a>>
     ensures { ReadsWhole pattern_view spec.text found.now result }
 {
     if !is_str(found.kind) {

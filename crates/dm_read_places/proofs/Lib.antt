@@ -1,5 +1,6 @@
 pub mod Numbers
 pub mod Seeing
+pub mod KeywordLengths
 pub mod Repeats
 pub mod Lists
 pub mod Expecting

@@ -11,13 +11,13 @@ ghost use Rattle.dm_read_places.specs.Reads.{Passes, Reads};
 ghost use Rattle.dm_read_places.specs.Turns.{declared_at};
 
 use crate::front::{Keyword, Sign};
-use crate::place::Place;
+use crate::place::{Place, Read};
 use dm_read::words::is_name;
-use dm_stream::{Error, Ident, LitKind, Literal};
+use dm_stream::{Ident, LitKind, Literal};
 
 impl<'t, 'a> Place<'t, 'a> {
     /// `,`.
-    pub fn comma(&mut self) -> Result<(), Error>
+    pub fn comma(&mut self) -> Read<()>
         ensures { Passes comma_after self.old result self.new }
     {
         if !self.take(Sign::Comma) {
@@ -27,7 +27,7 @@ impl<'t, 'a> Place<'t, 'a> {
     }
 
     /// `:`.
-    pub fn colon(&mut self) -> Result<(), Error>
+    pub fn colon(&mut self) -> Read<()>
         ensures { Passes colon_after self.old result self.new }
     {
         if !self.take(Sign::Colon) {
@@ -37,7 +37,7 @@ impl<'t, 'a> Place<'t, 'a> {
     }
 
     /// `;`.
-    pub fn semicolon(&mut self) -> Result<(), Error>
+    pub fn semicolon(&mut self) -> Read<()>
         ensures { Passes semicolon_after self.old result self.new }
     {
         if !self.take(Sign::Semicolon) {
@@ -47,7 +47,7 @@ impl<'t, 'a> Place<'t, 'a> {
     }
 
     /// `=>`.
-    pub fn leads(&mut self) -> Result<(), Error>
+    pub fn leads(&mut self) -> Read<()>
         ensures { Passes leads_after self.old result self.new }
     {
         if !self.take(Sign::Leads) {
@@ -57,7 +57,7 @@ impl<'t, 'a> Place<'t, 'a> {
     }
 
     /// `=` alone.
-    pub fn assigns(&mut self) -> Result<(), Error>
+    pub fn assigns(&mut self) -> Read<()>
         ensures { Passes assigns_after self.old result self.new }
     {
         if !self.take(Sign::Assigns) {
@@ -67,7 +67,7 @@ impl<'t, 'a> Place<'t, 'a> {
     }
 
     /// `+`.
-    pub fn plus(&mut self) -> Result<(), Error>
+    pub fn plus(&mut self) -> Read<()>
         ensures { Passes plus_after self.old result self.new }
     {
         if !self.take(Sign::Plus) {
@@ -77,7 +77,7 @@ impl<'t, 'a> Place<'t, 'a> {
     }
 
     /// `as`.
-    pub fn word_as(&mut self) -> Result<(), Error>
+    pub fn word_as(&mut self) -> Read<()>
         ensures { Passes as_after self.old result self.new }
     {
         if !self.take_keyword(Keyword::As) {
@@ -87,7 +87,7 @@ impl<'t, 'a> Place<'t, 'a> {
     }
 
     /// `_`.
-    pub fn wild(&mut self) -> Result<(), Error>
+    pub fn wild(&mut self) -> Read<()>
         ensures { Passes wild_after self.old result self.new }
     {
         if !self.take_keyword(Keyword::Wild) {
@@ -97,7 +97,7 @@ impl<'t, 'a> Place<'t, 'a> {
     }
 
     /// An integer.
-    pub fn int(&mut self) -> Result<Literal<'a>, Error>
+    pub fn int(&mut self) -> Read<Literal<'a>>
         ensures { Reads (λ l. l) (λ ts. int_after (next ts)) self.old result self.new }
     {
         let Some(found) = self.literal() else {
@@ -110,7 +110,7 @@ impl<'t, 'a> Place<'t, 'a> {
     }
 
     /// The end.
-    pub fn close(&self) -> Result<(), Error>
+    pub fn close(&self) -> Read<()>
         ensures { MatchResult result (λ _. self.now ≡ no_trees) (λ e. at_end self.now ≡ false) }
     {
         if self.at_end() {
@@ -121,7 +121,7 @@ impl<'t, 'a> Place<'t, 'a> {
     }
 
     /// A name that may be declared.
-    pub fn declared(&mut self) -> Result<Ident<'a>, Error>
+    pub fn declared(&mut self) -> Read<Ident<'a>>
         ensures { Reads (λ i. i) (λ ts. declared_at (next ts)) self.old result self.new }
     {
         let Some(ident) = self.name() else {

@@ -327,6 +327,17 @@ fn last_keyword(text: &str) -> Option<Keyword>
     }
 }
 
+/// The keyword that a text is. The longest have six letters.
+#[tactic(auto, using(crate::proofs::KeywordLengths::length_steps))]
+fn any_keyword(text: &str) -> Option<Keyword>
+    ensures { (w : Word) → words.keyword_of keywords.first_keywords text.now w ≡ keyword_or w result }
+{
+    if text.len() > 6 {
+        return None;
+    }
+    first_keyword(text)
+}
+
 /// A word of a path, or another.
 fn plain_kind(ident: &Ident<'_>) -> Kind
     ensures { word_of result ≡ words.path_or_other ident.now }
@@ -345,7 +356,7 @@ pub fn kind_of(ident: &Ident<'_>) -> Kind
     if ident.raw {
         return plain_kind(ident);
     }
-    match first_keyword(ident.name.as_str()) {
+    match any_keyword(ident.name.as_str()) {
         Some(found) => Kind::Keyword(found),
         None => plain_kind(ident),
     }

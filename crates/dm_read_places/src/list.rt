@@ -9,9 +9,9 @@ ghost use Rattle.dm_read_places.specs.declared.list.Turn.TheVariants.{One};
 ghost use Rattle.dm_read_places.specs.Reads.{Reads};
 ghost use Rattle.dm_read_places.specs.Repeating.{turn_view, repeat};
 
-use crate::place::Place;
+use crate::place::{Place, Read};
 use dm_gather::Gathers;
-use dm_stream::{Error, Seq};
+use dm_stream::Seq;
 
 /// One turn of a list: a part, or what ends the list.
 #[derive(Drop)]
@@ -21,7 +21,7 @@ pub enum Turn<T, E> {
 }
 
 /// The turn of a part that was read. What it is is open here, so nothing has to be known of how it is dropped.
-pub fn one<T: Drop, E: Drop>(part: Result<T, Error>) -> Result<Turn<T, E>, Error>
+pub fn one<T: Drop, E: Drop>(part: Read<T>) -> Read<Turn<T, E>>
     ensures { MatchResult part (λ t. result ≡ Ok (One t)) (λ e. result ≡ Err e) }
 {
     match part {
@@ -38,28 +38,20 @@ pub trait Rule<'a> {
     /// What it holds of the end.
     type Last: Drop;
 
-    /// What a part, and the end, are as plain data.
+    /// What a part is as plain data.
     ghost Tree: { Type 0 };
 
-    ghost Tail: { Type 0 };
-
     ghost view: { Self.Part → Tree };
-
-    ghost last: { Self.Last → Tail };
 
     /// What the rule itself has to meet.
     ghost usable: { Self → Type 0 };
 
-    ghost reader: { Self → ℕ → Trees → Answer (Turn Tree Tail) };
+    ghost reader: { Self → ℕ → Trees → Answer (Turn Tree Self.Last) };
 
     /// One turn, with fuel for what is in it.
-    fn turn(
-        &self,
-        fuel: usize,
-        place: &mut Place<'_, 'a>,
-    ) -> Result<Turn<Self::Part, Self::Last>, Error>
+    fn turn(&self, fuel: usize, place: &mut Place<'_, 'a>) -> Read<Turn<Self::Part, Self::Last>>
         requires { usable self.now }
-        ensures { Reads (turn_view view last) (reader self.now fuel) place.old result place.new };
+        ensures { Reads (turn_view view (λ u. u)) (reader self.now fuel) place.old result place.new };
 }
 
 /// Parts up to the end, in at most so many turns.
@@ -67,9 +59,9 @@ pub fn gathered<'a, R: Rule<'a>, L: Gathers<R::Part>>(
     rule: &R,
     fuel: usize,
     place: &mut Place<'_, 'a>,
-) -> Result<(L, R::Last), Error>
+) -> Read<(L, R::Last)>
     requires { R.usable rule.now }
-    ensures { Reads (λ v. (map R.view (L.parts v.0), R.last v.1)) (repeat (R.reader rule.now) fuel) place.old result place.new }
+    ensures { Reads (λ v. (map R.view (L.parts v.0), v.1)) (repeat (R.reader rule.now) fuel) place.old result place.new }
 {
     let mut items = L::none(place.alloc());
     let mut left = fuel;
@@ -89,9 +81,9 @@ pub fn repeated<'a, R: Rule<'a>>(
     rule: &R,
     fuel: usize,
     place: &mut Place<'_, 'a>,
-) -> Result<(Seq<R::Part>, R::Last), Error>
+) -> Read<(Seq<R::Part>, R::Last)>
     requires { R.usable rule.now }
-    ensures { Reads (λ v. (map R.view v.0, R.last v.1)) (repeat (R.reader rule.now) fuel) place.old result place.new }
+    ensures { Reads (λ v. (map R.view v.0, v.1)) (repeat (R.reader rule.now) fuel) place.old result place.new }
 {
     gathered(rule, fuel, place)
 }

@@ -10,15 +10,15 @@ ghost use Rattle.dm_read_places.specs.Turns.{rows, segment_at, segment_name};
 
 use crate::front::Sign;
 use crate::list::{Rule, Turn, repeated};
-use crate::place::Place;
+use crate::place::{Place, Read};
 use dm_ast::{Path, PathArguments, PathSegment};
 use dm_gather::fronted;
 use dm_input::join::joined;
 use dm_read_paths::path::{no_arguments, path_of, segment_of};
-use dm_stream::{Error, Ident, Seq};
+use dm_stream::{Ident, Seq};
 
 /// A segment.
-fn segment<'a>(place: &mut Place<'_, 'a>) -> Result<PathSegment<'a>, Error>
+fn segment<'a>(place: &mut Place<'_, 'a>) -> Read<PathSegment<'a>>
     ensures { Reads segment_view (λ ts. segment_at (next ts)) place.old result place.new }
 {
     let Some(ident) = place.name() else {
@@ -42,21 +42,13 @@ impl<'a> Rule<'a> for SegmentRule {
 
     ghost Tree = { SegmentTree };
 
-    ghost Tail = { Unit {0} };
-
     ghost view = { segment_view };
-
-    ghost last = { λ u. u };
 
     ghost usable = { λ r. Unit {0} };
 
     ghost reader = { λ r. segment_turn };
 
-    fn turn(
-        &self,
-        _fuel: usize,
-        place: &mut Place<'_, 'a>,
-    ) -> Result<Turn<PathSegment<'a>, ()>, Error> {
+    fn turn(&self, _fuel: usize, place: &mut Place<'_, 'a>) -> Read<Turn<PathSegment<'a>, ()>> {
         if !place.take(Sign::Colons) {
             return Ok(Turn::End(()));
         }
@@ -65,7 +57,7 @@ impl<'a> Rule<'a> for SegmentRule {
 }
 
 /// The segments behind the first.
-fn segments<'a>(fuel: usize, place: &mut Place<'_, 'a>) -> Result<Seq<PathSegment<'a>>, Error>
+fn segments<'a>(fuel: usize, place: &mut Place<'_, 'a>) -> Read<Seq<PathSegment<'a>>>
     ensures { Reads (λ v. segments_of (map segment_view v)) (rows fuel).segments place.old result place.new }
 {
     let (found, _) = repeated(&SegmentRule {}, fuel, place)?;
@@ -73,11 +65,7 @@ fn segments<'a>(fuel: usize, place: &mut Place<'_, 'a>) -> Result<Seq<PathSegmen
 }
 
 /// A path from its first segment on.
-fn path_behind<'a>(
-    leading_colon: bool,
-    fuel: usize,
-    place: &mut Place<'_, 'a>,
-) -> Result<Path<'a>, Error>
+fn path_behind<'a>(leading_colon: bool, fuel: usize, place: &mut Place<'_, 'a>) -> Read<Path<'a>>
     ensures { Reads path_view (λ ts. plain.path_from (rows fuel) leading_colon (next ts)) place.old result place.new }
 {
     let first = segment(place)?;
@@ -86,7 +74,7 @@ fn path_behind<'a>(
 }
 
 /// A path without arguments, as `::a::b`. `fuel` is more than the number of its segments.
-pub fn path<'a>(fuel: usize, place: &mut Place<'_, 'a>) -> Result<Path<'a>, Error>
+pub fn path<'a>(fuel: usize, place: &mut Place<'_, 'a>) -> Read<Path<'a>>
     ensures { Reads path_view (λ ts. plain.plain_path (rows fuel) (next ts)) place.old result place.new }
 {
     let leading_colon = place.take(Sign::Colons);

@@ -14,6 +14,9 @@ use dm_stream::{Cursor, Delim, Error, Ident, Literal};
 use std::alloc::Global;
 use std::marker::Model;
 
+/// What reading answers: what was read, or where and why it was refused.
+pub type Read<T> = Result<T, Error>;
+
 /// A place in a list of trees, and the memory for what is read there.
 #[derive(Drop)]
 pub struct Place<'t, 'a> {

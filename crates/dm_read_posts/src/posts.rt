@@ -25,8 +25,8 @@ use dm_read_arguments::sort::Wanted;
 use dm_read_formats::opaque::kept;
 use dm_read_places::front::Sign;
 use dm_read_places::list::{Rule, Turn, repeated};
-use dm_read_places::place::Place;
-use dm_stream::{Delim, Error, Ident, Seq};
+use dm_read_places::place::{Place, Read};
+use dm_stream::{Delim, Ident, Seq};
 
 /// The rules of what stands behind a receiver.
 #[derive(Clone, Copy)]
@@ -56,11 +56,8 @@ struct PostRule<'g, F> {
     rules: &'g Posts<F>,
 }
 
-impl<
-    'g,
-    'a,
-    F: Copy + for<'t, 'b> Fn(&mut Place<'t, 'b>, Wanted) -> Result<ExprNode<'b>, Error>,
-> Rule<'a> for PostRule<'g, F> {
+impl<'g, 'a, F: Copy + for<'t, 'b> Fn(&mut Place<'t, 'b>, Wanted) -> Read<ExprNode<'b>>> Rule<'a>
+    for PostRule<'g, F> {
     ghost use Rattle.dm_read_arguments.specs.ExprNests.{ExprNests};
     ghost use Rattle.dm_read_posts.specs.Posts.{PostTree, post_view};
     ghost use Rattle.dm_read_posts.specs.Turns.{post_turn};
@@ -71,24 +68,20 @@ impl<
 
     ghost Tree = { PostTree };
 
-    ghost Tail = { Unit {0} };
-
     ghost view = { post_view };
-
-    ghost last = { λ u. u };
 
     ghost usable = { λ r. ExprNests r.rules.now.parts.room (F.pre r.rules.now.parts.expr) (F.post r.rules.now.parts.expr) };
 
     ghost reader = { λ r. post_turn };
 
-    fn turn(&self, fuel: usize, place: &mut Place<'_, 'a>) -> Result<Turn<Post<'a>, ()>, Error> {
+    fn turn(&self, fuel: usize, place: &mut Place<'_, 'a>) -> Read<Turn<Post<'a>, ()>> {
         self.rules.with(fuel).post(place)
     }
 }
 
-impl<F: Copy + for<'t, 'b> Fn(&mut Place<'t, 'b>, Wanted) -> Result<ExprNode<'b>, Error>> Posts<F> {
+impl<F: Copy + for<'t, 'b> Fn(&mut Place<'t, 'b>, Wanted) -> Read<ExprNode<'b>>> Posts<F> {
     /// Arguments to the end, without a comma behind the last.
-    fn plain_arguments<'a>(&self, place: &mut Place<'_, 'a>) -> Result<ExprNodes<'a>, Error>
+    fn plain_arguments<'a>(&self, place: &mut Place<'_, 'a>) -> Read<ExprNodes<'a>>
         requires { ExprNests self.now.parts.room (F.pre self.now.parts.expr) (F.post self.now.parts.expr) }
         ensures { ReadsWhole (λ v. exprs_of (map expr_view v)) (spec.plain_args self.now.parts.fuel) place.old result }
     {
@@ -100,11 +93,7 @@ impl<F: Copy + for<'t, 'b> Fn(&mut Place<'t, 'b>, Wanted) -> Result<ExprNode<'b>
     }
 
     /// The call of a method of this name, by the inside of its parentheses.
-    fn plain_call<'a>(
-        &self,
-        name: &Ident<'a>,
-        inside: &mut Place<'_, 'a>,
-    ) -> Result<Post<'a>, Error>
+    fn plain_call<'a>(&self, name: &Ident<'a>, inside: &mut Place<'_, 'a>) -> Read<Post<'a>>
         requires { ExprNests self.now.parts.room (F.pre self.now.parts.expr) (F.post self.now.parts.expr) }
         ensures { ReadsWhole post_view (turns.method_post self.now.parts.fuel name.now) inside.old result }
     {
@@ -114,7 +103,7 @@ impl<F: Copy + for<'t, 'b> Fn(&mut Place<'t, 'b>, Wanted) -> Result<ExprNode<'b>
     }
 
     /// A closure behind its first `|`: its expression.
-    fn closure<'a>(&self, inside: &mut Place<'_, 'a>) -> Result<ExprNode<'a>, Error>
+    fn closure<'a>(&self, inside: &mut Place<'_, 'a>) -> Read<ExprNode<'a>>
         requires { ExprNests self.now.parts.room (F.pre self.now.parts.expr) (F.post self.now.parts.expr) }
         ensures { ReadsWhole expr_view (λ ts. plain.closure_from (rows self.now.parts.fuel) (next ts)) inside.old result }
     {
@@ -131,7 +120,7 @@ impl<F: Copy + for<'t, 'b> Fn(&mut Place<'t, 'b>, Wanted) -> Result<ExprNode<'b>
     }
 
     /// `map` with a closure, or as any other method.
-    fn map_call<'a>(&self, name: &Ident<'a>, inside: &mut Place<'_, 'a>) -> Result<Post<'a>, Error>
+    fn map_call<'a>(&self, name: &Ident<'a>, inside: &mut Place<'_, 'a>) -> Read<Post<'a>>
         requires { ExprNests self.now.parts.room (F.pre self.now.parts.expr) (F.post self.now.parts.expr) }
         ensures { ReadsWhole post_view (λ ts. turns.map_of self.now.parts.fuel name.now ts (next ts)) inside.old result }
     {
@@ -142,11 +131,7 @@ impl<F: Copy + for<'t, 'b> Fn(&mut Place<'t, 'b>, Wanted) -> Result<ExprNode<'b>
     }
 
     /// `map_err` with what isn't read, or as any other method.
-    fn map_err_call<'a>(
-        &self,
-        name: &Ident<'a>,
-        inside: &mut Place<'_, 'a>,
-    ) -> Result<Post<'a>, Error>
+    fn map_err_call<'a>(&self, name: &Ident<'a>, inside: &mut Place<'_, 'a>) -> Read<Post<'a>>
         requires { ExprNests self.now.parts.room (F.pre self.now.parts.expr) (F.post self.now.parts.expr) }
         ensures { ReadsWhole post_view (turns.map_err_of self.now.parts.fuel name.now) inside.old result }
     {
@@ -157,7 +142,7 @@ impl<F: Copy + for<'t, 'b> Fn(&mut Place<'t, 'b>, Wanted) -> Result<ExprNode<'b>
     }
 
     /// The call of a method.
-    fn method<'a>(&self, name: &Ident<'a>, inside: &mut Place<'_, 'a>) -> Result<Post<'a>, Error>
+    fn method<'a>(&self, name: &Ident<'a>, inside: &mut Place<'_, 'a>) -> Read<Post<'a>>
         requires { ExprNests self.now.parts.room (F.pre self.now.parts.expr) (F.post self.now.parts.expr) }
         ensures { ReadsWhole post_view (turns.call_of self.now.parts.fuel name.now) inside.old result }
     {
@@ -171,7 +156,7 @@ impl<F: Copy + for<'t, 'b> Fn(&mut Place<'t, 'b>, Wanted) -> Result<ExprNode<'b>
     }
 
     /// A method or a field of this name.
-    fn named<'a>(&self, name: &Ident<'a>, place: &mut Place<'_, 'a>) -> Result<Post<'a>, Error>
+    fn named<'a>(&self, name: &Ident<'a>, place: &mut Place<'_, 'a>) -> Read<Post<'a>>
         requires { ExprNests self.now.parts.room (F.pre self.now.parts.expr) (F.post self.now.parts.expr) }
         ensures { Reads post_view (λ ts. turns.member_at self.now.parts.fuel name.now ts (next ts)) place.old result place.new }
     {
@@ -182,7 +167,7 @@ impl<F: Copy + for<'t, 'b> Fn(&mut Place<'t, 'b>, Wanted) -> Result<ExprNode<'b>
     }
 
     /// What stands behind `.`.
-    fn behind_dot<'a>(&self, place: &mut Place<'_, 'a>) -> Result<Post<'a>, Error>
+    fn behind_dot<'a>(&self, place: &mut Place<'_, 'a>) -> Read<Post<'a>>
         requires { ExprNests self.now.parts.room (F.pre self.now.parts.expr) (F.post self.now.parts.expr) }
         ensures { Reads post_view (λ ts. turns.post_behind self.now.parts.fuel (next ts)) place.old result place.new }
     {
@@ -196,7 +181,7 @@ impl<F: Copy + for<'t, 'b> Fn(&mut Place<'t, 'b>, Wanted) -> Result<ExprNode<'b>
     }
 
     /// A member, a method or `?`, or what ends them.
-    fn post<'a>(&self, place: &mut Place<'_, 'a>) -> Result<Turn<Post<'a>, ()>, Error>
+    fn post<'a>(&self, place: &mut Place<'_, 'a>) -> Read<Turn<Post<'a>, ()>>
         requires { ExprNests self.now.parts.room (F.pre self.now.parts.expr) (F.post self.now.parts.expr) }
         ensures { Reads (turn_view post_view (λ u. u)) (turns.post_turn self.now.parts.fuel) place.old result place.new }
     {
@@ -210,7 +195,7 @@ impl<F: Copy + for<'t, 'b> Fn(&mut Place<'t, 'b>, Wanted) -> Result<ExprNode<'b>
     }
 
     /// What stands behind a receiver.
-    fn posts<'a>(&self, place: &mut Place<'_, 'a>) -> Result<Seq<Post<'a>>, Error>
+    fn posts<'a>(&self, place: &mut Place<'_, 'a>) -> Read<Seq<Post<'a>>>
         requires { ExprNests self.now.parts.room (F.pre self.now.parts.expr) (F.post self.now.parts.expr) }
         ensures { Reads (λ v. posts_of (map post_view v)) (rows self.now.parts.fuel).posts place.old result place.new }
     {
@@ -223,7 +208,7 @@ impl<F: Copy + for<'t, 'b> Fn(&mut Place<'t, 'b>, Wanted) -> Result<ExprNode<'b>
         &self,
         receiver: ExprNode<'a>,
         place: &mut Place<'_, 'a>,
-    ) -> Result<ExprNode<'a>, Error>
+    ) -> Read<ExprNode<'a>>
         requires { ExprNests self.now.parts.room (F.pre self.now.parts.expr) (F.post self.now.parts.expr) }
         ensures { Reads expr_view (spec.posts_behind self.now.parts.fuel (expr_view receiver.entry)) place.old result place.new }
     {

@@ -17,11 +17,11 @@ use dm_read_formats::opaque::kept;
 use dm_read_leaves::ty::ty;
 use dm_read_places::expect::is_int;
 use dm_read_places::path::path;
-use dm_read_places::place::Place;
-use dm_stream::{Delim, Error, Literal};
+use dm_read_places::place::{Place, Read};
+use dm_stream::{Delim, Literal};
 
 /// A type that is checked, behind `let _`. Refused where `:` and a type don't stand there.
-pub fn check<'a>(place: &mut Place<'_, 'a>) -> Result<StmtNode<'a>, Error>
+pub fn check<'a>(place: &mut Place<'_, 'a>) -> Read<StmtNode<'a>>
     ensures { Reads stmt_view spec.check_of place.old result place.new }
 {
     place.colon()?;
@@ -30,7 +30,7 @@ pub fn check<'a>(place: &mut Place<'_, 'a>) -> Result<StmtNode<'a>, Error>
 }
 
 /// `as _`
-fn as_wild(place: &mut Place<'_, '_>) -> Result<(), Error>
+fn as_wild(place: &mut Place<'_, '_>) -> Read<()>
     ensures { Passes spec.as_wild place.old result place.new }
 {
     place.word_as()?;
@@ -38,7 +38,7 @@ fn as_wild(place: &mut Place<'_, '_>) -> Result<(), Error>
 }
 
 /// An import, behind `use`.
-fn import<'a>(fuel: usize, place: &mut Place<'_, 'a>) -> Result<StmtNode<'a>, Error>
+fn import<'a>(fuel: usize, place: &mut Place<'_, 'a>) -> Read<StmtNode<'a>>
     ensures { Reads stmt_view (λ ts. spec.use_of fuel (next ts)) place.old result place.new }
 {
     let found = path(fuel, place)?;
@@ -54,7 +54,7 @@ fn is_zero(found: &Literal<'_>) -> bool
 }
 
 /// What a constant begins with: a group that isn't read, or `0`.
-fn base<'a>(place: &mut Place<'_, 'a>) -> Result<Option<Opaque<'a>>, Error>
+fn base<'a>(place: &mut Place<'_, 'a>) -> Read<Option<Opaque<'a>>>
     ensures { Reads (λ o. option_map opaque_view o) (λ ts. plain.base_from (next ts)) place.old result place.new }
 {
     if let Some(inside) = place.group(Delim::Paren) {
@@ -73,7 +73,7 @@ fn base<'a>(place: &mut Place<'_, 'a>) -> Result<Option<Opaque<'a>>, Error>
 }
 
 /// `+` and an integer.
-fn added<'a>(place: &mut Place<'_, 'a>) -> Result<Literal<'a>, Error>
+fn added<'a>(place: &mut Place<'_, 'a>) -> Read<Literal<'a>>
     ensures { Reads (λ l. l) spec.added place.old result place.new }
 {
     place.plus()?;
@@ -81,7 +81,7 @@ fn added<'a>(place: &mut Place<'_, 'a>) -> Result<Literal<'a>, Error>
 }
 
 /// `=` and the value of a constant.
-fn value<'a>(place: &mut Place<'_, 'a>) -> Result<(Option<Opaque<'a>>, Literal<'a>), Error>
+fn value<'a>(place: &mut Place<'_, 'a>) -> Read<(Option<Opaque<'a>>, Literal<'a>)>
     ensures { Reads (λ v. (option_map opaque_view v.0, v.1)) spec.constant_value place.old result place.new }
 {
     place.assigns()?;
@@ -90,9 +90,7 @@ fn value<'a>(place: &mut Place<'_, 'a>) -> Result<(Option<Opaque<'a>>, Literal<'
 }
 
 /// `:`, the type of a constant, and its value.
-fn typed<'a>(
-    place: &mut Place<'_, 'a>,
-) -> Result<(Ty<'a>, (Option<Opaque<'a>>, Literal<'a>)), Error>
+fn typed<'a>(place: &mut Place<'_, 'a>) -> Read<(Ty<'a>, (Option<Opaque<'a>>, Literal<'a>))>
     ensures { Reads (λ v. (ty_view v.0, (option_map opaque_view v.1.0, v.1.1))) spec.typed_constant place.old result place.new }
 {
     place.colon()?;
@@ -101,7 +99,7 @@ fn typed<'a>(
 }
 
 /// A constant, behind `const`.
-fn constant<'a>(place: &mut Place<'_, 'a>) -> Result<StmtNode<'a>, Error>
+fn constant<'a>(place: &mut Place<'_, 'a>) -> Read<StmtNode<'a>>
     ensures { Reads stmt_view (λ ts. spec.const_of (next ts)) place.old result place.new }
 {
     let name = place.declared()?;
@@ -110,7 +108,7 @@ fn constant<'a>(place: &mut Place<'_, 'a>) -> Result<StmtNode<'a>, Error>
 }
 
 /// An import and a semicolon, behind `use`. Refused where they don't stand there. `fuel` is more than the number of the path's segments.
-pub fn import_ended<'a>(fuel: usize, place: &mut Place<'_, 'a>) -> Result<StmtNode<'a>, Error>
+pub fn import_ended<'a>(fuel: usize, place: &mut Place<'_, 'a>) -> Read<StmtNode<'a>>
     ensures { Reads stmt_view (λ ts. spec.ended_stmt (spec.use_of fuel (next ts))) place.old result place.new }
 {
     let found = import(fuel, place)?;
@@ -118,7 +116,7 @@ pub fn import_ended<'a>(fuel: usize, place: &mut Place<'_, 'a>) -> Result<StmtNo
 }
 
 /// A constant and a semicolon, behind `const`. Refused where they don't stand there.
-pub fn constant_ended<'a>(place: &mut Place<'_, 'a>) -> Result<StmtNode<'a>, Error>
+pub fn constant_ended<'a>(place: &mut Place<'_, 'a>) -> Read<StmtNode<'a>>
     ensures { Reads stmt_view (λ ts. spec.ended_stmt (spec.const_of (next ts))) place.old result place.new }
 {
     let found = constant(place)?;

@@ -12,27 +12,18 @@ use crate::made::{made_params, made_type};
 use dm_ast::DeriveInput;
 use dm_generics::implementor_type;
 use dm_generics::implementors::params;
-use dm_layout::Layout;
-use std::alloc::{AllocError, Global};
+use dm_layout::{Layout, Printed};
 
 /// Adds the declared parameters, lifetimes first, in `<..>` where there are some.
-pub fn declared_params(
-    input: &DeriveInput<'_>,
-    alloc: Global,
-    out: &mut Layout,
-) -> Result<(), AllocError>
+pub fn declared_params(input: &DeriveInput<'_>, out: &mut Layout) -> Printed
     ensures { OnOk result (out.new ≡ lay out.old (tokens.params_trees (spec.params_of (declaration_view input.now)))) }
 {
-    made_params(params(alloc, input), alloc, out)
+    made_params(params(out.allocator(), input), out)
 }
 
 /// Adds the declared type with an argument for each of its parameters.
-pub fn declared_type(
-    input: &DeriveInput<'_>,
-    alloc: Global,
-    out: &mut Layout,
-) -> Result<(), AllocError>
+pub fn declared_type(input: &DeriveInput<'_>, out: &mut Layout) -> Printed
     ensures { OnOk result (out.new ≡ lay out.old (type_trees (spec.implementor (declaration_view input.now)))) }
 {
-    made_type(implementor_type(alloc, input), alloc, out)
+    made_type(implementor_type(out.allocator(), input), out)
 }

@@ -11,30 +11,26 @@ ghost use Rattle.dm_output.specs.Tokens as tokens;
 ghost use Rattle.dm_print_types.specs.Laying.{lay};
 
 use dm_ast::{GenericParam, Ty};
-use dm_layout::Layout;
+use dm_layout::{Layout, Printed};
 use dm_print::item::params;
 use dm_print_types::path::ty;
 use dm_stream::Seq;
-use std::alloc::{AllocError, Global};
+use std::alloc::AllocError;
 
 /// What is laid out by its tokens.
 trait Prints: Sized + Drop {
     ghost trees: { Self → Trees };
 
-    fn print(&self, alloc: Global, out: &mut Layout) -> Result<(), AllocError>
+    fn print(&self, out: &mut Layout) -> Printed
         ensures { OnOk result (out.new ≡ lay out.old (trees self.now)) };
 }
 
 /// Adds what was made.
-fn print<T: Prints>(
-    made: Result<T, AllocError>,
-    alloc: Global,
-    out: &mut Layout,
-) -> Result<(), AllocError>
+fn print<T: Prints>(made: Result<T, AllocError>, out: &mut Layout) -> Printed
     ensures { OnOk result (IsOkAnd made (λ t. out.new ≡ lay out.old (T.trees t))) }
 {
     match made {
-        Ok(tree) => tree.print(alloc, out),
+        Ok(tree) => tree.print(out),
         Err(error) => Err(error),
     }
 }
@@ -42,8 +38,8 @@ fn print<T: Prints>(
 impl<'a> Prints for Ty<'a> {
     ghost trees = { λ t. type_trees (ty_view t) };
 
-    fn print(&self, alloc: Global, out: &mut Layout) -> Result<(), AllocError> {
-        ty(self, alloc, out)
+    fn print(&self, out: &mut Layout) -> Printed {
+        ty(self, out)
     }
 }
 
@@ -51,29 +47,21 @@ impl<'a> Prints for Ty<'a> {
 impl<'a> Prints for Seq<GenericParam<'a>> {
     ghost trees = { λ all. tokens.params_trees (map param_view all) };
 
-    fn print(&self, alloc: Global, out: &mut Layout) -> Result<(), AllocError> {
-        params(self.as_slice(), alloc, out)
+    fn print(&self, out: &mut Layout) -> Printed {
+        params(self.as_slice(), out)
     }
 }
 
 /// Adds a type that was made.
-pub fn made_type(
-    made: Result<Ty<'_>, AllocError>,
-    alloc: Global,
-    out: &mut Layout,
-) -> Result<(), AllocError>
+pub fn made_type(made: Result<Ty<'_>, AllocError>, out: &mut Layout) -> Printed
     ensures { OnOk result (IsOkAnd made.entry (λ t. out.new ≡ lay out.old (type_trees (ty_view t)))) }
 {
-    print(made, alloc, out)
+    print(made, out)
 }
 
 /// Adds the parameters of an implementation that were made, in `<..>` where there are some.
-pub fn made_params(
-    made: Result<Seq<GenericParam<'_>>, AllocError>,
-    alloc: Global,
-    out: &mut Layout,
-) -> Result<(), AllocError>
+pub fn made_params(made: Result<Seq<GenericParam<'_>>, AllocError>, out: &mut Layout) -> Printed
     ensures { OnOk result (IsOkAnd made.entry (λ all. out.new ≡ lay out.old (tokens.params_trees (map param_view all)))) }
 {
-    print(made, alloc, out)
+    print(made, out)
 }

@@ -16,7 +16,7 @@ use dm_generics::implementors::params;
 use dm_generics::lists::appended;
 use dm_generics::names::word;
 use dm_generics::{Split, add_extra_type_param_bound_op_output, split_for_impl};
-use dm_layout::Layout;
+use dm_layout::{Layout, Printed};
 use dm_stream::Seq;
 use std::alloc::{AllocError, Global};
 
@@ -57,15 +57,10 @@ fn with_param<'a>(
 }
 
 /// Adds the declared parameters, lifetimes first, and behind them a type's parameter of this name, in `<..>`.
-pub fn params_with<'a>(
-    input: &DeriveInput<'a>,
-    name: &'a str,
-    alloc: Global,
-    out: &mut Layout,
-) -> Result<(), AllocError>
+pub fn params_with<'a>(input: &DeriveInput<'a>, name: &'a str, out: &mut Layout) -> Printed
     ensures { OnOk result (out.new ≡ lay out.old (tokens.params_trees (params_of (declaration_view input.now) ++ type_param [] (words.word name.now) None None ∷ []))) }
 {
-    made_params(with_param(input, name, alloc), alloc, out)
+    made_params(with_param(input, name, out.allocator()), out)
 }
 
 fn params_of_split<'a>(split: Split<'a>) -> Seq<GenericParam<'a>>
@@ -93,13 +88,8 @@ fn with_bounds<'a>(
 
 /// Adds the declared parameters, lifetimes first, in `<..>` where there are some. Of each type parameter the operator of this name is asked,
 /// which gives that type again: `T: derive_more::core::ops::Not<Output = T>`.
-pub fn bounded_params(
-    input: &DeriveInput<'_>,
-    trait_name: &str,
-    alloc: Global,
-    out: &mut Layout,
-) -> Result<(), AllocError>
+pub fn bounded_params(input: &DeriveInput<'_>, trait_name: &str, out: &mut Layout) -> Printed
     ensures { OnOk result (out.new ≡ lay out.old (tokens.params_trees (map (bounded (op_output trait_name.now)) (params_of (declaration_view input.now))))) }
 {
-    made_params(with_bounds(input, trait_name, alloc), alloc, out)
+    made_params(with_bounds(input, trait_name, out.allocator()), out)
 }

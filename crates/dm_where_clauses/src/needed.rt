@@ -15,7 +15,7 @@ ghost use Rattle.dm_where_clauses.specs.Shown.{shown};
 
 use dm_ast::{DeriveInput, Ty, WherePredicate};
 use dm_bounds::Sought;
-use dm_layout::Layout;
+use dm_layout::{Layout, Printed};
 use dm_operands::cases::{CaseRef, FieldRef};
 use dm_operands::places::add;
 use std::alloc::{AllocError, Global};
@@ -40,7 +40,7 @@ pub trait Asks {
         ensures { result ≡ (asking self.now).asks (spec.wanted sought.now) (ty_view ty.now) };
 
     /// Adds the trait's path for this type.
-    fn print_path(&self, ty: &Ty<'_>, alloc: Global, out: &mut Layout) -> Result<(), AllocError>
+    fn print_path(&self, ty: &Ty<'_>, out: &mut Layout) -> Printed
         ensures { OnOk result (out.new ≡ lay out.old (path_trees nowhere ((asking self.now).path (ty_view ty.now)))) };
 }
 

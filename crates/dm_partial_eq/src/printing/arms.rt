@@ -16,50 +16,38 @@ ghost use Rattle.dm_operands.specs.CaseViews.{case_view, field_ref_view};
 
 use crate::comparing::Comparing;
 use dm_ast::DeriveInput;
-use dm_layout::Layout;
+use dm_layout::{Layout, Printed};
 use dm_operands::cases::{CaseRef, FieldRef, all_compared, is_compared};
 use dm_operands::sides::Operand;
 use dm_print_types::token::{close, fixed, joint, open, punct};
 use dm_sides::pattern::{numbered, side};
 use dm_stream::Delim;
-use std::alloc::{AllocError, Global};
 
-fn test(comparing: Comparing, n: usize, alloc: Global, out: &mut Layout) -> Result<(), AllocError>
+fn test(comparing: Comparing, n: usize, out: &mut Layout) -> Printed
     ensures { OnOk result (out.new ≡ lay out.old (tokens.expr_trees (spec.test comparing n))) }
 {
-    numbered(Operand::Mine, n, alloc, out)?;
+    numbered(Operand::Mine, n, out)?;
     comparing.sign(out)?;
-    numbered(Operand::Theirs, n, alloc, out)
+    numbered(Operand::Theirs, n, out)
 }
 
 /// Adds a test, and in front of it what joins it to the one before.
-fn next_test(
-    comparing: Comparing,
-    n: usize,
-    first: bool,
-    alloc: Global,
-    out: &mut Layout,
-) -> Result<(), AllocError>
+fn next_test(comparing: Comparing, n: usize, first: bool, out: &mut Layout) -> Printed
     ensures { OnOk result (out.new ≡ lay out.old (trees.join (cond first no_trees (printed.join_trees comparing)) (tokens.expr_trees (spec.test comparing n)))) }
 {
     if !first {
         comparing.join(out)?;
     }
-    test(comparing, n, alloc, out)
+    test(comparing, n, out)
 }
 
-fn tests(
-    fields: &[FieldRef<'_, '_>],
-    comparing: Comparing,
-    alloc: Global,
-    out: &mut Layout,
-) -> Result<(), AllocError>
+fn tests(fields: &[FieldRef<'_, '_>], comparing: Comparing, out: &mut Layout) -> Printed
     ensures { OnOk result (out.new ≡ lay out.old (printed.joined comparing true (spec.tests comparing 0 (map field_ref_view fields.now)))) }
 {
     let mut first = true;
     for (i, field) in fields.iter().enumerate() {
         if !field.left_out {
-            next_test(comparing, i, first, alloc, out)?;
+            next_test(comparing, i, first, out)?;
             first = false;
         }
     }
@@ -67,42 +55,36 @@ fn tests(
 }
 
 /// Adds the tests of the fields of a case that is compared.
-fn tested(
-    case: &CaseRef<'_, '_>,
-    comparing: Comparing,
-    alloc: Global,
-    out: &mut Layout,
-) -> Result<(), AllocError>
+fn tested(case: &CaseRef<'_, '_>, comparing: Comparing, out: &mut Layout) -> Printed
     requires { IsTrue (kept.is_compared (case_view case.now)) }
     ensures { OnOk result (out.new ≡ lay out.old (tokens.expr_trees (spec.chain comparing (spec.tests comparing 0 (case_view case.now).fields)))) }
 {
-    tests(case.fields.as_slice(), comparing, alloc, out)
+    tests(case.fields.as_slice(), comparing, out)
 }
 
 fn arm(
     input: &DeriveInput<'_>,
     case: &CaseRef<'_, '_>,
     comparing: Comparing,
-    alloc: Global,
     out: &mut Layout,
-) -> Result<(), AllocError>
+) -> Printed
     requires { IsTrue (kept.is_compared (case_view case.now)) }
     ensures { OnOk result (out.new ≡ lay out.old (tokens.arm_trees (spec.arm comparing (declaration_view input.now) (case_view case.now)))) }
 {
     open(out, Delim::Paren)?;
-    side(input, case, Operand::Mine, alloc, out)?;
+    side(input, case, Operand::Mine, out)?;
     punct(out, ',')?;
-    side(input, case, Operand::Theirs, alloc, out)?;
+    side(input, case, Operand::Theirs, out)?;
     close(out, Delim::Paren)?;
     joint(out, '=', '>')?;
     open(out, Delim::Brace)?;
-    tested(case, comparing, alloc, out)?;
+    tested(case, comparing, out)?;
     close(out, Delim::Brace)?;
     punct(out, ',')
 }
 
 /// Adds the arm that is never reached.
-fn never(out: &mut Layout) -> Result<(), AllocError>
+fn never(out: &mut Layout) -> Printed
     ensures { OnOk result (out.new ≡ lay out.old (tokens.arms_trees (arms_of (bodies.otherwise (unsafe_expr bodies.unreachable_call) ∷ [])))) }
 {
     fixed(
@@ -112,7 +94,7 @@ fn never(out: &mut Layout) -> Result<(), AllocError>
 }
 
 /// Adds the arm of every other pair, where there is one.
-fn rest(cases: &[CaseRef<'_, '_>], comparing: Comparing, out: &mut Layout) -> Result<(), AllocError>
+fn rest(cases: &[CaseRef<'_, '_>], comparing: Comparing, out: &mut Layout) -> Printed
     ensures { OnOk result (out.new ≡ lay out.old (tokens.arms_trees (arms_of (spec.rest comparing (map case_view cases.now))))) }
 {
     if !all_compared(cases) {
@@ -129,14 +111,13 @@ pub(crate) fn arms<'a>(
     input: &DeriveInput<'a>,
     cases: &[CaseRef<'_, 'a>],
     comparing: Comparing,
-    alloc: Global,
     out: &mut Layout,
-) -> Result<(), AllocError>
+) -> Printed
     ensures { OnOk result (out.new ≡ lay out.old (tokens.arms_trees (arms_of (spec.arms comparing (declaration_view input.now) (map case_view cases.now) (spec.rest comparing (map case_view cases.now)))))) }
 {
     for case in cases {
         if is_compared(case) {
-            arm(input, case, comparing, alloc, out)?;
+            arm(input, case, comparing, out)?;
         }
     }
     rest(cases, comparing, out)

@@ -12,15 +12,14 @@ ghost use Rattle.dm_partial_eq.specs.Printed as printed;
 
 use crate::predicates::predicates;
 use dm_ast::DeriveInput;
-use dm_layout::Layout;
+use dm_layout::{Layout, Printed};
 use dm_operands::cases::CaseRef;
 use dm_print_types::token::fixed;
 use dm_sides::heads::{declared_params, declared_type};
-use std::alloc::{AllocError, Global};
 
 /// Adds the attributes, and the word behind them.
 #[tactic(auto, unfolding(dm_output::specs::Tokens::private_bounds, dm_output::specs::Tokens::automatically_derived))]
-fn attributes(out: &mut Layout) -> Result<(), AllocError>
+fn attributes(out: &mut Layout) -> Printed
     ensures { OnOk result (out.new ≡ lay out.old printed.impl_trees) }
 {
     fixed(
@@ -30,7 +29,7 @@ fn attributes(out: &mut Layout) -> Result<(), AllocError>
 }
 
 /// Adds the trait, and the word behind it.
-fn trait_for(out: &mut Layout) -> Result<(), AllocError>
+fn trait_for(out: &mut Layout) -> Printed
     ensures { OnOk result (out.new ≡ lay out.old (tokens.trait_trees (Some partial_eq_path))) }
 {
     fixed(out, "derive_more :: core :: cmp :: PartialEq for")
@@ -40,14 +39,13 @@ fn trait_for(out: &mut Layout) -> Result<(), AllocError>
 pub(crate) fn item_head<'x, 'a>(
     input: &'x DeriveInput<'a>,
     cases: &[CaseRef<'x, 'a>],
-    alloc: Global,
     out: &mut Layout,
-) -> Result<(), AllocError>
+) -> Printed
     ensures { OnOk result (out.new ≡ lay out.old (tokens.head_trees (spec.with_methods (declaration_view input.now) (map case_view cases.now) []))) }
 {
     attributes(out)?;
-    declared_params(input, alloc, out)?;
+    declared_params(input, out)?;
     trait_for(out)?;
-    declared_type(input, alloc, out)?;
-    predicates(input, cases, alloc, out)
+    declared_type(input, out)?;
+    predicates(input, cases, out)
 }

@@ -8,12 +8,12 @@ use Rattle.dm_derive.proofs.derive.derive_known.Goals as goal
 pub returns-in-Ok-clause-derives : goal.returns-in-Ok-clause-derives
 returns-in-Ok-clause-derives c = λ name known.
     derived (trait_view c.args.derived) name c.args.decl.now c.in-Ok.input c.expanded.result known c.in-Ok.ensures.reads
-    (subst (λ d. TraitAnswers (trait_view c.args.derived) (declaration_view d) c.expanded.result) c.as_input.ensures c.expanded.ensures)
+    (subst (λ d. TraitAnswers (trait_view c.args.derived) (declaration_view d) c.expanded.result) c.as_tree.ensures c.expanded.ensures)
 
 pub returns-in-Ok-clause-answers : goal.returns-in-Ok-clause-answers
 returns-in-Ok-clause-answers c = λ name known.
     answered (trait_view c.args.derived) name c.args.decl.now c.in-Ok.input c.expanded.result known c.in-Ok.ensures.reads
-    (subst (λ d. TraitAnswers (trait_view c.args.derived) (declaration_view d) c.expanded.result) c.as_input.ensures c.expanded.ensures)
+    (subst (λ d. TraitAnswers (trait_view c.args.derived) (declaration_view d) c.expanded.result) c.as_tree.ensures c.expanded.ensures)
 
 pub returns-in-Err-clause-derives : goal.returns-in-Err-clause-derives
 returns-in-Err-clause-derives c = λ name known.

@@ -103,11 +103,11 @@ copy_body-returns-in-Block t c = grind (arith, view_ArmBody-Block)
 pub copy_body-returns-in-Expr : goal.copy_body-returns-in-Expr
 copy_body-returns-in-Expr t c = grind (arith, view_ArmBody-Expr)
 
-pub copy_block-returns-in-None : goal.copy_block-returns-in-None
-copy_block-returns-in-None t c = grind (arith, view-Block)
+pub copy_block-returns-in_ok-block_of-in-None : goal.copy_block-returns-in_ok-block_of-in-None
+copy_block-returns-in_ok-block_of-in-None t c = grind (arith, view-Block)
 
-pub copy_block-returns-in_ok-copy_expr-in-Some : goal.copy_block-returns-in_ok-copy_expr-in-Some
-copy_block-returns-in_ok-copy_expr-in-Some t c = grind (arith, view-Block)
+pub copy_block-returns-in_ok-block_of-in-Some : goal.copy_block-returns-in_ok-block_of-in-Some
+copy_block-returns-in_ok-block_of-in-Some t c = grind (arith, view-Block)
 
 pub copy_arm-returns : goal.copy_arm-returns
 copy_arm-returns t c = grind (arith, view-Arm)

@@ -12,7 +12,7 @@ loop-left-preserved g c =
     let parts = map g.R.Rule.view held in
     let left : c.loop-left.left ≡ suc (c.loop-left.left - 1) = omega arith in
     let added = map_added g.R.Rule.view held (g.L.Gathers.parts c.gather.new.self) c.in-Ok-One.item c.in_ok-gather-in-Ok-One.ensures.added in
-    let turn = c.in-Ok-One.ensures ∙ ap (λ t. Some (turn_view g.R.Rule.view g.R.Rule.last t, c.turn.new.place)) c.in-Ok-One.field-0-is in
+    let turn = c.in-Ok-One.ensures ∙ ap (λ t. Some (turn_view g.R.Rule.view (λ u. u) t, c.turn.new.place)) c.in-Ok-One.field-0-is in
     c.loop-left.invariant ∙ ap (λ n. option_map (behind_parts parts) (repeat reader n c.loop-left.place)) left ∙
     goes_on reader (c.loop-left.left - 1) parts (g.R.Rule.view c.in-Ok-One.item) c.loop-left.place c.turn.new.place turn ∙
     ap (λ xs. option_map (behind_parts xs) (repeat reader (c.loop-left.left - 1) c.turn.new.place)) (sym added)
