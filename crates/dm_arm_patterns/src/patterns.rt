@@ -14,17 +14,17 @@ use dm_ast::{Field, Fields, Path};
 use dm_generics::names::emitted;
 use dm_operands::sides::field_ident;
 use dm_output::{Binding, NamedPattern, Pattern};
-use dm_stream::{Ident, Seq, Text};
-use std::alloc::{AllocError, Global};
+use dm_stream::{Ident, Made, Seq, Text};
+use std::alloc::Global;
 
-fn numbered<'a>(alloc: Global, prefix: &str, n: usize) -> Result<Ident<'a>, AllocError>
+fn numbered<'a>(alloc: Global, prefix: &str, n: usize) -> Made<Ident<'a>>
     ensures { IfOk result (λ i. i ≡ words.word (spec.numbered prefix.now n)) }
 {
     let name = format!(in alloc; "{prefix}{n}")?;
     Ok(emitted(Text::owned(name)))
 }
 
-fn bound<'a>(alloc: Global, prefix: &str, n: usize) -> Result<Pattern<'a>, AllocError>
+fn bound<'a>(alloc: Global, prefix: &str, n: usize) -> Made<Pattern<'a>>
     ensures { IfOk result (λ p. pattern_view p ≡ bind Plain (words.word (spec.numbered prefix.now n))) }
 {
     Ok(Pattern::Bind(Binding::Plain, numbered(alloc, prefix, n)?))
@@ -36,7 +36,7 @@ fn is_skipped(skipped: &[usize], n: usize) -> bool
     skipped.contains(&n)
 }
 
-fn binding<'a>(alloc: Global, prefix: &str, n: usize, skip: bool) -> Result<Pattern<'a>, AllocError>
+fn binding<'a>(alloc: Global, prefix: &str, n: usize, skip: bool) -> Made<Pattern<'a>>
     ensures { IfOk result (λ p. pattern_view p ≡ sides.binding skip (spec.numbered prefix.now n)) }
 {
     if skip {
@@ -50,7 +50,7 @@ fn bindings<'a>(
     fields: &[Field<'_>],
     prefix: &str,
     skipped: &[usize],
-) -> Result<Seq<Pattern<'a>>, AllocError>
+) -> Made<Seq<Pattern<'a>>>
     ensures { IfOk result (λ ps. map pattern_view ps ≡ spec.bindings prefix.now skipped.now 0 (map field_view fields.now)) }
 {
     let mut out = Seq::with_capacity(alloc, fields.len())?;
@@ -66,7 +66,7 @@ fn named_binding<'a>(
     field: &Field<'a>,
     prefix: &str,
     n: usize,
-) -> Result<NamedPattern<'a>, AllocError>
+) -> Made<NamedPattern<'a>>
     ensures { IfOk result (λ p. named_view p ≡ (sides.field_ident field.now.ident, bind Plain (words.word (spec.numbered prefix.now n)))) }
 {
     Ok(NamedPattern {
@@ -80,7 +80,7 @@ fn named_bindings<'a>(
     fields: &[Field<'a>],
     prefix: &str,
     skipped: &[usize],
-) -> Result<Seq<NamedPattern<'a>>, AllocError>
+) -> Made<Seq<NamedPattern<'a>>>
     ensures { IfOk result (λ ps. map named_view ps ≡ spec.named_bindings prefix.now skipped.now 0 (map field_view fields.now)) }
 {
     let mut out = Seq::with_capacity(alloc, fields.len())?;
@@ -102,7 +102,7 @@ pub fn non_exhaustive_arm_pattern<'a>(
     fields: &Fields<'a>,
     prefix: &str,
     skipped: &[usize],
-) -> Result<Pattern<'a>, AllocError>
+) -> Made<Pattern<'a>>
     ensures { IfOk result (λ p. pattern_view p ≡ spec.arm_pattern prefix.now skipped.now (path_view path.entry) (fields_view fields.now)) }
 {
     match fields {
@@ -125,7 +125,7 @@ pub fn exhaustive_arm_pattern<'a>(
     path: Path<'a>,
     fields: &Fields<'a>,
     prefix: &str,
-) -> Result<Pattern<'a>, AllocError>
+) -> Made<Pattern<'a>>
     ensures { IfOk result (λ p. pattern_view p ≡ spec.arm_pattern prefix.now [] (path_view path.entry) (fields_view fields.now)) }
 {
     non_exhaustive_arm_pattern(alloc, path, fields, prefix, &[])

@@ -1,2 +1,3 @@
+pub mod Idents
 pub mod Split
 pub mod View

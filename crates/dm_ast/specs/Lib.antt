@@ -1,6 +1,7 @@
 pub mod DeclarationGrammar
 pub mod DeclarationTokens
 pub mod Declarations
+pub mod Idents
 pub mod Implementors
 pub mod Keywords
 pub mod Names

@@ -5,6 +5,7 @@
 #![tactic(auto)]
 
 mod decl;
+mod ident;
 mod plain;
 mod ty;
 

@@ -10,7 +10,7 @@ use crate::parse_multiple::ParseMultiple;
 use crate::parser::Parser;
 use crate::spanning::Spanning;
 use dm_ast::Attribute;
-use dm_stream::Error;
+use dm_stream::{Error, Read};
 use std::alloc::Global;
 
 /// Merges two values where both are there. Else the answer is the one that is there, or none. It refuses what `merge_attrs` of
@@ -38,7 +38,7 @@ fn take_attr<'a, T: ParseMultiple<'a>, P: Parser>(
     name: &str,
     parser: &P,
     found: Option<Spanning<T>>,
-) -> Result<Option<Spanning<T>>, Error>
+) -> Read<Option<Spanning<T>>>
     ensures { Within (Turn (λ a. T.reads_attr a (P.meaning parser.now)) T.merges name.now attr.now found) same result }
 {
     if has_name(attr, name) {

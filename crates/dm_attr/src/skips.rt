@@ -10,7 +10,7 @@ use crate::forward::Forward;
 use crate::skip::Skip;
 use crate::spanning::Spanning;
 use dm_ast::Attribute;
-use dm_stream::{Error, Kind, Refusal, Span};
+use dm_stream::{Error, Kind, Read, Refusal, Span};
 use std::alloc::Global;
 
 /// Whether an attribute of this name is `skip` or `ignore` in any delimiters, as in derive_more.
@@ -42,7 +42,7 @@ fn not_allowed(span: Span) -> Error
 }
 
 /// Refuses what was found, at its range.
-fn refuse_found(found: Option<Spanning<Skip>>) -> Result<(), Error>
+fn refuse_found(found: Option<Spanning<Skip>>) -> Read<()>
     ensures { spec.IsRefusedBy (option_map spec.not_allowed found) result }
 {
     match found {

@@ -6,7 +6,7 @@ ghost use Rattle.dm_attr.specs.Answers.{Within};
 ghost use Rattle.dm_attr.specs.Kinds.{whole_or_unread};
 ghost use Rattle.dm_attr.specs.Kinds as spec;
 
-use dm_stream::{Cursor, Error, Ident, Kind, Refusal};
+use dm_stream::{Cursor, Error, Ident, Kind, Read, Refusal};
 
 /// The identifier that all trees left are.
 pub(crate) fn only_ident<'t, 'a>(c: Cursor<'t, 'a>) -> Option<&'t Ident<'a>>
@@ -18,10 +18,7 @@ pub(crate) fn only_ident<'t, 'a>(c: Cursor<'t, 'a>) -> Option<&'t Ident<'a>>
 }
 
 /// What all trees left were read as, with the place behind them, or the refusal of trees that don't read.
-pub(crate) fn whole<'t, 'a, T>(
-    c: Cursor<'t, 'a>,
-    found: Option<T>,
-) -> Result<(T, Cursor<'t, 'a>), Error>
+pub(crate) fn whole<'t, 'a, T>(c: Cursor<'t, 'a>, found: Option<T>) -> Read<(T, Cursor<'t, 'a>)>
     requires { sound c }
     ensures within { Within (λ answer. answer ≡ whole_or_unread (first_span (left c.entry) (end_of c.entry)) found) (λ r. (r.0, left r.1)) result }
     ensures place { IfOk result (λ r. SharesEnd c.entry r.1) }

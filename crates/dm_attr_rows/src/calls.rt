@@ -6,7 +6,7 @@ use crate::reading::{Asked, of_attributes};
 use crate::sides::{items, side};
 use dm_lexer::lex;
 use dm_rows::{Answers, named, unknown};
-use dm_stream::Error;
+use dm_stream::{Error, Read};
 use std::alloc::Global;
 
 /// What a row asks for.
@@ -43,19 +43,19 @@ const CALLS: &[(&str, Call)] = &[
 ];
 
 /// What is told of the attributes that a text begins with.
-fn attributes(alloc: Global, text: &str, asked: Asked) -> Result<String, Error> {
+fn attributes(alloc: Global, text: &str, asked: Asked) -> Read<String> {
     let stream = lex(alloc, text)?;
     of_attributes(&stream, alloc, asked)
 }
 
 /// What is told of a text as contents.
-fn contents(alloc: Global, text: &str, kind: Kind) -> Result<String, Error> {
+fn contents(alloc: Global, text: &str, kind: Kind) -> Read<String> {
     let stream = lex(alloc, text)?;
     of_contents(&stream, alloc, kind)
 }
 
 /// The tokens of the side that a text begins with.
-fn side_of(alloc: Global, text: &str) -> Result<String, Error> {
+fn side_of(alloc: Global, text: &str) -> Read<String> {
     let stream = lex(alloc, text)?;
     side(&stream, alloc)
 }

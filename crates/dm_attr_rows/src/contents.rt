@@ -5,7 +5,7 @@ ghost use Rattle.dm_stream.specs.Cursors.{sound};
 use crate::words::{Word, line};
 use dm_attr::{Either, Forward, Parse, Skip};
 use dm_rows::{Tells, told_front};
-use dm_stream::{Cursor, Error, TokenStream};
+use dm_stream::{Cursor, Error, Read, TokenStream};
 use std::alloc::Global;
 
 /// A kind of contents.
@@ -29,21 +29,14 @@ impl<K: Word> Tells<K> for ItsWord {
 }
 
 /// The word that the trees at a place are, and what is left.
-fn word_at<'a, K: Parse<'a> + Word + Drop>(
-    c: Cursor<'_, 'a>,
-    alloc: Global,
-) -> Result<String, Error>
+fn word_at<'a, K: Parse<'a> + Word + Drop>(c: Cursor<'_, 'a>, alloc: Global) -> Read<String>
     requires { sound c }
 {
     told_front(c, K::parse(alloc, c), alloc, &ItsWord)
 }
 
 /// The word that tokens are as the contents of an attribute, and what is left.
-pub(crate) fn of_contents(
-    stream: &TokenStream<'_>,
-    alloc: Global,
-    kind: Kind,
-) -> Result<String, Error> {
+pub(crate) fn of_contents(stream: &TokenStream<'_>, alloc: Global, kind: Kind) -> Read<String> {
     let c = stream.cursor();
     match kind {
         Kind::Skip => word_at::<Skip>(c, alloc),

@@ -2,7 +2,7 @@
 
 use crate::words::line;
 use dm_attr::Spanning;
-use dm_stream::{Error, Span};
+use dm_stream::{Read, Span};
 use std::alloc::Global;
 
 /// A number with the range of its text.
@@ -15,7 +15,7 @@ fn read_number(text: &str) -> Option<Spanning<u16>> {
 }
 
 /// A hundred times a number, with its range.
-fn hundreds(alloc: Global, number: Spanning<u16>) -> Result<String, Error> {
+fn hundreds(alloc: Global, number: Spanning<u16>) -> Read<String> {
     match number.map(|number| number.checked_mul(100)).transpose() {
         Some(hundreds) => {
             let Span { start, end } = hundreds.span();
@@ -27,7 +27,7 @@ fn hundreds(alloc: Global, number: Spanning<u16>) -> Result<String, Error> {
 }
 
 /// One more than a number, and a hundred times that.
-fn counted(alloc: Global, number: Spanning<u16>) -> Result<String, Error> {
+fn counted(alloc: Global, number: Spanning<u16>) -> Read<String> {
     let mut number = number;
     *number = number.saturating_add(1);
     let next = *number.as_ref().into_inner();
@@ -37,7 +37,7 @@ fn counted(alloc: Global, number: Spanning<u16>) -> Result<String, Error> {
 }
 
 /// One more than the number that a text is, and a hundred times that with the range of the text.
-pub(crate) fn of_number(alloc: Global, text: &str) -> Result<String, Error> {
+pub(crate) fn of_number(alloc: Global, text: &str) -> Read<String> {
     match read_number(text) {
         Some(number) => counted(alloc, number),
         None => line(alloc, "no number"),

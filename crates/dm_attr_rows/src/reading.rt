@@ -6,7 +6,7 @@ use dm_attr::skips::{is_forwarded_under, is_left_out, is_skipped_under, refuse_s
 use dm_attr::{Either, Forward, Skip, Spanning, merge_opt_attrs, parse_attrs, parse_attrs_with};
 use dm_read::parts::attributes;
 use dm_rows::{Tells, told_front};
-use dm_stream::{Error, Seq, TokenStream};
+use dm_stream::{Error, Read, Seq, TokenStream};
 use std::alloc::Global;
 
 /// The name of the attributes that are read.
@@ -50,19 +50,19 @@ impl<'a> Tells<Seq<Attribute<'a>>> for Asked {
 }
 
 /// What they are as `Skip`.
-fn as_skip(attrs: &[Attribute<'_>], alloc: Global) -> Result<String, Error> {
+fn as_skip(attrs: &[Attribute<'_>], alloc: Global) -> Read<String> {
     let found: Result<Option<Spanning<Skip>>, Error> = parse_attrs(alloc, attrs, NAME);
     found_word(alloc, found)
 }
 
 /// What they are as `Forward`, where no legacy form is known.
-fn as_forward(attrs: &[Attribute<'_>], alloc: Global) -> Result<String, Error> {
+fn as_forward(attrs: &[Attribute<'_>], alloc: Global) -> Read<String> {
     let found: Result<Option<Spanning<Forward>>, Error> = parse_attrs_with(alloc, attrs, NAME, &());
     found_word(alloc, found)
 }
 
 /// What they are as one of the two.
-fn as_either(attrs: &[Attribute<'_>], alloc: Global) -> Result<String, Error> {
+fn as_either(attrs: &[Attribute<'_>], alloc: Global) -> Read<String> {
     let found: Result<Option<Spanning<Either<Skip, Forward>>>, Error> = parse_attrs(
         alloc, attrs, NAME,
     );
@@ -70,29 +70,25 @@ fn as_either(attrs: &[Attribute<'_>], alloc: Global) -> Result<String, Error> {
 }
 
 /// What those of the name `eq` and those of the name are, merged.
-fn merged(attrs: &[Attribute<'_>], alloc: Global) -> Result<Option<Spanning<Forward>>, Error> {
+fn merged(attrs: &[Attribute<'_>], alloc: Global) -> Read<Option<Spanning<Forward>>> {
     let before = parse_attrs(alloc, attrs, "eq")?;
     let behind = parse_attrs(alloc, attrs, NAME)?;
     merge_opt_attrs(before, behind)
 }
 
 /// `yes` or `no`, or the refusal.
-fn yes(alloc: Global, answer: Result<bool, Error>) -> Result<String, Error> {
+fn yes(alloc: Global, answer: Result<bool, Error>) -> Read<String> {
     line(alloc, if answer? { "yes" } else { "no" })
 }
 
 /// `fine`, or the refusal.
-fn fine(alloc: Global, answer: Result<(), Error>) -> Result<String, Error> {
+fn fine(alloc: Global, answer: Result<(), Error>) -> Read<String> {
     answer?;
     line(alloc, "fine")
 }
 
 /// What is told of the attributes that a text begins with, and what is left.
-pub(crate) fn of_attributes(
-    stream: &TokenStream<'_>,
-    alloc: Global,
-    asked: Asked,
-) -> Result<String, Error> {
+pub(crate) fn of_attributes(stream: &TokenStream<'_>, alloc: Global, asked: Asked) -> Read<String> {
     let c = stream.cursor();
     told_front(c, attributes(alloc, 0, c), alloc, &asked)
 }

@@ -5,8 +5,8 @@ ghost use Rattle.dm_stream.specs.Cursors.{sound};
 use crate::words::line;
 use dm_attr::Either;
 use dm_rows::printed;
-use dm_stream::{Cursor, Error, Ident, Punct, TokenStream};
-use std::alloc::{AllocError, Global};
+use dm_stream::{Cursor, Ident, Made, Punct, Read, TokenStream};
+use std::alloc::Global;
 use std::{ops, option};
 
 /// A number, or the numbers of a range `FROM..UPTO`.
@@ -28,7 +28,7 @@ fn numbers(text: &str) -> Option<Numbers> {
 }
 
 /// Adds each of them behind a blank.
-fn add_items(out: &mut String, numbers: Numbers) -> Result<(), AllocError> {
+fn add_items(out: &mut String, numbers: Numbers) -> Made<()> {
     for number in numbers {
         write!(out, " {number}")?;
     }
@@ -36,7 +36,7 @@ fn add_items(out: &mut String, numbers: Numbers) -> Result<(), AllocError> {
 }
 
 /// The items of the side that a text is.
-pub(crate) fn items(alloc: Global, text: &str) -> Result<String, Error> {
+pub(crate) fn items(alloc: Global, text: &str) -> Read<String> {
     let mut out = String::from_str(alloc, "items")?;
     match numbers(text) {
         Some(numbers) => {
@@ -48,7 +48,7 @@ pub(crate) fn items(alloc: Global, text: &str) -> Result<String, Error> {
 }
 
 /// The tokens of the side that stands at a place: a punct, or an identifier.
-fn side_at<'a>(c: Cursor<'_, 'a>, alloc: Global) -> Result<String, Error>
+fn side_at<'a>(c: Cursor<'_, 'a>, alloc: Global) -> Read<String>
     requires { sound c }
 {
     if let Some((ident, _)) = c.ident() {
@@ -65,6 +65,6 @@ fn side_at<'a>(c: Cursor<'_, 'a>, alloc: Global) -> Result<String, Error>
 }
 
 /// The tokens of the side that tokens begin with.
-pub(crate) fn side(stream: &TokenStream<'_>, alloc: Global) -> Result<String, Error> {
+pub(crate) fn side(stream: &TokenStream<'_>, alloc: Global) -> Read<String> {
     side_at(stream.cursor(), alloc)
 }

@@ -1,7 +1,7 @@
 //! The words that attributes are read as.
 
 use dm_attr::{Either, Forward, Skip, Spanning};
-use dm_stream::{Error, Span};
+use dm_stream::{Error, Read, Span};
 use std::alloc::Global;
 
 /// A kind of attributes whose values are words.
@@ -32,12 +32,12 @@ impl<L: Word, R: Word> Word for Either<L, R> {
 }
 
 /// This text as an answer.
-pub(crate) fn line(alloc: Global, text: &str) -> Result<String, Error> {
+pub(crate) fn line(alloc: Global, text: &str) -> Read<String> {
     Ok(String::from_str(alloc, text)?)
 }
 
 /// A word and the range of its attribute.
-fn placed_word(alloc: Global, word: Spanning<&'static str>) -> Result<String, Error> {
+fn placed_word(alloc: Global, word: Spanning<&'static str>) -> Read<String> {
     let Span { start, end } = word.span();
     let word = word.into_inner();
     Ok(format!(in alloc; "{word} at {start}..{end}")?)
@@ -47,7 +47,7 @@ fn placed_word(alloc: Global, word: Spanning<&'static str>) -> Result<String, Er
 pub(crate) fn found_word<K: Word + Drop>(
     alloc: Global,
     found: Result<Option<Spanning<K>>, Error>,
-) -> Result<String, Error> {
+) -> Read<String> {
     match found? {
         Some(found) => placed_word(alloc, found.as_ref().map(|kind| kind.word())),
         None => line(alloc, "none"),

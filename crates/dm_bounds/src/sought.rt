@@ -12,7 +12,8 @@ use dm_copy::both;
 use dm_generics::implementor_type;
 use dm_generics::types::word_type;
 use dm_searches::{GenericsSearch, contains_type_structurally};
-use std::alloc::{AllocError, Global};
+use dm_stream::Made;
+use std::alloc::Global;
 
 /// What the types of fields are searched for: the declared parameters, `Self`, and the declared type with its parameters. Its types are
 /// dropped here, so that what holds it needs to know nothing of how.
@@ -34,7 +35,7 @@ impl Drop for Sought<'_, '_> {
 
 impl<'s, 'a> Sought<'s, 'a> {
     /// What is searched for in the fields of a declaration. It fails for want of memory alone.
-    pub fn of(alloc: Global, input: &'s DeriveInput<'a>) -> Result<Sought<'s, 'a>, AllocError>
+    pub fn of(alloc: Global, input: &'s DeriveInput<'a>) -> Made<Sought<'s, 'a>>
         ensures { IfOk result (λ s. spec.wanted s ≡ spec.wanted_of (declaration_view input.now)) }
     {
         let search = GenericsSearch::from_generics(alloc, &input.generics)?;

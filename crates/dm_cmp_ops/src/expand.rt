@@ -14,7 +14,7 @@ use dm_ast::DeriveInput;
 use dm_expansion::Expansion;
 pub use dm_operations::expand::printed;
 use dm_operators::operator::{Form, Operator, operator_named};
-use dm_stream::{Error, Kind, Refusal, Span};
+use dm_stream::{Error, Kind, Read, Refusal, Span};
 use std::alloc::Global;
 
 /// The implementation of the operator that [printed] gives the text of, with that text. The refusals are those of [printed].
@@ -25,7 +25,7 @@ pub fn derived<'a>(
     alloc: Global,
     operator: &Operator,
     input: &DeriveInput<'a>,
-) -> Result<Expansion<'a>, Error>
+) -> Read<Expansion<'a>>
     requires is_operator { IsOperator (operator_view operator.now) }
     requires of_text { IsOfText (declaration_view input.now) }
     ensures { IsOperatorAnswer (operator_view operator.now) (declaration_view input.now) result }
@@ -100,7 +100,7 @@ pub(crate) fn expand_in<'a>(
     trait_name: &str,
     form: Form,
     assigning: bool,
-) -> Result<Expansion<'a>, Error>
+) -> Read<Expansion<'a>>
     requires { IsOfText (declaration_view input.now) }
     ensures { spec.IsFamilyAnswer (form_view form) assigning trait_name.now (declaration_view input.now) result }
 {

@@ -11,15 +11,11 @@ use crate::expand::expand_in;
 use dm_ast::DeriveInput;
 use dm_expansion::Expansion;
 use dm_operators::operator::Form;
-use dm_stream::Error;
+use dm_stream::Read;
 use std::alloc::Global;
 
 /// `Add`, `BitAnd`, `BitOr`, `BitXor` and `Sub`: a value of the same type stands right of self.
-pub fn add<'a>(
-    alloc: Global,
-    input: &DeriveInput<'a>,
-    trait_name: &str,
-) -> Result<Expansion<'a>, Error>
+pub fn add<'a>(alloc: Global, input: &DeriveInput<'a>, trait_name: &str) -> Read<Expansion<'a>>
     requires { IsOfText (declaration_view input.now) }
     ensures { IsFamilyAnswer structural false trait_name.now (declaration_view input.now) result }
 {
@@ -31,7 +27,7 @@ pub fn add_assign<'a>(
     alloc: Global,
     input: &DeriveInput<'a>,
     trait_name: &str,
-) -> Result<Expansion<'a>, Error>
+) -> Read<Expansion<'a>>
     requires { IsOfText (declaration_view input.now) }
     ensures { IsFamilyAnswer structural true trait_name.now (declaration_view input.now) result }
 {
@@ -39,11 +35,7 @@ pub fn add_assign<'a>(
 }
 
 /// `Div`, `Mul`, `Rem`, `Shl` and `Shr`: any value stands right of self, or one of the same type where the type says `forward`.
-pub fn mul<'a>(
-    alloc: Global,
-    input: &DeriveInput<'a>,
-    trait_name: &str,
-) -> Result<Expansion<'a>, Error>
+pub fn mul<'a>(alloc: Global, input: &DeriveInput<'a>, trait_name: &str) -> Read<Expansion<'a>>
     requires { IsOfText (declaration_view input.now) }
     ensures { IsFamilyAnswer scalar false trait_name.now (declaration_view input.now) result }
 {
@@ -56,7 +48,7 @@ pub fn mul_assign<'a>(
     alloc: Global,
     input: &DeriveInput<'a>,
     trait_name: &str,
-) -> Result<Expansion<'a>, Error>
+) -> Read<Expansion<'a>>
     requires { IsOfText (declaration_view input.now) }
     ensures { IsFamilyAnswer scalar true trait_name.now (declaration_view input.now) result }
 {
@@ -64,11 +56,7 @@ pub fn mul_assign<'a>(
 }
 
 /// `Not` and `Neg`: nothing stands right of self.
-pub fn not_like<'a>(
-    alloc: Global,
-    input: &DeriveInput<'a>,
-    trait_name: &str,
-) -> Result<Expansion<'a>, Error>
+pub fn not_like<'a>(alloc: Global, input: &DeriveInput<'a>, trait_name: &str) -> Read<Expansion<'a>>
     requires { IsOfText (declaration_view input.now) }
     ensures { IsFamilyAnswer unary false trait_name.now (declaration_view input.now) result }
 {

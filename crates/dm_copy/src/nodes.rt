@@ -19,13 +19,10 @@ use dm_ast::{
     Attribute, BareFn, Bound, ConstArg, FnArg, GenericArgument, Opaque, Path, PathArguments,
     PathSegment, PlainPath, QSelf, TraitBound, Ty, TyNode,
 };
-use dm_stream::{Delim, Ident, Lifetime, Literal, Punctuated, Seq, Span, TokenStream};
+use dm_stream::{Delim, Ident, Lifetime, Literal, Made, Punctuated, Seq, Span, TokenStream};
 use std::alloc::{AllocError, Global};
 
-pub(crate) fn ty_of<'a>(
-    made: Result<TyNode<'a>, AllocError>,
-    span: Span,
-) -> Result<Ty<'a>, AllocError>
+pub(crate) fn ty_of<'a>(made: Result<TyNode<'a>, AllocError>, span: Span) -> Made<Ty<'a>>
     ensures { (k : tree.TypeNode) → IfOk made.entry (λ p. tree.node_view p ≡ k) → IfOk result (λ r. tree.ty_view r ≡ tree.type_tree k span) }
 {
     match made {
@@ -39,7 +36,7 @@ pub(crate) fn array_of<'a>(
     made: Result<Ty<'a>, AllocError>,
     size: &Opaque<'a>,
     alloc: Global,
-) -> Result<TyNode<'a>, AllocError>
+) -> Made<TyNode<'a>>
     ensures { (x : tree.TypeTree) → IfOk made.entry (λ p. tree.ty_view p ≡ x) → IfOk result (λ r. tree.node_view r ≡ tree.array x size.now) }
 {
     match both(boxed(alloc, made), size.clone_in(alloc)) {
@@ -54,7 +51,7 @@ pub(crate) fn reference_of<'a>(
     name: &Option<Lifetime<'a>>,
     is_mut: bool,
     alloc: Global,
-) -> Result<TyNode<'a>, AllocError>
+) -> Made<TyNode<'a>>
     ensures { (x : tree.TypeTree) → IfOk made.entry (λ p. tree.ty_view p ≡ x) → IfOk result (λ r. tree.node_view r ≡ tree.reference name.now is_mut x) }
 {
     match both(boxed(alloc, made), name.clone_in(alloc)) {
@@ -64,7 +61,7 @@ pub(crate) fn reference_of<'a>(
 }
 
 /// `A::B`.
-pub(crate) fn path_type_of<'a>(made: Result<Path<'a>, AllocError>) -> Result<TyNode<'a>, AllocError>
+pub(crate) fn path_type_of<'a>(made: Result<Path<'a>, AllocError>) -> Made<TyNode<'a>>
     ensures { (x : tree.PathTree) → IfOk made.entry (λ p. tree.path_view p ≡ x) → IfOk result (λ r. tree.node_view r ≡ tree.path tree.no_self x) }
 {
     match made {
@@ -74,10 +71,7 @@ pub(crate) fn path_type_of<'a>(made: Result<Path<'a>, AllocError>) -> Result<TyN
 }
 
 /// The type in `<T as A::B>::C`.
-pub(crate) fn qself_of<'a>(
-    made: Result<Ty<'a>, AllocError>,
-    position: usize,
-) -> Result<QSelf<'a>, AllocError>
+pub(crate) fn qself_of<'a>(made: Result<Ty<'a>, AllocError>, position: usize) -> Made<QSelf<'a>>
     ensures { (x : tree.TypeTree) → IfOk made.entry (λ p. tree.ty_view p ≡ x) → IfOk result (λ r. tree.self_view r ≡ (x, position)) }
 {
     match made {
@@ -89,7 +83,7 @@ pub(crate) fn qself_of<'a>(
 /// `<T as A::B>::C`.
 pub(crate) fn qualified_of<'a>(
     made: Result<(Box<QSelf<'a>>, Path<'a>), AllocError>,
-) -> Result<TyNode<'a>, AllocError>
+) -> Made<TyNode<'a>>
     ensures { (x : tree.TypeTree × ℕ) → (y : tree.PathTree) → IfOk made.entry (λ p. (tree.self_view p.0.value ≡ x) × (tree.path_view p.1 ≡ y)) → IfOk result (λ r. tree.node_view r ≡ tree.path (tree.some_self x.0 x.1) y) }
 {
     match made {
@@ -102,7 +96,7 @@ pub(crate) fn qualified_of<'a>(
 pub(crate) fn macro_of<'a>(
     made: Result<(PlainPath<'a>, TokenStream<'a>), AllocError>,
     delim: Delim,
-) -> Result<TyNode<'a>, AllocError>
+) -> Made<TyNode<'a>>
     ensures { (m : PlainPath) → (ts : Stream) → IfOk made.entry (λ p. (p.0 ≡ m) × (p.1 ≡ ts)) → IfOk result (λ r. tree.node_view r ≡ tree.macro_type m delim ts) }
 {
     match made {
@@ -116,7 +110,7 @@ pub(crate) fn trait_of<'a>(
     made: Result<(Path<'a>, Option<Punctuated<Lifetime<'a>>>), AllocError>,
     parens: bool,
     maybe: bool,
-) -> Result<TraitBound<'a>, AllocError>
+) -> Made<TraitBound<'a>>
     ensures { (x : tree.PathTree) → (ls : tree.Lifetimes) → IfOk made.entry (λ p. (tree.path_view p.0 ≡ x) × (p.1 ≡ ls)) → IfOk result (λ r. tree.trait_view r ≡ tree.trait_bound parens maybe ls x) }
 {
     match made {
@@ -131,7 +125,7 @@ pub(crate) fn trait_of<'a>(
 }
 
 /// What was made, as what may be missing.
-pub(crate) fn some_of<T: Drop>(made: Result<T, AllocError>) -> Result<Option<T>, AllocError>
+pub(crate) fn some_of<T: Drop>(made: Result<T, AllocError>) -> Made<Option<T>>
     ensures { IfOk result (λ r. IsSomeAnd r (λ t. made ≡ Ok t)) }
 {
     match made {
@@ -153,7 +147,7 @@ pub(crate) fn fn_of<'a>(
         AllocError,
     >,
     is_unsafe: bool,
-) -> Result<BareFn<'a>, AllocError>
+) -> Made<BareFn<'a>>
     ensures { (xs : List tree.InputTree) → (trailing : Bool) → (o : Option tree.TypeTree) → (ls : tree.Lifetimes) → (abi : Option (Option Literal)) → IfOk made.entry (λ p. (((map tree.input_view p.0.0.items ≡ xs) × (p.0.0.trailing ≡ trailing)) × (option_map tree.ty_view p.0.1 ≡ o)) × ((p.1.0 ≡ ls) × (p.1.1 ≡ abi))) → IfOk result (λ r. tree.fn_view r ≡ tree.fn_tree ls is_unsafe abi (tree.inputs_of xs) trailing (tree.maybe_type o)) }
 {
     match made {
@@ -171,7 +165,7 @@ pub(crate) fn fn_of<'a>(
 /// A parameter of a function type.
 pub(crate) fn input_of<'a>(
     made: Result<(Ty<'a>, (Seq<Attribute<'a>>, Option<Ident<'a>>)), AllocError>,
-) -> Result<FnArg<'a>, AllocError>
+) -> Made<FnArg<'a>>
     ensures { (x : tree.TypeTree) → (attrs : List Attribute) → (i : Option Ident) → IfOk made.entry (λ p. (tree.ty_view p.0 ≡ x) × ((p.1.0 ≡ attrs) × (p.1.1 ≡ i))) → IfOk result (λ r. tree.input_view r ≡ tree.input attrs i x) }
 {
     match made {
@@ -183,7 +177,7 @@ pub(crate) fn input_of<'a>(
 pub(crate) fn path_of<'a>(
     made: Result<Seq<PathSegment<'a>>, AllocError>,
     leading_colon: bool,
-) -> Result<Path<'a>, AllocError>
+) -> Made<Path<'a>>
     ensures { (ss : List tree.SegmentTree) → IfOk made.entry (λ p. map tree.segment_view p ≡ ss) → IfOk result (λ r. tree.path_view r ≡ tree.path_tree leading_colon (tree.segments_of ss)) }
 {
     match made {
@@ -197,7 +191,7 @@ pub(crate) fn path_of<'a>(
 
 pub(crate) fn segment_of<'a>(
     made: Result<(PathArguments<'a>, Ident<'a>), AllocError>,
-) -> Result<PathSegment<'a>, AllocError>
+) -> Made<PathSegment<'a>>
     ensures { (x : tree.ArgumentsTree) → (i : Ident) → IfOk made.entry (λ p. (tree.arguments_view p.0 ≡ x) × (p.1 ≡ i)) → IfOk result (λ r. tree.segment_view r ≡ tree.segment i x) }
 {
     match made {
@@ -209,7 +203,7 @@ pub(crate) fn segment_of<'a>(
 /// `(A, B) -> C`.
 pub(crate) fn parens_of<'a>(
     made: Result<(Punctuated<Ty<'a>>, Option<Box<Ty<'a>>>), AllocError>,
-) -> Result<PathArguments<'a>, AllocError>
+) -> Made<PathArguments<'a>>
     ensures { (xs : List tree.TypeTree) → (trailing : Bool) → (o : tree.MaybeType) → IfOk made.entry (λ p. ((map tree.ty_view p.0.items ≡ xs) × (p.0.trailing ≡ trailing)) × (tree.maybe_ty_view p.1 ≡ o)) → IfOk result (λ r. tree.arguments_view r ≡ tree.parens (tree.types_of xs) trailing o) }
 {
     match made {
@@ -218,9 +212,7 @@ pub(crate) fn parens_of<'a>(
     }
 }
 
-pub(crate) fn type_argument_of<'a>(
-    made: Result<Ty<'a>, AllocError>,
-) -> Result<GenericArgument<'a>, AllocError>
+pub(crate) fn type_argument_of<'a>(made: Result<Ty<'a>, AllocError>) -> Made<GenericArgument<'a>>
     ensures { (x : tree.TypeTree) → IfOk made.entry (λ p. tree.ty_view p ≡ x) → IfOk result (λ r. tree.argument_view r ≡ tree.type_arg x) }
 {
     match made {
@@ -232,7 +224,7 @@ pub(crate) fn type_argument_of<'a>(
 /// `Name = T`.
 pub(crate) fn assoc_ty_of<'a>(
     made: Result<((Ident<'a>, Ty<'a>), Option<Punctuated<GenericArgument<'a>>>), AllocError>,
-) -> Result<GenericArgument<'a>, AllocError>
+) -> Made<GenericArgument<'a>>
     ensures { (x : tree.TypeTree) → (i : Ident) → (gs : tree.MaybeArguments) → IfOk made.entry (λ p. ((p.0.0 ≡ i) × (tree.ty_view p.0.1 ≡ x)) × (tree.maybe_arguments_view p.1 ≡ gs)) → IfOk result (λ r. tree.argument_view r ≡ tree.assoc_type i gs x) }
 {
     match made {
@@ -250,7 +242,7 @@ pub(crate) fn assoc_const_of<'a>(
         ),
         AllocError,
     >,
-) -> Result<GenericArgument<'a>, AllocError>
+) -> Made<GenericArgument<'a>>
     ensures { (c : ConstArg) → (i : Ident) → (gs : tree.MaybeArguments) → IfOk made.entry (λ p. ((p.0.0 ≡ i) × (p.0.1 ≡ c)) × (tree.maybe_arguments_view p.1 ≡ gs)) → IfOk result (λ r. tree.argument_view r ≡ tree.assoc_const i gs c) }
 {
     match made {
@@ -268,7 +260,7 @@ pub(crate) fn constraint_of<'a>(
         ),
         AllocError,
     >,
-) -> Result<GenericArgument<'a>, AllocError>
+) -> Made<GenericArgument<'a>>
     ensures { (xs : List tree.BoundTree) → (trailing : Bool) → (i : Ident) → (gs : tree.MaybeArguments) → IfOk made.entry (λ p. ((p.0.0 ≡ i) × ((map tree.bound_view p.0.1.items ≡ xs) × (p.0.1.trailing ≡ trailing))) × (tree.maybe_arguments_view p.1 ≡ gs)) → IfOk result (λ r. tree.argument_view r ≡ tree.constraint i gs (tree.bounds_of xs) trailing) }
 {
     match made {

@@ -10,8 +10,8 @@ use crate::clone_in::CloneIn;
 use crate::joined::{both, grown};
 use crate::nodes::{path_of, path_type_of, segment_of, ty_of, type_argument_of};
 use dm_ast::{GenericArgument, PathArguments, PathSegment};
-use dm_stream::{Ident, Lifetime, Punctuated, Seq, Span};
-use std::alloc::{AllocError, Global};
+use dm_stream::{Ident, Lifetime, Made, Punctuated, Seq, Span};
+use std::alloc::Global;
 
 /// An argument of the type that `Self` stands for: what one of its parameters is called.
 #[derive(Drop)]
@@ -28,7 +28,7 @@ pub struct SelfType {
 }
 
 /// A parameter's name as an argument.
-fn name_argument<'a>(ident: &Ident<'a>, alloc: Global) -> Result<GenericArgument<'a>, AllocError>
+fn name_argument<'a>(ident: &Ident<'a>, alloc: Global) -> Made<GenericArgument<'a>>
     ensures { IfOk result (λ a. argument_view a ≡ type_arg (name_type ident.now)) }
 {
     let segment = segment_of(both(Ok(PathArguments::Absent), ident.clone_in(alloc)));
@@ -36,10 +36,7 @@ fn name_argument<'a>(ident: &Ident<'a>, alloc: Global) -> Result<GenericArgument
     type_argument_of(ty_of(path_type_of(path), Span::nowhere()))
 }
 
-fn self_argument<'a>(
-    argument: &SelfArgument,
-    alloc: Global,
-) -> Result<GenericArgument<'a>, AllocError>
+fn self_argument<'a>(argument: &SelfArgument, alloc: Global) -> Made<GenericArgument<'a>>
     ensures { IfOk result (λ a. argument_view a ≡ spec.argument_of argument.now) }
 {
     match argument {
@@ -48,10 +45,7 @@ fn self_argument<'a>(
     }
 }
 
-fn self_arguments<'a>(
-    all: &[SelfArgument],
-    alloc: Global,
-) -> Result<Seq<GenericArgument<'a>>, AllocError>
+fn self_arguments<'a>(all: &[SelfArgument], alloc: Global) -> Made<Seq<GenericArgument<'a>>>
     ensures { IfOk result (λ r. map argument_view r ≡ map spec.argument_of all.now) }
 {
     let mut found = Seq::new(alloc);
@@ -62,7 +56,7 @@ fn self_arguments<'a>(
 }
 
 /// `<..>` around the arguments, where there is any.
-fn in_brackets<'a>(all: &[SelfArgument], alloc: Global) -> Result<PathArguments<'a>, AllocError>
+fn in_brackets<'a>(all: &[SelfArgument], alloc: Global) -> Made<PathArguments<'a>>
     ensures { IfOk result (λ r. arguments_view r ≡ spec.bracketed (map spec.argument_of all.now)) }
 {
     if all.is_empty() {
@@ -79,7 +73,7 @@ fn in_brackets<'a>(all: &[SelfArgument], alloc: Global) -> Result<PathArguments<
 }
 
 /// The type's name with its arguments.
-pub(crate) fn self_segment<'a>(own: &SelfType, alloc: Global) -> Result<PathSegment<'a>, AllocError>
+pub(crate) fn self_segment<'a>(own: &SelfType, alloc: Global) -> Made<PathSegment<'a>>
     ensures { IfOk result (λ s. segment_view s ≡ spec.segment_of own.now) }
 {
     let arguments = in_brackets(own.arguments.as_slice(), alloc);

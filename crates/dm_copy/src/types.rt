@@ -17,8 +17,8 @@ use crate::self_type::{SelfType, self_segment};
 use dm_ast::{
     BareFn, Bound, FnArg, GenericArgument, Path, PathArguments, PathSegment, QSelf, Ty, TyNode,
 };
-use dm_stream::{Ident, Punctuated, Seq};
-use std::alloc::{AllocError, Global};
+use dm_stream::{Ident, Made, Punctuated, Seq};
+use std::alloc::Global;
 
 /// Whether an identifier is the keyword `Self`.
 fn is_self(ident: &Ident<'_>) -> bool
@@ -35,11 +35,7 @@ fn standing<'x>(ident: &Ident<'_>, own: Option<&'x SelfType>) -> Option<&'x Self
 }
 
 #[cycle(replace)]
-pub(crate) fn replaced_ty<'a>(
-    ty: &Ty<'a>,
-    own: Option<&SelfType>,
-    alloc: Global,
-) -> Result<Ty<'a>, AllocError>
+pub(crate) fn replaced_ty<'a>(ty: &Ty<'a>, own: Option<&SelfType>, alloc: Global) -> Made<Ty<'a>>
     ensures { IfOk result (λ r. tree.ty_view r ≡ spec.replaced_type (own_segment (option_copied own.entry)) (tree.ty_view ty.now)) }
 {
     ty_of(replaced_node(&ty.node, own, alloc), ty.span)
@@ -50,7 +46,7 @@ pub(crate) fn replaced_node<'a>(
     node: &TyNode<'a>,
     own: Option<&SelfType>,
     alloc: Global,
-) -> Result<TyNode<'a>, AllocError>
+) -> Made<TyNode<'a>>
     ensures { IfOk result (λ r. tree.node_view r ≡ spec.replaced_node (own_segment (option_copied own.entry)) (tree.node_view node.now)) }
 {
     match node {
@@ -101,7 +97,7 @@ pub(crate) fn replaced_bound<'a>(
     bound: &Bound<'a>,
     own: Option<&SelfType>,
     alloc: Global,
-) -> Result<Bound<'a>, AllocError>
+) -> Made<Bound<'a>>
     ensures { IfOk result (λ r. tree.bound_view r ≡ spec.replaced_bound (own_segment (option_copied own.entry)) (tree.bound_view bound.now)) }
 {
     match bound {
@@ -119,7 +115,7 @@ pub(crate) fn replaced_fn<'a>(
     function: &BareFn<'a>,
     own: Option<&SelfType>,
     alloc: Global,
-) -> Result<BareFn<'a>, AllocError>
+) -> Made<BareFn<'a>>
     ensures { IfOk result (λ r. tree.fn_view r ≡ spec.replaced_function (own_segment (option_copied own.entry)) (tree.fn_view function.now)) }
 {
     let inputs = &function.inputs;
@@ -137,7 +133,7 @@ fn replaced_output<'a>(
     output: &Option<Ty<'a>>,
     own: Option<&SelfType>,
     alloc: Global,
-) -> Result<Option<Ty<'a>>, AllocError>
+) -> Made<Option<Ty<'a>>>
     ensures { IfOk result (λ r. option_map tree.ty_view r ≡ option_map (spec.replaced_type (own_segment (option_copied own.entry))) (option_map tree.ty_view output.now)) }
 {
     match output {
@@ -151,7 +147,7 @@ pub(crate) fn replaced_path<'a>(
     path: &Path<'a>,
     own: Option<&SelfType>,
     alloc: Global,
-) -> Result<Path<'a>, AllocError>
+) -> Made<Path<'a>>
     ensures { IfOk result (λ r. tree.path_view r ≡ spec.replaced_path (own_segment (option_copied own.entry)) (tree.path_view path.now)) }
 {
     let segments = replaced_segments(path.segments.as_slice(), own, alloc);
@@ -163,7 +159,7 @@ pub(crate) fn replaced_segment<'a>(
     part: &PathSegment<'a>,
     own: Option<&SelfType>,
     alloc: Global,
-) -> Result<PathSegment<'a>, AllocError>
+) -> Made<PathSegment<'a>>
     ensures { IfOk result (λ r. tree.segment_view r ≡ spec.replaced_segment (own_segment (option_copied own.entry)) (tree.segment_view part.now)) }
 {
     match standing(&part.ident, own) {
@@ -180,7 +176,7 @@ pub(crate) fn replaced_segment_arguments<'a>(
     arguments: &PathArguments<'a>,
     own: Option<&SelfType>,
     alloc: Global,
-) -> Result<PathArguments<'a>, AllocError>
+) -> Made<PathArguments<'a>>
     ensures { IfOk result (λ r. tree.arguments_view r ≡ spec.replaced_segment_arguments (own_segment (option_copied own.entry)) (tree.arguments_view arguments.now)) }
 {
     match arguments {
@@ -207,7 +203,7 @@ pub(crate) fn replaced_argument<'a>(
     argument: &GenericArgument<'a>,
     own: Option<&SelfType>,
     alloc: Global,
-) -> Result<GenericArgument<'a>, AllocError>
+) -> Made<GenericArgument<'a>>
     ensures { IfOk result (λ r. tree.argument_view r ≡ spec.replaced_argument (own_segment (option_copied own.entry)) (tree.argument_view argument.now)) }
 {
     match argument {
@@ -254,7 +250,7 @@ fn replaced_types<'a>(
     trailing: bool,
     own: Option<&SelfType>,
     alloc: Global,
-) -> Result<Punctuated<Ty<'a>>, AllocError>
+) -> Made<Punctuated<Ty<'a>>>
     ensures { IfOk result (λ r. (map tree.ty_view r.items ≡ map (spec.replaced_type (own_segment (option_copied own.entry))) (map tree.ty_view all.now)) × (r.trailing ≡ trailing)) }
 {
     let mut items = Seq::new(alloc);
@@ -270,7 +266,7 @@ fn replaced_bounds<'a>(
     trailing: bool,
     own: Option<&SelfType>,
     alloc: Global,
-) -> Result<Punctuated<Bound<'a>>, AllocError>
+) -> Made<Punctuated<Bound<'a>>>
     ensures { IfOk result (λ r. (map tree.bound_view r.items ≡ map (spec.replaced_bound (own_segment (option_copied own.entry))) (map tree.bound_view all.now)) × (r.trailing ≡ trailing)) }
 {
     let mut items = Seq::new(alloc);
@@ -285,7 +281,7 @@ pub(crate) fn replaced_input<'a>(
     input: &FnArg<'a>,
     own: Option<&SelfType>,
     alloc: Global,
-) -> Result<FnArg<'a>, AllocError>
+) -> Made<FnArg<'a>>
     ensures { IfOk result (λ r. tree.input_view r ≡ spec.replaced_input (own_segment (option_copied own.entry)) (tree.input_view input.now)) }
 {
     let head = both(input.attrs.clone_in(alloc), input.name.clone_in(alloc));
@@ -298,7 +294,7 @@ fn replaced_inputs<'a>(
     trailing: bool,
     own: Option<&SelfType>,
     alloc: Global,
-) -> Result<Punctuated<FnArg<'a>>, AllocError>
+) -> Made<Punctuated<FnArg<'a>>>
     ensures { IfOk result (λ r. (map tree.input_view r.items ≡ map (spec.replaced_input (own_segment (option_copied own.entry))) (map tree.input_view all.now)) × (r.trailing ≡ trailing)) }
 {
     let mut items = Seq::new(alloc);
@@ -314,7 +310,7 @@ fn replaced_arguments<'a>(
     trailing: bool,
     own: Option<&SelfType>,
     alloc: Global,
-) -> Result<Punctuated<GenericArgument<'a>>, AllocError>
+) -> Made<Punctuated<GenericArgument<'a>>>
     ensures { IfOk result (λ r. (map tree.argument_view r.items ≡ map (spec.replaced_argument (own_segment (option_copied own.entry))) (map tree.argument_view all.now)) × (r.trailing ≡ trailing)) }
 {
     let mut items = Seq::new(alloc);
@@ -329,7 +325,7 @@ fn replaced_segments<'a>(
     all: &[PathSegment<'a>],
     own: Option<&SelfType>,
     alloc: Global,
-) -> Result<Seq<PathSegment<'a>>, AllocError>
+) -> Made<Seq<PathSegment<'a>>>
     ensures { IfOk result (λ r. map tree.segment_view r ≡ map (spec.replaced_segment (own_segment (option_copied own.entry))) (map tree.segment_view all.now)) }
 {
     let mut found = Seq::new(alloc);

@@ -15,13 +15,14 @@ use dm_expansion::Expansion;
 use dm_printed::declaration::read;
 use dm_printed::traits::{Trait, trait_named};
 use dm_printed::unknown_trait;
-use dm_stream::Error;
+use dm_stream::{Error, Read};
 use std::alloc::Global;
 
 /// The implementations that the trait of this name derives for the declaration, with their text, which [dm_printed::derive_printed] gives
 /// alone. It refuses where that does.
 ///
-/// The trait prints them, and they are read back from the text: they are what it derives but for their ranges, which are places in that text.
+/// The trait prints them, and they are read back from the text: they are what it derives but for their ranges, which are places in that
+/// text.
 pub fn derive_text<'a>(
     alloc: Global,
     trait_name: &str,
@@ -37,7 +38,7 @@ pub fn derive_text<'a>(
     }
 }
 
-fn derive_known<'a>(alloc: Global, derived: Trait, decl: &'a str) -> Result<Expansion<'a>, Error>
+fn derive_known<'a>(alloc: Global, derived: Trait, decl: &'a str) -> Read<Expansion<'a>>
     requires { IsDerived derived }
     ensures derives { (name : List ℕ) → Names name (trait_view derived) → Derives name decl.now result }
     ensures answers { (name : List ℕ) → Names name (trait_view derived) → IfOk result (λ x. Answers name decl.now x.text) }
@@ -49,11 +50,7 @@ fn derive_known<'a>(alloc: Global, derived: Trait, decl: &'a str) -> Result<Expa
 }
 
 /// What the trait answers of a declaration.
-fn expanded<'a>(
-    alloc: Global,
-    derived: Trait,
-    input: &DeriveInput<'a>,
-) -> Result<Expansion<'a>, Error>
+fn expanded<'a>(alloc: Global, derived: Trait, input: &DeriveInput<'a>) -> Read<Expansion<'a>>
     requires derived { IsDerived derived }
     requires of_text { IsOfText (declaration_view input.now) }
     ensures { TraitAnswers (trait_view derived) (declaration_view input.now) result }

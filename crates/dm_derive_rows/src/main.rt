@@ -14,14 +14,14 @@ ghost use Rattle.dm_derive_rows.specs.Told.{Tells};
 
 use dm_printed::derive_printed;
 use dm_rows::{Answers, answered};
-use dm_stream::Error;
+use dm_stream::{Error, Made};
 use parts::{part_named, read_whole};
-use std::alloc::{AllocError, Global};
+use std::alloc::Global;
 use std::io;
 use told::told;
 
 /// What the trait of this name derives for a declaration, or the line of the refusal.
-fn derived(alloc: Global, name: &str, decl: &str) -> Result<String, AllocError>
+fn derived(alloc: Global, name: &str, decl: &str) -> Made<String>
     ensures { IfOk result (λ s. (r : Result (String Global) Error) × Prints name.now decl.now r × Tells r (string_bytes s)) }
 {
     told(alloc, derive_printed(alloc, name, decl))

@@ -14,7 +14,7 @@ use dm_read_patterns::nested::pattern;
 use dm_read_places::path::path;
 use dm_read_places::place::Place;
 use dm_rows::named;
-use dm_stream::Error;
+use dm_stream::{Error, Read};
 use std::alloc::Global;
 
 /// What a text is read as.
@@ -68,7 +68,7 @@ const PARTS: &[(&str, Part)] = &[
 
 /// Whether it was read, and nothing is left. What was read is owned here alone, where its type is open, so that dropping it is cheap to
 /// prove.
-fn is_whole<T: Drop>(read: Result<T, Error>, at_end: bool) -> Result<bool, Error> {
+fn is_whole<T: Drop>(read: Result<T, Error>, at_end: bool) -> Read<bool> {
     match read {
         Ok(_) => Ok(at_end),
         Err(Error::Refused(_)) => Ok(false),
@@ -76,63 +76,63 @@ fn is_whole<T: Drop>(read: Result<T, Error>, at_end: bool) -> Result<bool, Error
     }
 }
 
-fn is_expression(place: &mut Place<'_, '_>) -> Result<bool, Error> {
+fn is_expression(place: &mut Place<'_, '_>) -> Read<bool> {
     let read = expr(place, WANTED);
     is_whole(read, place.at_end())
 }
 
 /// A block's reader promises no place: it reads to the end.
-fn is_block(place: &mut Place<'_, '_>) -> Result<bool, Error> {
+fn is_block(place: &mut Place<'_, '_>) -> Read<bool> {
     is_whole(block(place, FUEL, ROOM), true)
 }
 
-fn is_pattern(place: &mut Place<'_, '_>) -> Result<bool, Error> {
+fn is_pattern(place: &mut Place<'_, '_>) -> Read<bool> {
     let read = pattern(place, FUEL, ROOM);
     is_whole(read, place.at_end())
 }
 
-fn is_path(place: &mut Place<'_, '_>) -> Result<bool, Error> {
+fn is_path(place: &mut Place<'_, '_>) -> Read<bool> {
     let read = path(FUEL, place);
     is_whole(read, place.at_end())
 }
 
-fn is_type(place: &mut Place<'_, '_>) -> Result<bool, Error> {
+fn is_type(place: &mut Place<'_, '_>) -> Read<bool> {
     let read = ty(place);
     is_whole(read, place.at_end())
 }
 
-fn is_qualified(place: &mut Place<'_, '_>) -> Result<bool, Error> {
+fn is_qualified(place: &mut Place<'_, '_>) -> Read<bool> {
     let read = qualified(place);
     is_whole(read, place.at_end())
 }
 
-fn is_value(place: &mut Place<'_, '_>) -> Result<bool, Error> {
+fn is_value(place: &mut Place<'_, '_>) -> Read<bool> {
     let read = run(place);
     is_whole(read, place.at_end())
 }
 
-fn are_attrs(place: &mut Place<'_, '_>) -> Result<bool, Error> {
+fn are_attrs(place: &mut Place<'_, '_>) -> Read<bool> {
     let read = attrs(place);
     is_whole(read, place.at_end())
 }
 
-fn is_head(place: &mut Place<'_, '_>) -> Result<bool, Error> {
+fn is_head(place: &mut Place<'_, '_>) -> Read<bool> {
     let read = printed_head(place);
     is_whole(read, place.at_end())
 }
 
-fn are_assocs(place: &mut Place<'_, '_>) -> Result<bool, Error> {
+fn are_assocs(place: &mut Place<'_, '_>) -> Read<bool> {
     let read = assocs(place, FUEL);
     is_whole(read, place.at_end())
 }
 
-fn is_signature(place: &mut Place<'_, '_>) -> Result<bool, Error> {
+fn is_signature(place: &mut Place<'_, '_>) -> Read<bool> {
     let read = named_signature(place);
     is_whole(read, place.at_end())
 }
 
 /// Whether what stands at a place is read whole.
-fn reads_whole(part: Part, place: &mut Place<'_, '_>) -> Result<bool, Error> {
+fn reads_whole(part: Part, place: &mut Place<'_, '_>) -> Read<bool> {
     match part {
         Part::Expression => is_expression(place),
         Part::Block => is_block(place),
@@ -154,7 +154,7 @@ pub fn part_named(head: &str) -> Option<Part> {
 }
 
 /// Whether a text that is made of tokens is read whole, in words.
-pub fn read_whole(alloc: Global, part: Part, text: &str) -> Result<String, Error> {
+pub fn read_whole(alloc: Global, part: Part, text: &str) -> Read<String> {
     let stream = lex(alloc, text)?;
     let is_whole = reads_whole(part, &mut Place::new(alloc, stream.cursor()))?;
     let told = if is_whole { "whole" } else { "not whole" };

@@ -3,11 +3,11 @@
 ghost use Rattle.std.specs.Prelude.{IfOk, string_bytes};
 ghost use Rattle.dm_derive_rows.specs.Told.{Tells};
 
-use dm_stream::Error;
+use dm_stream::{Error, Made};
 use std::alloc::{AllocError, Global};
 
 /// An answer as text: what was derived, or the line of the refusal.
-pub fn told(alloc: Global, answer: Result<String, Error>) -> Result<String, AllocError>
+pub fn told(alloc: Global, answer: Result<String, Error>) -> Made<String>
     ensures { IfOk result (λ s. Tells answer (string_bytes s)) }
 {
     match answer {

@@ -4,8 +4,8 @@ use dm_derive::derive_text;
 use dm_expansion::{Expansion, print_items};
 use dm_nodes::item::ItemNodes;
 use dm_output_copy::CloneEmitted;
-use dm_stream::Error;
-use std::alloc::{AllocError, Global};
+use dm_stream::{Made, Read};
+use std::alloc::Global;
 
 /// A trait and a declaration.
 type Row = (&'static str, &'static str);
@@ -32,25 +32,25 @@ fn let_go(made: Expansion<'_>) {
 }
 
 /// Whether implementations are printed as their text.
-fn is_of_text(alloc: Global, made: &Expansion<'_>) -> Result<bool, AllocError> {
+fn is_of_text(alloc: Global, made: &Expansion<'_>) -> Made<bool> {
     let printed = print_items(alloc, made.items.as_slice())?;
     Ok(printed.as_str() == made.text.as_str())
 }
 
 /// Whether a copy of them is.
-fn is_copied(alloc: Global, made: &Expansion<'_>) -> Result<bool, AllocError> {
+fn is_copied(alloc: Global, made: &Expansion<'_>) -> Made<bool> {
     let copy = made.clone_in(alloc)?;
     let printed = is_of_text(alloc, &copy);
     let_go(copy);
     printed
 }
 
-fn both_are(alloc: Global, made: &Expansion<'_>) -> Result<bool, AllocError> {
+fn both_are(alloc: Global, made: &Expansion<'_>) -> Made<bool> {
     Ok(is_of_text(alloc, made)? && is_copied(alloc, made)?)
 }
 
 /// Whether what is derived, and a copy of it, are printed as their text.
-fn are_of_text(alloc: Global, row: Row) -> Result<bool, Error> {
+fn are_of_text(alloc: Global, row: Row) -> Read<bool> {
     let made = derive_text(alloc, row.0, row.1)?;
     let printed = both_are(alloc, &made);
     let_go(made);

@@ -1,8 +1,8 @@
 //! Samples, and enums of many variants.
 
 use dm_derive::{derive_printed, sample_text};
-use dm_stream::Error;
-use std::alloc::{AllocError, Global};
+use dm_stream::{Made, Read};
+use std::alloc::Global;
 
 /// Sizes of samples, and their texts.
 const TEXTS: &[(u32, &str)] = &[
@@ -14,13 +14,13 @@ const TEXTS: &[(u32, &str)] = &[
 ];
 
 /// Whether the sample of this size has this text.
-fn has_text(alloc: Global, size: u32, text: &str) -> Result<bool, AllocError> {
+fn has_text(alloc: Global, size: u32, text: &str) -> Made<bool> {
     let sample = sample_text(alloc, size)?;
     Ok(sample.as_str() == text)
 }
 
 /// The first size whose sample has another text.
-fn first_other(alloc: Global) -> Result<Option<u32>, AllocError> {
+fn first_other(alloc: Global) -> Made<Option<u32>> {
     for (size, text) in TEXTS.iter().copied() {
         if !has_text(alloc, size, text)? {
             return Ok(Some(size));
@@ -30,25 +30,25 @@ fn first_other(alloc: Global) -> Result<Option<u32>, AllocError> {
 }
 
 #[test]
-fn texts(rt: HostRuntime) -> Result<(), AllocError> {
+fn texts(rt: HostRuntime) -> Made<()> {
     assert_eq!(rt; first_other(rt.alloc())?, None);
     Ok(())
 }
 
 /// How many bytes the text of the largest sample has.
-fn largest_length(alloc: Global) -> Result<usize, AllocError> {
+fn largest_length(alloc: Global) -> Made<usize> {
     let sample = sample_text(alloc, 2_000)?;
     Ok(sample.len())
 }
 
 #[test]
-fn largest(rt: HostRuntime) -> Result<(), AllocError> {
+fn largest(rt: HostRuntime) -> Made<()> {
     assert!(rt; largest_length(rt.alloc())? < 60_000);
     Ok(())
 }
 
 /// `enum E { V0(u8), V1(u8), .. }`, with so many variants.
-fn enumeration(alloc: Global, count: u32) -> Result<String, AllocError> {
+fn enumeration(alloc: Global, count: u32) -> Made<String> {
     let mut text = String::from_str(alloc, "enum E { ")?;
     for number in 0..count {
         let variant = format!(in alloc; "V{number}(u8), ")?;
@@ -73,14 +73,14 @@ fn is_whole(text: &str) -> bool {
 }
 
 /// Whether the implementation for so many variants is whole.
-fn prints_whole(alloc: Global, count: u32) -> Result<bool, Error> {
+fn prints_whole(alloc: Global, count: u32) -> Read<bool> {
     let text = enumeration(alloc, count)?;
     let written = derive_printed(alloc, "PartialEq", text.as_str())?;
     Ok(is_whole(written.as_str()))
 }
 
 #[test]
-fn two_thousand(rt: HostRuntime) -> Result<(), Error> {
+fn two_thousand(rt: HostRuntime) -> Read<()> {
     assert!(rt; prints_whole(rt.alloc(), 2_000)?);
     Ok(())
 }

@@ -1,7 +1,8 @@
 //! Whole runs: what is written, and how they end.
 
 use dm_derive::{LARGEST_INPUT, MemSink, MemSource, Status, derive_main};
-use std::alloc::{AllocError, Global};
+use dm_stream::Made;
+use std::alloc::Global;
 
 const INPUT: &[u8] = b"PartialEq\nstruct P(i32);";
 
@@ -29,7 +30,7 @@ fn sound(bytes: &[u8]) -> Outside<'_> {
     }
 }
 
-fn words_of(alloc: Global, words: &[&str]) -> Result<Vec<String>, AllocError> {
+fn words_of(alloc: Global, words: &[&str]) -> Made<Vec<String>> {
     let mut all = Vec::new(alloc);
     for word in words.iter().copied() {
         let word = String::from_str(alloc, word)?;
@@ -38,24 +39,19 @@ fn words_of(alloc: Global, words: &[&str]) -> Result<Vec<String>, AllocError> {
     Ok(all)
 }
 
-fn source_of(alloc: Global, outside: Outside<'_>) -> Result<MemSource, AllocError> {
+fn source_of(alloc: Global, outside: Outside<'_>) -> Made<MemSource> {
     let bytes = Vec::from_slice(alloc, outside.bytes)?;
     let failing = Vec::from_slice(alloc, outside.failing_reads)?;
     Ok(MemSource::new(bytes, 8, failing))
 }
 
-fn sink_of(alloc: Global, outside: Outside<'_>) -> Result<MemSink, AllocError> {
+fn sink_of(alloc: Global, outside: Outside<'_>) -> Made<MemSink> {
     let failing = Vec::from_slice(alloc, outside.failing_writes)?;
     MemSink::new(alloc, outside.room, 10, failing)
 }
 
 /// Whether a run ends so, with this written.
-fn ends(
-    alloc: Global,
-    outside: Outside<'_>,
-    status: Status,
-    written: &[u8],
-) -> Result<bool, AllocError> {
+fn ends(alloc: Global, outside: Outside<'_>, status: Status, written: &[u8]) -> Made<bool> {
     let words = words_of(alloc, outside.words)?;
     let mut source = source_of(alloc, outside)?;
     let mut sink = sink_of(alloc, outside)?;
@@ -85,7 +81,7 @@ const RUNS: &[Run] = &[
 ];
 
 /// The first input whose run ends otherwise.
-fn first_other_run(alloc: Global) -> Result<Option<&'static [u8]>, AllocError> {
+fn first_other_run(alloc: Global) -> Made<Option<&'static [u8]>> {
     for (input, status, written) in RUNS.iter().copied() {
         if !ends(alloc, sound(input), status, written)? {
             return Ok(Some(input));
@@ -95,7 +91,7 @@ fn first_other_run(alloc: Global) -> Result<Option<&'static [u8]>, AllocError> {
 }
 
 #[test]
-fn runs(rt: HostRuntime) -> Result<(), AllocError> {
+fn runs(rt: HostRuntime) -> Made<()> {
     assert_eq!(rt; first_other_run(rt.alloc())?, None);
     Ok(())
 }
@@ -110,7 +106,7 @@ const FAILURES: &[Failure] = &[
 ];
 
 /// The number of failures that end so, up to the first other.
-fn failures_in_front(alloc: Global) -> Result<usize, AllocError> {
+fn failures_in_front(alloc: Global) -> Made<usize> {
     let mut count = 0usize;
     for (failing_reads, failing_writes, room, status, written) in FAILURES.iter().copied() {
         let outside = Outside {
@@ -128,7 +124,7 @@ fn failures_in_front(alloc: Global) -> Result<usize, AllocError> {
 }
 
 #[test]
-fn failures(rt: HostRuntime) -> Result<(), AllocError> {
+fn failures(rt: HostRuntime) -> Made<()> {
     assert_eq!(rt; failures_in_front(rt.alloc())?, FAILURES.len());
     Ok(())
 }
@@ -207,7 +203,7 @@ const ASKED: &[Asked] = &[
 ];
 
 /// The number of words that are answered so, up to the first other.
-fn asked_in_front(alloc: Global) -> Result<usize, AllocError> {
+fn asked_in_front(alloc: Global) -> Made<usize> {
     let mut count = 0usize;
     for (words, room, status, written) in ASKED.iter().copied() {
         let outside = Outside {
@@ -225,7 +221,7 @@ fn asked_in_front(alloc: Global) -> Result<usize, AllocError> {
 }
 
 #[test]
-fn asked(rt: HostRuntime) -> Result<(), AllocError> {
+fn asked(rt: HostRuntime) -> Made<()> {
     assert_eq!(rt; asked_in_front(rt.alloc())?, ASKED.len());
     Ok(())
 }
@@ -240,19 +236,14 @@ const FILLED: &[Filled] = &[
 ];
 
 /// Whether a run ends so, with this written, for an input that blanks fill up to a size.
-fn filled_ends(
-    alloc: Global,
-    size: usize,
-    status: Status,
-    written: &[u8],
-) -> Result<bool, AllocError> {
+fn filled_ends(alloc: Global, size: usize, status: Status, written: &[u8]) -> Made<bool> {
     let mut input = Vec::from_slice(alloc, INPUT)?;
     input.resize(size, b' ')?;
     ends(alloc, sound(input.as_slice()), status, written)
 }
 
 /// The first size whose run ends otherwise.
-fn first_other_size(alloc: Global) -> Result<Option<usize>, AllocError> {
+fn first_other_size(alloc: Global) -> Made<Option<usize>> {
     for (size, status, written) in FILLED.iter().copied() {
         if !filled_ends(alloc, size, status, written)? {
             return Ok(Some(size));
@@ -262,7 +253,7 @@ fn first_other_size(alloc: Global) -> Result<Option<usize>, AllocError> {
 }
 
 #[test]
-fn too_much(rt: HostRuntime) -> Result<(), AllocError> {
+fn too_much(rt: HostRuntime) -> Made<()> {
     assert_eq!(rt; first_other_size(rt.alloc())?, None);
     Ok(())
 }

@@ -10,7 +10,7 @@ use dm_layout::{Layout, Printed};
 use dm_nodes::item::ItemNodes;
 use dm_output::Item;
 use dm_print::item::item;
-use dm_stream::{Seq, Text};
+use dm_stream::{Made, Seq, Text};
 use std::alloc::{AllocError, Global};
 
 /// Items with their text.
@@ -54,7 +54,7 @@ pub fn with_text<'a>(alloc: Global, items: Seq<Item<'a>>) -> Result<Expansion<'a
     })
 }
 
-fn text_of<'a>(items: &ItemNodes<'_>, alloc: Global) -> Result<Text<'a>, AllocError>
+fn text_of<'a>(items: &ItemNodes<'_>, alloc: Global) -> Made<Text<'a>>
     ensures { IfOk result (λ t. t ≡ printed (map item_view items.now)) }
 {
     Ok(Text::owned(print_items(alloc, items.as_slice())?))

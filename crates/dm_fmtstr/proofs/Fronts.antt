@@ -8,10 +8,6 @@ use Rattle.dm_lexer.specs.TextFronts.{IsFront}
 use Rattle.dm_lexer.proofs.LexChars.{front-one}
 use Rattle.dm_lexer.proofs.TextFronts.{front-then}
 
--- a text is its first character and what is left behind that
-pub text-is : (text whole rest left : List ℕ) (c : ℕ) → whole ≡ text → whole ≡ encode_utf8 c ++ left → rest ≡ left → text ≡ encode_utf8 c ++ rest
-text-is text whole rest left c w e r = sym w ∙ e ∙ ap (λ l. encode_utf8 c ++ l) (sym r)
-
 pub drop-next : (n c : ℕ) (cs ds : List ℕ) → drop n cs ≡ c ∷ ds → drop (suc n) cs ≡ ds
 drop-next zero c [] ds h = absurd (cc)
 drop-next zero c (d ∷ cs) ds h = cc

@@ -5,7 +5,8 @@ ghost use Rattle.std.specs.Str.{chars};
 ghost use Rattle.dm_fmtstr.specs.Grammar as spec;
 ghost use Rattle.dm_fmtstr.specs.Parts.{argument_of, count_of};
 
-use crate::chars::{behind_char, first_char, goes_on, text_from, text_to, word_size};
+use crate::chars::{behind_char, goes_on, word_size};
+use dm_lexer::front::{first_char, text_from, text_to};
 
 /// A value that is formatted, or that tells a width or a precision: by its position among the arguments, or by its name.
 #[derive(Debug, PartialEq, Eq, Drop)]

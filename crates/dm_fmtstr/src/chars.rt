@@ -1,24 +1,13 @@
 //! Characters at the front of a text.
 
-ghost use Rattle.std.specs.Prelude.{◌≡◌, ◌++◌, ◌∷◌, [], ◌<◌, None, Some, length, take, drop, MatchOption, IfSome, encode_utf8};
-ghost use Rattle.std.specs.Str.{chars, IsCharBoundary};
+ghost use Rattle.std.specs.Prelude.{◌≡◌, ◌<◌, None, Some, MatchOption};
+ghost use Rattle.std.specs.Str.{chars};
 ghost use Rattle.dm_lexer.specs.TextFronts.{IsFront, run};
 ghost use Rattle.dm_fmtstr.specs.Fronts.{behind, begins_with};
 ghost use Rattle.dm_fmtstr.specs.Grammar as spec;
 ghost use Rattle.unicode_ident.specs.Ident.{is_xid_continue};
 
-/// The first character of a text, and the rest.
-pub fn first_char<'a>(text: &'a str) -> Option<(char, &'a str)>
-    ensures chars { MatchOption result (chars text.now ≡ []) (λ r. chars text.now ≡ r.0 ∷ chars r.1.now) }
-    ensures bytes { MatchOption result (text.now ≡ []) (λ r. text.now ≡ encode_utf8 r.0 ++ r.1.now) }
-    ensures shorter { IfSome result (λ r. length r.1.now < length text.now) }
-{
-    let mut chars = text.chars();
-    match chars.next() {
-        Some(c) => Some((c, chars.as_str())),
-        None => None,
-    }
-}
+use dm_lexer::front::first_char;
 
 /// The text behind this character, where it stands at the front.
 pub fn behind_char<'a>(text: &'a str, wanted: char) -> Option<&'a str>
@@ -64,22 +53,6 @@ pub fn word_size(text: &str) -> usize
         rest = after;
     }
     at
-}
-
-/// The text from a place on.
-pub fn text_from<'a>(text: &'a str, at: usize) -> &'a str
-    requires { IsCharBoundary text.now at }
-    ensures { result.now ≡ drop at text.now }
-{
-    &text[at..]
-}
-
-/// The text up to a place.
-pub fn text_to<'a>(text: &'a str, at: usize) -> &'a str
-    requires { IsCharBoundary text.now at }
-    ensures { result.now ≡ take at text.now }
-{
-    &text[..at]
 }
 
 /// What was read and the text behind it, or else nothing and the whole text.

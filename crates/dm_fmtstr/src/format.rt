@@ -6,8 +6,9 @@ ghost use Rattle.dm_fmtstr.specs.Grammar as spec;
 ghost use Rattle.dm_fmtstr.specs.Parts.{format_of, formats_of, spec_of};
 
 use crate::argument::{Argument, read_argument};
-use crate::chars::{behind_char, first_char, optional};
+use crate::chars::{behind_char, optional};
 use crate::spec::{FormatSpec, read_spec};
+use dm_lexer::front::first_char;
 use dm_stream::Seq;
 use std::alloc::{AllocError, Global};
 

@@ -5,7 +5,8 @@ ghost use Rattle.std.specs.Str.{chars};
 ghost use Rattle.dm_fmtstr.specs.Grammar as spec;
 ghost use Rattle.dm_fmtstr.specs.Positions as positions;
 
-use crate::chars::{behind_char, first_char};
+use crate::chars::behind_char;
+use dm_lexer::front::first_char;
 
 /// The formatting trait of a placeholder, which its last letters tell. `LowerDebug` is `x?` and `UpperDebug` is `X?`: `Debug` with
 /// hexadecimal integers.

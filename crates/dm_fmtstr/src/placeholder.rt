@@ -10,7 +10,7 @@ use crate::argument::{Argument, Precision};
 use crate::format::{Format, format_string};
 use crate::kind::FmtType;
 use crate::spec::FormatSpec;
-use dm_stream::Seq;
+use dm_stream::{Made, Seq};
 use std::alloc::{AllocError, Global};
 
 /// The value that a placeholder formats: by its position among the arguments, from 0, or by its name.
@@ -47,7 +47,7 @@ impl<'a> Placeholder<'a> {
 }
 
 /// The placeholders, with their positions counted from 0.
-fn numbered<'a>(alloc: Global, formats: &[Format<'a>]) -> Result<Seq<Placeholder<'a>>, AllocError>
+fn numbered<'a>(alloc: Global, formats: &[Format<'a>]) -> Made<Seq<Placeholder<'a>>>
     requires { 2 * length formats.now < 2 ^ 64 }
     ensures { IfOk result (λ found. rule.placeholders_of found ≡ rule.placeholders (formats_of formats.now)) }
 {

@@ -6,8 +6,9 @@ ghost use Rattle.dm_fmtstr.specs.Grammar as spec;
 ghost use Rattle.dm_fmtstr.specs.Parts.{precision_of, spec_of};
 
 use crate::argument::{Count, Precision, read_count};
-use crate::chars::{behind_char, first_char, is_next, optional};
+use crate::chars::{behind_char, is_next, optional};
 use crate::kind::{FmtType, read_kind};
+use dm_lexer::front::first_char;
 
 /// To which side a value is moved within its width: `<`, `^` or `>`.
 #[derive(Clone, Copy, Debug, PartialEq, Eq)]

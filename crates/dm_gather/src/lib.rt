@@ -3,8 +3,6 @@
 
 mod list;
 mod node;
-#[cfg(test)]
-mod tests;
 
 pub use list::Gathers;
-pub use node::{Made, Node, Nodes, discard, fronted};
+pub use node::{Node, Nodes, discard, fronted};

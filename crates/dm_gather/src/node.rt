@@ -1,16 +1,13 @@
-//! Trees in boxes of their own, and lists of trees. Both are private, so that what holds them needs to know nothing of how trees are dropped and
-//! how large they are; contracts see the trees.
+//! Trees in boxes of their own, and lists of trees. Both are private, so that what holds them needs to know nothing of how trees are
+//! dropped and how large they are; contracts see the trees.
 
 ghost use Rattle.std.specs.Prelude.{◌≡◌, ◌∷◌, ◌++◌, ◌<◌, ◌↔◌, [], length, IfOk, IsSome, IsTrue};
 ghost use Rattle.std.specs.Option.{option_to_list};
 
 use crate::list::Gathers;
-use dm_stream::Seq;
+use dm_stream::{Made, Seq};
 use std::alloc::{AllocError, Global};
 use std::marker::Model;
-
-/// What making a tree answers: the tree, or an error where there was no memory.
-pub type Made<T> = Result<T, AllocError>;
 
 /// A tree in a box.
 pub struct Node<T> {

@@ -17,7 +17,7 @@ use crate::names::owned_word;
 use crate::parameters::{Chosen, copies};
 use dm_ast::{Bound, Field, GenericParam, Generics, TyParam, WherePredicate};
 use dm_copy::{CloneIn, both};
-use dm_stream::{Ident, Punctuated, Seq};
+use dm_stream::{Ident, Made, Punctuated, Seq};
 use std::alloc::{AllocError, Global};
 
 /// What each type parameter is bounded by: a bound that is given, or the operator of this name, with the parameter itself as its output.
@@ -27,11 +27,7 @@ pub(crate) enum Extra<'x, 'a> {
     OpOutput(&'x str),
 }
 
-fn extra_bound<'a>(
-    ident: &Ident<'a>,
-    extra: Extra<'_, 'a>,
-    alloc: Global,
-) -> Result<Bound<'a>, AllocError>
+fn extra_bound<'a>(ident: &Ident<'a>, extra: Extra<'_, 'a>, alloc: Global) -> Made<Bound<'a>>
     ensures { IfOk result (λ b. bound_view b ≡ added.bound extra.entry ident.now) }
 {
     match extra {
@@ -40,7 +36,7 @@ fn extra_bound<'a>(
     }
 }
 
-fn declared_bounds<'a>(param: &TyParam<'a>, alloc: Global) -> Result<Seq<Bound<'a>>, AllocError>
+fn declared_bounds<'a>(param: &TyParam<'a>, alloc: Global) -> Made<Seq<Bound<'a>>>
     ensures { IfOk result (λ bs. map bound_view bs ≡ items_in (option_map (listed bound_view) param.now.bounds)) }
 {
     match &param.bounds {
@@ -53,7 +49,7 @@ fn wider_bounds<'a>(
     param: &TyParam<'a>,
     extra: Extra<'_, 'a>,
     alloc: Global,
-) -> Result<Seq<Bound<'a>>, AllocError>
+) -> Made<Seq<Bound<'a>>>
     ensures { IfOk result (λ bs. map bound_view bs ≡ items_in (option_map (listed bound_view) param.now.bounds) ++ added.bound extra.entry param.now.ident ∷ []) }
 {
     let extra = extra_bound(&param.ident, extra, alloc);
@@ -65,7 +61,7 @@ fn bounded_type<'a>(
     param: &TyParam<'a>,
     extra: Extra<'_, 'a>,
     alloc: Global,
-) -> Result<GenericParam<'a>, AllocError>
+) -> Made<GenericParam<'a>>
     ensures { IfOk result (λ p. param_view p ≡ spec.bounded (added.bound extra.entry) (type_param param.now.attrs param.now.ident (option_map (listed bound_view) param.now.bounds) (option_map ty_view param.now.default_ty))) }
 {
     let bounds = wider_bounds(param, extra, alloc);
@@ -88,7 +84,7 @@ fn bounded<'a>(
     param: &GenericParam<'a>,
     extra: Extra<'_, 'a>,
     alloc: Global,
-) -> Result<GenericParam<'a>, AllocError>
+) -> Made<GenericParam<'a>>
     ensures { IfOk result (λ p. param_view p ≡ spec.bounded (added.bound extra.entry) (param_view param.now)) }
 {
     match param {
@@ -102,7 +98,7 @@ fn all_bounded<'a>(
     params: &[GenericParam<'a>],
     extra: Extra<'_, 'a>,
     alloc: Global,
-) -> Result<Seq<GenericParam<'a>>, AllocError>
+) -> Made<Seq<GenericParam<'a>>>
     ensures { IfOk result (λ ps. map param_view ps ≡ map (spec.bounded (added.bound extra.entry)) (map param_view params.now)) }
 {
     let mut out = Seq::new(alloc);
@@ -112,11 +108,7 @@ fn all_bounded<'a>(
     Ok(out)
 }
 
-fn with_bounds<'a>(
-    g: &Generics<'a>,
-    extra: Extra<'_, 'a>,
-    alloc: Global,
-) -> Result<Generics<'a>, AllocError>
+fn with_bounds<'a>(g: &Generics<'a>, extra: Extra<'_, 'a>, alloc: Global) -> Made<Generics<'a>>
     ensures { IfOk result (λ r. generics_view r ≡ spec.all_bounded (added.bound extra.entry) (generics_view g.now)) }
 {
     let items = all_bounded(g.params.items.as_slice(), extra, alloc);
@@ -174,7 +166,7 @@ fn behind_all<'a>(
     g: &Generics<'a>,
     param: GenericParam<'a>,
     alloc: Global,
-) -> Result<Seq<GenericParam<'a>>, AllocError>
+) -> Made<Seq<GenericParam<'a>>>
     ensures { IfOk result (λ ps. map param_view ps ≡ map param_view g.now.params.items ++ param_view param.entry ∷ []) }
 {
     let (declared, param) = both(g.params.items.clone_in(alloc), Ok(param))?;
@@ -194,10 +186,7 @@ pub fn add_extra_generic_param<'a>(
     Ok(angled(params, where_clause))
 }
 
-fn lifetimes_and_types<'a>(
-    all: &[GenericParam<'a>],
-    alloc: Global,
-) -> Result<Seq<GenericParam<'a>>, AllocError>
+fn lifetimes_and_types<'a>(all: &[GenericParam<'a>], alloc: Global) -> Made<Seq<GenericParam<'a>>>
     ensures { IfOk result (λ ps. map param_view ps ≡ filter is_lifetime (map param_view all.now) ++ filter is_type (map param_view all.now)) }
 {
     let lifetimes = copies(all, Chosen::Lifetimes, alloc);
@@ -209,7 +198,7 @@ fn behind_types<'a>(
     all: &[GenericParam<'a>],
     param: GenericParam<'a>,
     alloc: Global,
-) -> Result<Seq<GenericParam<'a>>, AllocError>
+) -> Made<Seq<GenericParam<'a>>>
     ensures { IfOk result (λ ps. map param_view ps ≡ spec.behind_types (param_view param.entry) (map param_view all.now)) }
 {
     let (front, param) = both(lifetimes_and_types(all, alloc), Ok(param))?;
@@ -234,7 +223,7 @@ pub fn add_extra_generic_type_param<'a>(
 fn in_front<T: CloneIn>(
     extra: Punctuated<T>,
     declared: Option<Punctuated<T>>,
-) -> Result<Punctuated<T>, AllocError>
+) -> Made<Punctuated<T>>
     ensures { IfOk result (λ all. listed T.shape all ≡ spec.in_front (listed T.shape extra) (option_map (listed T.shape) declared)) }
 {
     match declared {
@@ -250,7 +239,7 @@ fn wider_where<'a>(
     g: &Generics<'a>,
     extra: Punctuated<WherePredicate<'a>>,
     alloc: Global,
-) -> Result<Punctuated<WherePredicate<'a>>, AllocError>
+) -> Made<Punctuated<WherePredicate<'a>>>
     ensures { IfOk result (λ ps. listed predicate_view ps ≡ spec.in_front (listed predicate_view extra.entry) (generics_view g.now).where_clause) }
 {
     let (extra, declared) = both(Ok(extra), g.where_clause.clone_in(alloc))?;
@@ -274,7 +263,7 @@ pub fn add_extra_where_clauses<'a>(
     })
 }
 
-fn only<'a>(alloc: Global, bound: Bound<'a>) -> Result<Option<Punctuated<Bound<'a>>>, AllocError>
+fn only<'a>(alloc: Global, bound: Bound<'a>) -> Made<Option<Punctuated<Bound<'a>>>>
     ensures { IfOk result (λ bs. option_map (listed bound_view) bs ≡ Some (separated (bound_view bound.entry ∷ []))) }
 {
     Ok(Some(Punctuated {
@@ -283,11 +272,7 @@ fn only<'a>(alloc: Global, bound: Bound<'a>) -> Result<Option<Punctuated<Bound<'
     }))
 }
 
-fn new_bounds<'a>(
-    alloc: Global,
-    count: usize,
-    sized: bool,
-) -> Result<Option<Punctuated<Bound<'a>>>, AllocError>
+fn new_bounds<'a>(alloc: Global, count: usize, sized: bool) -> Made<Option<Punctuated<Bound<'a>>>>
     ensures { IfOk result (λ bs. option_map (listed bound_view) bs ≡ spec.new_bounds count sized) }
 {
     if 1 < count {
@@ -299,12 +284,7 @@ fn new_bounds<'a>(
     only(alloc, marker(alloc, "Sized", true)?)
 }
 
-fn new_type<'a>(
-    name: &str,
-    count: usize,
-    sized: bool,
-    alloc: Global,
-) -> Result<GenericParam<'a>, AllocError>
+fn new_type<'a>(name: &str, count: usize, sized: bool, alloc: Global) -> Made<GenericParam<'a>>
     ensures { IfOk result (λ p. param_view p ≡ spec.new_type name.now count sized) }
 {
     let (ident, bounds) = both(owned_word(alloc, name), new_bounds(alloc, count, sized))?;
@@ -322,7 +302,7 @@ fn with_new_type<'a>(
     count: usize,
     sized: bool,
     alloc: Global,
-) -> Result<Seq<GenericParam<'a>>, AllocError>
+) -> Made<Seq<GenericParam<'a>>>
     ensures { IfOk result (λ ps. map param_view ps ≡ spec.behind_types (spec.new_type name.now count sized) (map param_view all.now)) }
 {
     let param = new_type(name, count, sized, alloc)?;

@@ -27,7 +27,7 @@ use crate::names::{owned_word, path_of, segments, word};
 use crate::types::name_type;
 use dm_ast::{Bound, GenericArgument, Path, PathArguments, PathSegment, TraitBound};
 use dm_copy::both;
-use dm_stream::{Ident, Punctuated, Seq};
+use dm_stream::{Ident, Made, Punctuated, Seq};
 use std::alloc::{AllocError, Global};
 
 fn trait_of(path: Path<'_>, maybe: bool) -> TraitBound<'_>
@@ -57,7 +57,7 @@ pub fn marker<'a>(alloc: Global, name: &'a str, maybe: bool) -> Result<Bound<'a>
 }
 
 /// `Output = T`.
-fn output_argument<'a>(ident: &Ident<'a>, alloc: Global) -> Result<GenericArgument<'a>, AllocError>
+fn output_argument<'a>(ident: &Ident<'a>, alloc: Global) -> Made<GenericArgument<'a>>
     ensures { IfOk result (λ a. argument_view a ≡ assoc_type (words.word (codes "Output")) arguments_absent (implementors.name_type ident.now)) }
 {
     let name = ident.clone_in(alloc)?;
@@ -66,7 +66,7 @@ fn output_argument<'a>(ident: &Ident<'a>, alloc: Global) -> Result<GenericArgume
 }
 
 /// `<Output = T>`.
-fn output<'a>(ident: &Ident<'a>, alloc: Global) -> Result<PathArguments<'a>, AllocError>
+fn output<'a>(ident: &Ident<'a>, alloc: Global) -> Made<PathArguments<'a>>
     ensures { IfOk result (λ a. arguments_view a ≡ spec.output ident.now) }
 {
     let argument = output_argument(ident, alloc)?;
@@ -88,11 +88,7 @@ pub fn segment<'a>(ident: Ident<'a>, arguments: PathArguments<'a>) -> PathSegmen
 }
 
 /// `NAME<Output = T>`.
-fn op_segment<'a>(
-    ident: &Ident<'a>,
-    name: &str,
-    alloc: Global,
-) -> Result<PathSegment<'a>, AllocError>
+fn op_segment<'a>(ident: &Ident<'a>, name: &str, alloc: Global) -> Made<PathSegment<'a>>
     ensures { IfOk result (λ s. segment_view s ≡ segment_tree (words.word name.now) (spec.output ident.now)) }
 {
     let (name, arguments) = both(owned_word(alloc, name), output(ident, alloc))?;
@@ -103,7 +99,7 @@ fn segments_to<'a>(
     alloc: Global,
     names: &[&'a str],
     last: PathSegment<'a>,
-) -> Result<Seq<PathSegment<'a>>, AllocError>
+) -> Made<Seq<PathSegment<'a>>>
     ensures { IfOk result (λ ss. map segment_view ss ≡ words.plain_segments (map (λ s. s.now) names.now) ++ segment_view last.entry ∷ []) }
 {
     let (front, last) = both(segments(alloc, names), Ok(last))?;

@@ -4,7 +4,7 @@ ghost use Rattle.std.specs.Prelude.{◌≡◌, All, map, Some, IsSome, IfOk};
 ghost use Rattle.dm_generics.specs.Lent.{lent};
 
 use dm_ast::{Field, Ty};
-use dm_stream::{Ident, Punctuated, Seq};
+use dm_stream::{Ident, Made, Punctuated, Seq};
 use std::alloc::{AllocError, Global};
 
 fn name_of<'x, 'a>(field: &'x Field<'a>) -> &'x Ident<'a>
@@ -45,10 +45,7 @@ pub fn get_field_types<'x, 'a>(
     Ok(out)
 }
 
-fn references<'x, 'a>(
-    alloc: Global,
-    fields: &'x [Field<'a>],
-) -> Result<Seq<&'x Field<'a>>, AllocError>
+fn references<'x, 'a>(alloc: Global, fields: &'x [Field<'a>]) -> Made<Seq<&'x Field<'a>>>
     ensures { IfOk result (λ fs. lent fs ≡ fields.now) }
 {
     let mut out = Seq::with_capacity(alloc, fields.len())?;

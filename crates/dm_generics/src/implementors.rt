@@ -25,7 +25,7 @@ use dm_ast::{
     WherePredicate,
 };
 use dm_copy::CloneIn;
-use dm_stream::{Ident, Punctuated, Seq};
+use dm_stream::{Ident, Made, Punctuated, Seq};
 use std::alloc::{AllocError, Global};
 
 /// The declared parameters, lifetimes first.
@@ -41,7 +41,7 @@ pub fn params<'a>(
 pub(crate) fn declared_predicates<'a>(
     generics: &Generics<'a>,
     alloc: Global,
-) -> Result<Seq<WherePredicate<'a>>, AllocError>
+) -> Made<Seq<WherePredicate<'a>>>
     ensures { IfOk result (λ ps. map predicate_view ps ≡ spec.predicates_in (generics_view generics.now).where_clause) }
 {
     match &generics.where_clause {
@@ -60,7 +60,7 @@ pub fn predicates<'a>(
     declared_predicates(&input.generics, alloc)
 }
 
-fn named_argument<'a>(alloc: Global, ident: &Ident<'a>) -> Result<GenericArgument<'a>, AllocError>
+fn named_argument<'a>(alloc: Global, ident: &Ident<'a>) -> Made<GenericArgument<'a>>
     ensures { IfOk result (λ a. argument_view a ≡ type_arg (spec.name_type ident.now)) }
 {
     let name = ident.clone_in(alloc)?;
@@ -68,7 +68,7 @@ fn named_argument<'a>(alloc: Global, ident: &Ident<'a>) -> Result<GenericArgumen
     Ok(GenericArgument::Ty(ty))
 }
 
-fn argument<'a>(alloc: Global, param: &GenericParam<'a>) -> Result<GenericArgument<'a>, AllocError>
+fn argument<'a>(alloc: Global, param: &GenericParam<'a>) -> Made<GenericArgument<'a>>
     ensures { IfOk result (λ a. argument_view a ≡ spec.argument (param_view param.now)) }
 {
     match param {
@@ -83,7 +83,7 @@ fn argument<'a>(alloc: Global, param: &GenericParam<'a>) -> Result<GenericArgume
 pub(crate) fn argument_items<'a>(
     alloc: Global,
     params: &[GenericParam<'a>],
-) -> Result<Seq<GenericArgument<'a>>, AllocError>
+) -> Made<Seq<GenericArgument<'a>>>
     ensures { IfOk result (λ it. map argument_view it ≡ map spec.argument (map param_view params.now)) }
 {
     let mut out = Seq::new(alloc);
@@ -94,10 +94,7 @@ pub(crate) fn argument_items<'a>(
 }
 
 /// `<..>` where there is any parameter.
-fn arguments<'a>(
-    alloc: Global,
-    params: &[GenericParam<'a>],
-) -> Result<PathArguments<'a>, AllocError>
+fn arguments<'a>(alloc: Global, params: &[GenericParam<'a>]) -> Made<PathArguments<'a>>
     ensures { IfOk result (λ a. arguments_view a ≡ spec.arguments (map param_view params.now)) }
 {
     if params.is_empty() {
@@ -120,7 +117,7 @@ fn segment<'a>(ident: Ident<'a>, arguments: PathArguments<'a>) -> PathSegment<'a
 }
 
 /// A path of one segment.
-fn lone(alloc: Global, segment: PathSegment<'_>) -> Result<Path<'_>, AllocError>
+fn lone(alloc: Global, segment: PathSegment<'_>) -> Made<Path<'_>>
     ensures { IfOk result (λ p. path_view p ≡ path_tree false (segment_then (segment_view segment.entry) no_segments)) }
 {
     Ok(Path {

@@ -8,7 +8,7 @@ ghost use Rattle.dm_generics.specs.Words as spec;
 
 use crate::lists::one;
 use dm_ast::{Path, PathArguments, PathSegment};
-use dm_stream::{Ident, Seq, Span, Text};
+use dm_stream::{Ident, Made, Seq, Span, Text};
 use std::alloc::{AllocError, Global};
 
 /// An identifier that stands nowhere in the declaration's text.
@@ -56,10 +56,7 @@ pub fn path_of_one(alloc: Global, ident: Ident<'_>) -> Result<Path<'_>, AllocErr
 }
 
 /// The segments of a path of these names.
-pub(crate) fn segments<'a>(
-    alloc: Global,
-    names: &[&'a str],
-) -> Result<Seq<PathSegment<'a>>, AllocError>
+pub(crate) fn segments<'a>(alloc: Global, names: &[&'a str]) -> Made<Seq<PathSegment<'a>>>
     ensures { IfOk result (λ ss. map segment_view ss ≡ spec.plain_segments (map (λ s. s.now) names.now)) }
 {
     let mut out = Seq::with_capacity(alloc, names.len())?;

@@ -6,16 +6,16 @@ ghost use Rattle.dm_generics.specs.Numbered as spec;
 ghost use Rattle.dm_generics.specs.Numerals.{numeral};
 
 use crate::names::emitted;
-use dm_stream::{Ident, Seq, Text};
+use dm_stream::{Ident, Made, Seq, Text};
 use std::alloc::{AllocError, Global};
 
-fn numbered(alloc: Global, prefix: &str, n: usize) -> Result<String, AllocError>
+fn numbered(alloc: Global, prefix: &str, n: usize) -> Made<String>
     ensures { IfOk result (λ name. string_bytes name ≡ codes "__" ++ prefix.now ++ numeral n) }
 {
     format!(in alloc; "__{prefix}{n}")
 }
 
-fn numbered_var<'a>(alloc: Global, prefix: &str, n: usize) -> Result<Ident<'a>, AllocError>
+fn numbered_var<'a>(alloc: Global, prefix: &str, n: usize) -> Made<Ident<'a>>
     ensures { IfOk result (λ i. i ≡ spec.numbered_var prefix.now n) }
 {
     let name = numbered(alloc, prefix, n)?;

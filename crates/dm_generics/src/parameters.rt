@@ -10,8 +10,8 @@ ghost use Rattle.dm_generics.specs.Split.{impl_params as params_of_impl};
 
 use dm_ast::{ConstParam, GenericParam, Generics, LifetimeParam, TyParam};
 use dm_copy::{CloneIn, both};
-use dm_stream::Seq;
-use std::alloc::{AllocError, Global};
+use dm_stream::{Made, Seq};
+use std::alloc::Global;
 
 /// Which parameters are copied.
 #[derive(Clone, Copy)]
@@ -63,10 +63,7 @@ fn is_chosen(param: &GenericParam<'_>, chosen: Chosen) -> bool
     }
 }
 
-fn bare_lifetime<'a>(
-    param: &LifetimeParam<'a>,
-    alloc: Global,
-) -> Result<GenericParam<'a>, AllocError>
+fn bare_lifetime<'a>(param: &LifetimeParam<'a>, alloc: Global) -> Made<GenericParam<'a>>
     ensures { IfOk result (λ p. param_view p ≡ lifetime_param [] param.now.lifetime param.now.bounds) }
 {
     let lifetime = param.lifetime.clone_in(alloc);
@@ -78,7 +75,7 @@ fn bare_lifetime<'a>(
     }))
 }
 
-fn bare_type<'a>(param: &TyParam<'a>, alloc: Global) -> Result<GenericParam<'a>, AllocError>
+fn bare_type<'a>(param: &TyParam<'a>, alloc: Global) -> Made<GenericParam<'a>>
     ensures { IfOk result (λ p. param_view p ≡ type_param [] param.now.ident (option_map (listed bound_view) param.now.bounds) None) }
 {
     let ident = param.ident.clone_in(alloc);
@@ -91,7 +88,7 @@ fn bare_type<'a>(param: &TyParam<'a>, alloc: Global) -> Result<GenericParam<'a>,
     }))
 }
 
-fn bare_const<'a>(param: &ConstParam<'a>, alloc: Global) -> Result<GenericParam<'a>, AllocError>
+fn bare_const<'a>(param: &ConstParam<'a>, alloc: Global) -> Made<GenericParam<'a>>
     ensures { IfOk result (λ p. param_view p ≡ const_param [] param.now.ident (ty_view param.now.ty) None) }
 {
     let ident = param.ident.clone_in(alloc);
@@ -105,7 +102,7 @@ fn bare_const<'a>(param: &ConstParam<'a>, alloc: Global) -> Result<GenericParam<
 }
 
 /// A copy of the parameter without its attributes and its default.
-fn bare<'a>(param: &GenericParam<'a>, alloc: Global) -> Result<GenericParam<'a>, AllocError>
+fn bare<'a>(param: &GenericParam<'a>, alloc: Global) -> Made<GenericParam<'a>>
     ensures { IfOk result (λ p. param_view p ≡ implementors.bare (param_view param.now)) }
 {
     match param {
@@ -120,7 +117,7 @@ fn add_bare<'a>(
     wanted: bool,
     alloc: Global,
     out: &mut Seq<GenericParam<'a>>,
-) -> Result<(), AllocError>
+) -> Made<()>
     ensures { OnOk result (map param_view out.new ≡ map param_view out.old ++ cond wanted (implementors.bare (param_view param.now) ∷ []) []) }
 {
     if wanted {
@@ -136,7 +133,7 @@ fn add_bare_ones<'a>(
     chosen: Chosen,
     alloc: Global,
     out: &mut Seq<GenericParam<'a>>,
-) -> Result<(), AllocError>
+) -> Made<()>
     ensures { OnOk result (map param_view out.new ≡ map param_view out.old ++ map implementors.bare (filter (spec.chosen chosen) (map param_view all.now))) }
 {
     for param in all {
@@ -146,10 +143,7 @@ fn add_bare_ones<'a>(
 }
 
 /// Lifetimes first, then the others, without attributes and defaults.
-pub(crate) fn impl_params<'a>(
-    generics: &Generics<'a>,
-    alloc: Global,
-) -> Result<Seq<GenericParam<'a>>, AllocError>
+pub(crate) fn impl_params<'a>(generics: &Generics<'a>, alloc: Global) -> Made<Seq<GenericParam<'a>>>
     ensures { IfOk result (λ ps. map param_view ps ≡ params_of_impl (generics_view generics.now)) }
 {
     let all = generics.params.items.as_slice();
@@ -164,7 +158,7 @@ fn add_copy<'a>(
     wanted: bool,
     alloc: Global,
     out: &mut Seq<GenericParam<'a>>,
-) -> Result<(), AllocError>
+) -> Made<()>
     ensures { OnOk result (map param_view out.new ≡ map param_view out.old ++ cond wanted (param_view param.now ∷ []) []) }
 {
     if wanted {
@@ -179,7 +173,7 @@ pub(crate) fn copies<'a>(
     all: &[GenericParam<'a>],
     chosen: Chosen,
     alloc: Global,
-) -> Result<Seq<GenericParam<'a>>, AllocError>
+) -> Made<Seq<GenericParam<'a>>>
     ensures { IfOk result (λ ps. map param_view ps ≡ filter (spec.chosen chosen) (map param_view all.now)) }
 {
     let mut out = Seq::new(alloc);

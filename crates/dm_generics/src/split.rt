@@ -11,7 +11,7 @@ use crate::implementors::{argument_items, declared_predicates, implementor, para
 use crate::parameters::impl_params;
 use dm_ast::{DeriveInput, GenericArgument, GenericParam, Generics, Ty, WherePredicate};
 use dm_copy::both;
-use dm_stream::{Punctuated, Seq};
+use dm_stream::{Made, Punctuated, Seq};
 use std::alloc::{AllocError, Global};
 
 /// What stands in an implementation: between `<` and `>` behind `impl`, between those behind the type's name, and behind `where`.
@@ -26,7 +26,7 @@ pub struct Split<'a> {
 fn params_and_arguments<'a>(
     g: &Generics<'a>,
     alloc: Global,
-) -> Result<(Seq<GenericParam<'a>>, Seq<GenericArgument<'a>>), AllocError>
+) -> Made<(Seq<GenericParam<'a>>, Seq<GenericArgument<'a>>)>
     ensures params { IfOk result (λ r. map param_view r.0 ≡ spec.impl_params (generics_view g.now)) }
     ensures arguments { IfOk result (λ r. map argument_view r.1 ≡ map implementors.argument (spec.impl_params (generics_view g.now))) }
 {

@@ -19,7 +19,7 @@ use dm_read::group::{close, delim, open};
 use dm_read::macro_call::sees_macro;
 use dm_read::range::range_between;
 use dm_read::{token, words};
-use dm_stream::{Cursor, Delim, Error, Ident, Lifetime, Literal, Span};
+use dm_stream::{Cursor, Delim, Error, Ident, Lifetime, Literal, Read, Span};
 use std::alloc::Global;
 use std::marker::Model;
 
@@ -224,7 +224,7 @@ impl<'t, 'a> Input<'t, 'a> {
     }
 
     /// A punct of this character.
-    pub fn punct(&mut self, ch: char) -> Result<(), Error>
+    pub fn punct(&mut self, ch: char) -> Read<()>
         ensures reads { Reads (λ v. v) (spec.read_punct ch) self.old result self.new }
         ensures level { IfOk result (λ _. self.old.at.level ≤ deepest) }
     {
@@ -233,7 +233,7 @@ impl<'t, 'a> Input<'t, 'a> {
     }
 
     /// This keyword.
-    pub fn word(&mut self, word: &str) -> Result<(), Error>
+    pub fn word(&mut self, word: &str) -> Read<()>
         ensures reads { Reads (λ v. v) (spec.read_word word.now) self.old result self.new }
         ensures level { IfOk result (λ _. self.old.at.level ≤ deepest) }
     {
@@ -242,7 +242,7 @@ impl<'t, 'a> Input<'t, 'a> {
     }
 
     /// `::`.
-    pub fn colons(&mut self) -> Result<(), Error>
+    pub fn colons(&mut self) -> Read<()>
         ensures reads { Reads (λ v. v) spec.read_colons self.old result self.new }
         ensures level { IfOk result (λ _. self.old.at.level ≤ deepest) }
     {
@@ -251,7 +251,7 @@ impl<'t, 'a> Input<'t, 'a> {
     }
 
     /// `->`.
-    pub fn arrow(&mut self) -> Result<(), Error>
+    pub fn arrow(&mut self) -> Read<()>
         ensures reads { Reads (λ v. v) spec.read_arrow self.old result self.new }
         ensures level { IfOk result (λ _. self.old.at.level ≤ deepest) }
     {
@@ -260,7 +260,7 @@ impl<'t, 'a> Input<'t, 'a> {
     }
 
     /// A `:` that isn't the front of `::`.
-    pub fn colon(&mut self) -> Result<(), Error>
+    pub fn colon(&mut self) -> Read<()>
         ensures { Reads (λ v. v) spec.read_colon self.old result self.new }
     {
         self.at = token::colon(self.level, self.at)?;
@@ -268,7 +268,7 @@ impl<'t, 'a> Input<'t, 'a> {
     }
 
     /// A `=` that isn't the front of `==` or `=>`.
-    pub fn equals(&mut self) -> Result<(), Error>
+    pub fn equals(&mut self) -> Read<()>
         ensures { Reads (λ v. v) spec.read_equals self.old result self.new }
     {
         self.at = token::equals(self.level, self.at)?;
@@ -276,7 +276,7 @@ impl<'t, 'a> Input<'t, 'a> {
     }
 
     /// Any identifier.
-    pub fn ident(&mut self) -> Result<Ident<'a>, Error>
+    pub fn ident(&mut self) -> Read<Ident<'a>>
         ensures { Reads (λ i. i) spec.read_any self.old result self.new }
     {
         let (found, rest) = token::ident(self.level, self.at)?;
@@ -286,7 +286,7 @@ impl<'t, 'a> Input<'t, 'a> {
     }
 
     /// An identifier that may be declared.
-    pub fn name(&mut self) -> Result<Ident<'a>, Error>
+    pub fn name(&mut self) -> Read<Ident<'a>>
         ensures { Reads (λ i. i) (spec.read_ident spells.is_name) self.old result self.new }
     {
         let (found, rest) = words::name(self.level, self.at)?;
@@ -296,7 +296,7 @@ impl<'t, 'a> Input<'t, 'a> {
     }
 
     /// A name of a parameter.
-    pub fn input_name(&mut self) -> Result<Ident<'a>, Error>
+    pub fn input_name(&mut self) -> Read<Ident<'a>>
         ensures { Reads (λ i. i) (spec.read_ident grammar.is_input_name) self.old result self.new }
     {
         let (found, rest) = words::input_name(self.level, self.at)?;
@@ -306,7 +306,7 @@ impl<'t, 'a> Input<'t, 'a> {
     }
 
     /// An identifier of a path of a type.
-    pub fn path_word(&mut self) -> Result<Ident<'a>, Error>
+    pub fn path_word(&mut self) -> Read<Ident<'a>>
         ensures { Reads (λ i. i) (spec.read_ident grammar.is_path_word) self.old result self.new }
     {
         let (found, rest) = words::path_word(self.level, self.at)?;
@@ -316,7 +316,7 @@ impl<'t, 'a> Input<'t, 'a> {
     }
 
     /// A lifetime.
-    pub fn lifetime(&mut self) -> Result<Lifetime<'a>, Error>
+    pub fn lifetime(&mut self) -> Read<Lifetime<'a>>
         ensures { Reads (λ l. l) spec.read_lifetime self.old result self.new }
     {
         let (found, rest) = token::lifetime(self.level, self.at)?;
@@ -326,7 +326,7 @@ impl<'t, 'a> Input<'t, 'a> {
     }
 
     /// A literal.
-    pub fn literal(&mut self) -> Result<Literal<'a>, Error>
+    pub fn literal(&mut self) -> Read<Literal<'a>>
         ensures { Reads (λ l. l) spec.read_literal self.old result self.new }
     {
         let (found, rest) = token::literal(self.level, self.at)?;
@@ -352,7 +352,7 @@ impl<'t, 'a> Input<'t, 'a> {
     }
 
     /// The inside of a group with this delimiter. What follows the group is left here.
-    pub fn open(&mut self, delim: Delim) -> Result<Input<'t, 'a>, Error>
+    pub fn open(&mut self, delim: Delim) -> Read<Input<'t, 'a>>
         ensures { Opens (spec.open_group delim) self.old result self.new }
     {
         let (inside, rest) = open(delim, self.level, self.at)?;
@@ -365,7 +365,7 @@ impl<'t, 'a> Input<'t, 'a> {
     }
 
     /// Refuses what is left of the inside of a group.
-    pub fn close(&self) -> Result<(), Error>
+    pub fn close(&self) -> Read<()>
         ensures { MatchResult result (λ _. spelling.at_end self.now.trees ≡ true) (λ e. (spelling.at_end self.now.trees ≡ false) × (e ≡ Refused (record { kind = Syntax; span = front_span self.now.trees self.now.at.limit }))) }
     {
         close(self.at)

@@ -4,11 +4,11 @@
 
 ghost use Rattle.std.specs.Prelude.{◌≡◌, Ok, Err, IfOk, MatchResult};
 
-use dm_stream::Error;
+use dm_stream::{Error, Made, Read};
 use std::alloc::{AllocError, Global};
 
 /// A part, and the one that was read behind it.
-pub fn joined<T: Drop, U: Drop>(first: T, second: Result<U, Error>) -> Result<(T, U), Error>
+pub fn joined<T: Drop, U: Drop>(first: T, second: Result<U, Error>) -> Read<(T, U)>
     ensures { MatchResult result (λ r. (second ≡ Ok r.1) × (r.0 ≡ first)) (λ e. second ≡ Err e) }
 {
     match second {
@@ -18,7 +18,7 @@ pub fn joined<T: Drop, U: Drop>(first: T, second: Result<U, Error>) -> Result<(T
 }
 
 /// A part, and the end of what it was read from.
-pub fn ended<T: Drop>(first: T, end: Result<(), Error>) -> Result<T, Error>
+pub fn ended<T: Drop>(first: T, end: Result<(), Error>) -> Read<T>
     ensures { MatchResult result (λ r. (end ≡ Ok tt) × (r ≡ first)) (λ e. end ≡ Err e) }
 {
     match end {
@@ -28,14 +28,14 @@ pub fn ended<T: Drop>(first: T, end: Result<(), Error>) -> Result<T, Error>
 }
 
 /// A part in a box.
-pub fn boxed<T: Drop>(alloc: Global, part: T) -> Result<Box<T>, AllocError>
+pub fn boxed<T: Drop>(alloc: Global, part: T) -> Made<Box<T>>
     ensures { IfOk result (λ b. b.value ≡ part) }
 {
     Ok(Box::new(alloc, part)?)
 }
 
 /// A part that was made, and one that waited for it.
-pub fn beside<T: Drop, U: Drop>(made: Result<T, AllocError>, other: U) -> Result<(T, U), AllocError>
+pub fn beside<T: Drop, U: Drop>(made: Result<T, AllocError>, other: U) -> Made<(T, U)>
     ensures { MatchResult result (λ r. (made ≡ Ok r.0) × (r.1 ≡ other)) (λ e. made ≡ Err e) }
 {
     match made {

@@ -12,7 +12,7 @@ ghost use Rattle.dm_input.specs.Inputs.{Reads};
 
 use crate::input::Input;
 use dm_read::list::{Link, Stop};
-use dm_stream::{Delim, Error, Punctuated, Seq};
+use dm_stream::{Delim, Punctuated, Read, Seq};
 
 /// Reads one part.
 pub trait Rule<'a> {
@@ -29,7 +29,7 @@ pub trait Rule<'a> {
 
     ghost reader: { Self → Where → Trees → Result (Tree × Trees) Refusal };
 
-    fn read(&self, input: &mut Input<'_, 'a>) -> Result<Self::Part, Error>
+    fn read(&self, input: &mut Input<'_, 'a>) -> Read<Self::Part>
         requires { usable self.now }
         ensures { Reads view (reader self.now) input.old result input.new };
 }
@@ -56,7 +56,7 @@ impl<'t, 'a> Input<'t, 'a> {
         }
     }
 
-    fn link(&mut self, link: Link) -> Result<(), Error>
+    fn link(&mut self, link: Link) -> Read<()>
         ensures { Reads (λ v. v) (reads_link link) self.old result self.new }
     {
         match link {
@@ -72,7 +72,7 @@ pub fn listed<'a, R: Rule<'a>>(
     separator: char,
     stop: Stop,
     input: &mut Input<'_, 'a>,
-) -> Result<Punctuated<R::Part>, Error>
+) -> Read<Punctuated<R::Part>>
     requires { R.usable rule.now }
     ensures { Reads (list_view R.view) (λ w. spec.read_list w separator (stops stop) (R.reader rule.now w)) input.old result input.new }
 {
@@ -97,11 +97,7 @@ pub fn listed<'a, R: Rule<'a>>(
 }
 
 /// A link and the part behind it.
-fn linked<'a, R: Rule<'a>>(
-    rule: &R,
-    link: Link,
-    input: &mut Input<'_, 'a>,
-) -> Result<R::Part, Error>
+fn linked<'a, R: Rule<'a>>(rule: &R, link: Link, input: &mut Input<'_, 'a>) -> Read<R::Part>
     requires { R.usable rule.now }
     ensures { Reads R.view (λ w. reads_link link w next R.reader rule.now w) input.old result input.new }
 {
@@ -115,7 +111,7 @@ fn continued<'a, R: Rule<'a>>(
     link: Link,
     begun: Seq<R::Part>,
     input: &mut Input<'_, 'a>,
-) -> Result<Seq<R::Part>, Error>
+) -> Read<Seq<R::Part>>
     requires { R.usable rule.now }
     ensures { Reads (map R.view) (λ w. spec.read_repeated w (begins_link link) (reads_link link w next R.reader rule.now w) (map R.view begun)) input.old result input.new }
 {
@@ -135,7 +131,7 @@ pub fn chained<'a, R: Rule<'a>>(
     rule: &R,
     link: Link,
     input: &mut Input<'_, 'a>,
-) -> Result<Seq<R::Part>, Error>
+) -> Read<Seq<R::Part>>
     requires { R.usable rule.now }
     ensures { Reads (map R.view) (λ w. spec.read_chain w (reads_link link w) (begins_link link) (R.reader rule.now w)) input.old result input.new }
 {

@@ -9,11 +9,11 @@ ghost use Rattle.dm_input.specs.Inputs.{Reads};
 use crate::input::Input;
 use dm_ast::{Attribute, ConstArg, Opaque, PlainPath, Vis};
 use dm_read::{constants, lifetimes, parts, run, visibility};
-use dm_stream::{Delim, Error, Lifetime, Punctuated, Seq, TokenStream};
+use dm_stream::{Delim, Lifetime, Punctuated, Read, Seq, TokenStream};
 
 impl<'t, 'a> Input<'t, 'a> {
     /// `::` where it comes next.
-    pub fn leading(&mut self) -> Result<bool, Error>
+    pub fn leading(&mut self) -> Read<bool>
         ensures { Reads (λ b. b) plain.read_leading self.old result self.new }
     {
         if !self.sees_colons() {
@@ -24,7 +24,7 @@ impl<'t, 'a> Input<'t, 'a> {
     }
 
     /// A path of identifiers.
-    pub fn plain_path(&mut self) -> Result<PlainPath<'a>, Error>
+    pub fn plain_path(&mut self) -> Read<PlainPath<'a>>
         ensures { Reads (λ p. p) plain.read_plain self.old result self.new }
     {
         let (found, rest) = parts::plain_path(self.alloc, self.level, self.at)?;
@@ -33,7 +33,7 @@ impl<'t, 'a> Input<'t, 'a> {
     }
 
     /// A group with any delimiter, and its inside as it is.
-    pub fn kept(&mut self) -> Result<(Delim, TokenStream<'a>), Error>
+    pub fn kept(&mut self) -> Read<(Delim, TokenStream<'a>)>
         ensures { Reads (λ v. v) plain.read_kept self.old result self.new }
     {
         let (found, rest) = parts::kept(self.alloc, self.level, self.at)?;
@@ -42,7 +42,7 @@ impl<'t, 'a> Input<'t, 'a> {
     }
 
     /// All that is left, one tree at least.
-    pub fn opaque(&mut self) -> Result<Opaque<'a>, Error>
+    pub fn opaque(&mut self) -> Read<Opaque<'a>>
         ensures { Reads (λ o. o) plain.read_opaque self.old result self.new }
     {
         let (found, rest) = parts::opaque(self.alloc, self.level, self.at)?;
@@ -51,7 +51,7 @@ impl<'t, 'a> Input<'t, 'a> {
     }
 
     /// The tokens of a discriminant, up to a comma or the end.
-    pub fn run(&mut self) -> Result<Opaque<'a>, Error>
+    pub fn run(&mut self) -> Read<Opaque<'a>>
         ensures { Reads (λ o. o) runs.read_run self.old result self.new }
     {
         let (found, rest) = run::run(self.alloc, self.level, self.at)?;
@@ -60,7 +60,7 @@ impl<'t, 'a> Input<'t, 'a> {
     }
 
     /// Attributes.
-    pub fn attributes(&mut self) -> Result<Seq<Attribute<'a>>, Error>
+    pub fn attributes(&mut self) -> Read<Seq<Attribute<'a>>>
         ensures { Reads (λ l. l) plain.read_attributes self.old result self.new }
     {
         let (found, rest) = parts::attributes(self.alloc, self.level, self.at)?;
@@ -69,7 +69,7 @@ impl<'t, 'a> Input<'t, 'a> {
     }
 
     /// A constant: a literal, `true` or `false`, a block or a name.
-    pub fn constant(&mut self) -> Result<ConstArg<'a>, Error>
+    pub fn constant(&mut self) -> Read<ConstArg<'a>>
         ensures { Reads (λ c. c) plain.read_constant self.old result self.new }
     {
         let (found, rest) = constants::constant(self.alloc, self.level, self.at)?;
@@ -78,7 +78,7 @@ impl<'t, 'a> Input<'t, 'a> {
     }
 
     /// `for<..>` where it comes next.
-    pub fn for_lifetimes(&mut self) -> Result<Option<Punctuated<Lifetime<'a>>>, Error>
+    pub fn for_lifetimes(&mut self) -> Read<Option<Punctuated<Lifetime<'a>>>>
         ensures { Reads (λ l. l) plain.read_for self.old result self.new }
     {
         let (found, rest) = lifetimes::for_lifetimes(self.alloc, self.level, self.at)?;
@@ -87,7 +87,7 @@ impl<'t, 'a> Input<'t, 'a> {
     }
 
     /// Lifetimes with `+` between.
-    pub fn lifetime_bounds(&mut self) -> Result<Punctuated<Lifetime<'a>>, Error>
+    pub fn lifetime_bounds(&mut self) -> Read<Punctuated<Lifetime<'a>>>
         ensures { Reads (λ l. l) read_lifetime_bounds self.old result self.new }
     {
         let (found, rest) = lifetimes::lifetime_bounds(self.alloc, self.level, self.at)?;
@@ -96,7 +96,7 @@ impl<'t, 'a> Input<'t, 'a> {
     }
 
     /// A visibility where one comes next.
-    pub fn visibility(&mut self) -> Result<Option<Vis<'a>>, Error>
+    pub fn visibility(&mut self) -> Read<Option<Vis<'a>>>
         ensures { Reads (λ v. v) plain.read_visibility self.old result self.new }
     {
         let (found, rest) = visibility::visibility(self.alloc, self.level, self.at)?;

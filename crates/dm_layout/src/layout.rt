@@ -10,7 +10,7 @@ ghost use Rattle.dm_stream.specs.Trees.{flatten};
 ghost use Rattle.dm_stream.specs.Cursors.{trees_in, sound_piece};
 ghost use Rattle.dm_stream.specs.Layout.{laid, laid_one, laid_start, layout, line_ended, nowhere, punct_token, spaced, word_token};
 
-use dm_stream::{Delim, Entry, Ident, Lifetime, Literal, Piece, Spacing, Token, TokenStream};
+use dm_stream::{Delim, Entry, Ident, Lifetime, Literal, Made, Piece, Spacing, Token, TokenStream};
 use std::alloc::{AllocError, Global};
 use std::marker::Model;
 
@@ -169,7 +169,7 @@ impl Layout {
         text
     }
 
-    fn entries(&mut self, all: &[Entry<'_>]) -> Result<(), AllocError>
+    fn entries(&mut self, all: &[Entry<'_>]) -> Made<()>
         ensures { OnOk result (self.new ≡ laid self.old all.now) }
     {
         for entry in all {
@@ -178,7 +178,7 @@ impl Layout {
         Ok(())
     }
 
-    fn entry(&mut self, entry: &Entry<'_>) -> Result<(), AllocError>
+    fn entry(&mut self, entry: &Entry<'_>) -> Made<()>
         ensures { OnOk result (self.new ≡ laid_one self.old entry.now) }
     {
         match entry {
@@ -189,7 +189,7 @@ impl Layout {
     }
 
     /// Adds a space where the next token follows with one.
-    fn space(&mut self) -> Result<(), AllocError>
+    fn space(&mut self) -> Made<()>
         ensures { OnOk result (self.new ≡ record self.old { text = spaced self.old }) }
     {
         if self.glued {
@@ -209,7 +209,7 @@ impl Layout {
     }
 
     /// Adds a text, with a space in front where it isn't tight.
-    fn verbatim(&mut self, text: &str, tight: bool, glued: bool) -> Result<(), AllocError>
+    fn verbatim(&mut self, text: &str, tight: bool, glued: bool) -> Made<()>
         ensures { OnOk result (self.new ≡ record { text = cond tight self.old.text (spaced self.old) ++ text.now; glued = glued }) }
     {
         if !tight {
@@ -221,7 +221,7 @@ impl Layout {
     }
 
     /// Adds the end of a group.
-    fn end(&mut self, text: &str) -> Result<(), AllocError>
+    fn end(&mut self, text: &str) -> Made<()>
         ensures { OnOk result (self.new ≡ record { text = self.old.text ++ text.now; glued = false }) }
     {
         self.text.push_str(text)?;

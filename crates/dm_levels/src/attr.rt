@@ -6,10 +6,10 @@ ghost use Rattle.dm_levels.specs.Behind.{seen};
 ghost use Rattle.dm_levels.specs.Levels as spec;
 ghost use Rattle.dm_type_levels.specs.Passing.{Passes, pass_then};
 
-use crate::parts::{Behind, three};
+use crate::parts::three;
 use dm_output::ItemAttr;
 use dm_stream::Entry;
-use dm_type_levels::pass::{pair, token};
+use dm_type_levels::pass::{Behind, pair, token};
 
 /// `allow` or `doc`, and a word in parentheses.
 fn one_lint<'t, 'a>(level: usize, rest: &'t [Entry<'a>]) -> Behind<'t, 'a>

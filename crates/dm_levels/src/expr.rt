@@ -10,14 +10,14 @@ ghost use Rattle.dm_type_levels.specs.Passing.{Passes, pass_then};
 ghost use Rattle.dm_type_levels.specs.TypeLevels.{grouped_levels, spaced_levels};
 
 use crate::format::{format_call, write_call};
-use crate::parts::{Behind, opaque, path_expr, three};
+use crate::parts::{opaque, path_expr, three};
 use crate::pattern::patterns;
 use crate::stmt::{check, constant, import};
 use dm_ast::Opaque;
 use dm_output::{Arm, ArmBody, Block, Expr, NamedExpr, Stmt};
 use dm_stream::{Entry, Seq};
 use dm_type_levels::parts::{joiner, separator};
-use dm_type_levels::pass::{pair, token, token_if};
+use dm_type_levels::pass::{Behind, pair, token, token_if};
 
 #[cycle(expr)]
 fn expr<'t, 'a>(tree: &Expr<'_>, level: usize, rest: &'t [Entry<'a>]) -> Behind<'t, 'a>

@@ -10,11 +10,11 @@ ghost use Rattle.dm_levels.specs.Levels as spec;
 ghost use Rattle.dm_type_levels.specs.Passing.{Passes, pass_then};
 ghost use Rattle.dm_type_levels.specs.TypeLevels.{grouped_levels, spaced_levels};
 
-use crate::parts::{Behind, three};
+use crate::parts::three;
 use dm_output::{FmtArg, FmtArgs};
 use dm_stream::{Entry, Ident};
 use dm_type_levels::parts::stream;
-use dm_type_levels::pass::{pair, token};
+use dm_type_levels::pass::{Behind, pair, token};
 
 /// The path of a macro of `derive_more::core`, and `!`.
 fn called<'t, 'a>(level: usize, rest: &'t [Entry<'a>]) -> Behind<'t, 'a>

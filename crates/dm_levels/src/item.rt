@@ -13,13 +13,13 @@ ghost use Rattle.dm_type_levels.specs.TypeLevels.{grouped_levels, spaced_levels,
 
 use crate::attr::attrs;
 use crate::expr::block;
-use crate::parts::{Behind, three};
+use crate::parts::three;
 use dm_ast::{GenericParam, Path, Ty, WherePredicate};
 use dm_output::{Assoc, Item, Method, MethodParam, Receiver};
 use dm_stream::{Entry, Span};
 use dm_type_levels::param::{param, predicate};
 use dm_type_levels::parts::separator;
-use dm_type_levels::pass::{pair, token, token_if};
+use dm_type_levels::pass::{Behind, pair, token, token_if};
 use dm_type_levels::ty::{path, ty};
 
 /// Parameters with commas between them.

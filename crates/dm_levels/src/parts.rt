@@ -11,13 +11,10 @@ ghost use Rattle.dm_type_levels.specs.TypeLevels.{path_expr_levels};
 
 use dm_ast::Opaque;
 use dm_output::PathExpr;
-use dm_stream::{Entry, Span};
+use dm_stream::Entry;
 use dm_type_levels::parts::group;
-use dm_type_levels::pass::{pair, token};
+use dm_type_levels::pass::{Behind, pair, token};
 use dm_type_levels::ty;
-
-/// The entries behind some tokens, or the range of the first of these tokens that stands too deep.
-pub(crate) type Behind<'t, 'a> = Result<&'t [Entry<'a>], Span>;
 
 /// Three tokens of this level.
 pub(crate) fn three<'t, 'a>(level: usize, rest: &'t [Entry<'a>]) -> Behind<'t, 'a>

@@ -9,11 +9,10 @@ ghost use Rattle.dm_levels.specs.Levels as spec;
 ghost use Rattle.dm_type_levels.specs.Passing.{Passes, given, pass_then};
 ghost use Rattle.dm_type_levels.specs.TypeLevels.{grouped_levels, spaced_levels};
 
-use crate::parts::Behind;
 use dm_output::{Binding, NamedPattern, Pattern};
 use dm_stream::{Entry, Seq};
 use dm_type_levels::parts::{pair_if, separator};
-use dm_type_levels::pass::{pair, token};
+use dm_type_levels::pass::{Behind, pair, token};
 use dm_type_levels::ty::path;
 
 fn binding<'t, 'a>(how: Binding, level: usize, rest: &'t [Entry<'a>]) -> Behind<'t, 'a>

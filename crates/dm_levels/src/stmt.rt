@@ -8,10 +8,10 @@ ghost use Rattle.dm_output.specs.Views.{opaque_view};
 ghost use Rattle.dm_levels.specs.Levels as spec;
 ghost use Rattle.dm_type_levels.specs.Passing.{Passes};
 
-use crate::parts::{Behind, opaque, three};
+use crate::parts::{opaque, three};
 use dm_ast::{Opaque, Path, Ty};
 use dm_stream::{Entry, Ident, Literal};
-use dm_type_levels::pass::token;
+use dm_type_levels::pass::{Behind, token};
 use dm_type_levels::ty::{path, ty};
 
 /// `let _: T;`

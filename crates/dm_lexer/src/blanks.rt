@@ -6,7 +6,7 @@ ghost use Rattle.std.specs.Str.{chars};
 ghost use Rattle.dm_lexer.specs.TextFronts.{IsSized};
 ghost use Rattle.dm_lexer.specs.Blanks as spec;
 
-use crate::lexing::first_char;
+use crate::front::first_char;
 use crate::words::{Class, behind_pair, run_size};
 
 const NEXT_LINE: char = '\u{85}';

@@ -1,7 +1,7 @@
 //! From a text to token trees, by "Tokens" of docs/FORMATS.md (Rust Reference, "Lexical structure").
 
-ghost use Rattle.std.specs.Prelude.{◌≡◌, ◌++◌, ◌∷◌, [], ◌<◌, ◌≤◌, ◌+◌, ◌^◌, ℕ, List, None, true, false, length, take, drop, MatchOption, IfSome, IfOk, IfErr, encode_utf8};
-ghost use Rattle.std.specs.Str.{chars, IsCharBoundary};
+ghost use Rattle.std.specs.Prelude.{◌≡◌, [], ◌<◌, ◌+◌, ◌^◌, None, length, take, IfOk, IfErr};
+ghost use Rattle.std.specs.Str.{chars};
 ghost use Rattle.dm_lexer.specs.Blanks.{blank_length};
 ghost use Rattle.dm_lexer.specs.declared.blanks.Blank.TheVariants.{Absent};
 ghost use Rattle.dm_lexer.specs.Nesting.{AreTheOnly, IsTreesOf, IsWhole, IsWholeWithin, IsRefusalOf, IsRefusalWithin, IsNested, IsStep};
@@ -11,10 +11,11 @@ ghost use Rattle.dm_stream.specs.declared.error.Error.TheVariants as error;
 ghost use Rattle.dm_stream.specs.declared.error.Kind.TheVariants as kind;
 
 use crate::blanks::{Blank, blank_size};
+use crate::front::text_from;
 use crate::nesting::Nesting;
 use crate::rows::{Found, row, span_at};
-use dm_stream::{DEEPEST, Delim, Error, Kind, Refusal, Span, Token, TokenStream};
-use std::alloc::{AllocError, Global};
+use dm_stream::{DEEPEST, Delim, Error, Kind, Made, Refusal, Span, Token, TokenStream};
+use std::alloc::Global;
 
 /// A token, or a delimiter and its range.
 #[derive(Drop)]
@@ -85,7 +86,7 @@ pub fn lex_within<'a>(
 }
 
 /// Reads the blank or the lexeme that begins a text, which starts at `at`.
-fn step<'a>(nesting: &mut Nesting<'a>, text: &'a str, at: usize) -> Result<Progress, AllocError>
+fn step<'a>(nesting: &mut Nesting<'a>, text: &'a str, at: usize) -> Made<Progress>
     requires nested { IsNested nesting.old }
     requires some { 0 < length text.now }
     requires fits { at + length text.now < 2 ^ 64 }
@@ -99,7 +100,7 @@ fn step<'a>(nesting: &mut Nesting<'a>, text: &'a str, at: usize) -> Result<Progr
 }
 
 /// Reads the lexeme that begins a text, which starts at `at`.
-fn step_row<'a>(nesting: &mut Nesting<'a>, text: &'a str, at: usize) -> Result<Progress, AllocError>
+fn step_row<'a>(nesting: &mut Nesting<'a>, text: &'a str, at: usize) -> Made<Progress>
     requires nested { IsNested nesting.old }
     requires some { 0 < length text.now }
     requires fits { at + length text.now < 2 ^ 64 }
@@ -120,33 +121,4 @@ fn refused(kind: Kind, span: Span) -> Error
     ensures { result ≡ error.Refused record { kind = kind; span = span } }
 {
     Error::Refused(Refusal { kind, span })
-}
-
-/// The first character of a text, and the rest.
-pub fn first_char<'a>(text: &'a str) -> Option<(char, &'a str)>
-    ensures chars { MatchOption result (chars text.now ≡ []) (λ r. chars text.now ≡ r.0 ∷ chars r.1.now) }
-    ensures bytes { MatchOption result (text.now ≡ []) (λ r. text.now ≡ encode_utf8 r.0 ++ r.1.now) }
-    ensures shorter { IfSome result (λ r. length r.1.now < length text.now) }
-{
-    let mut chars = text.chars();
-    match chars.next() {
-        Some(c) => Some((c, chars.as_str())),
-        None => None,
-    }
-}
-
-/// The text from a place on.
-pub fn text_from<'a>(text: &'a str, at: usize) -> &'a str
-    requires { IsCharBoundary text.now at }
-    ensures { result.now ≡ drop at text.now }
-{
-    &text[at..]
-}
-
-/// The text up to a place.
-pub fn text_to<'a>(text: &'a str, at: usize) -> &'a str
-    requires { IsCharBoundary text.now at }
-    ensures { result.now ≡ take at text.now }
-{
-    &text[..at]
 }

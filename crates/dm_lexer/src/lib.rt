@@ -3,6 +3,7 @@
 #![tactic(auto)]
 
 mod blanks;
+pub mod front;
 mod laws;
 mod lexing;
 mod nesting;

@@ -7,7 +7,7 @@ ghost use Rattle.dm_stream.specs.Trees.{no_trees};
 ghost use Rattle.dm_lexer.specs.declared.lexing.Lexeme.TheVariants as lexeme;
 
 use crate::lexing::Lexeme;
-use dm_stream::{Delim, Entry, Span, Token, span_of};
+use dm_stream::{Delim, Entry, Made, Span, Token, span_of};
 use std::alloc::{AllocError, Global};
 
 /// A group that is not closed yet, and the place of its first entry.
@@ -76,7 +76,7 @@ impl<'a> Nesting<'a> {
         }
     }
 
-    fn add(&mut self, item: Token<'a>) -> Result<(), AllocError>
+    fn add(&mut self, item: Token<'a>) -> Made<()>
         ensures { IfOk result (λ _. Takes None self.old self.new (lexeme.Token item.entry)) }
     {
         self.deep = deeper_of(self.deep, self.opened.len(), span_of(&item));
@@ -84,7 +84,7 @@ impl<'a> Nesting<'a> {
         Ok(())
     }
 
-    fn open(&mut self, delim: Delim, from: Span) -> Result<(), AllocError>
+    fn open(&mut self, delim: Delim, from: Span) -> Made<()>
         ensures { IfOk result (λ _. Takes None self.old self.new (lexeme.Open delim from)) }
     {
         self.deep = deeper_of(self.deep, self.opened.len(), from);
@@ -94,7 +94,7 @@ impl<'a> Nesting<'a> {
         Ok(())
     }
 
-    fn close(&mut self, delim: Delim, upto: Span) -> Result<Option<Span>, AllocError>
+    fn close(&mut self, delim: Delim, upto: Span) -> Made<Option<Span>>
         requires { IsNested self.old }
         ensures { IfOk result (λ s. Takes s self.old self.new (lexeme.Close delim upto)) }
     {

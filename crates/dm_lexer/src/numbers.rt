@@ -9,7 +9,7 @@ ghost use Rattle.dm_lexer.specs.TextFronts.{IsFront, IsSized};
 ghost use Rattle.dm_lexer.specs.Numbers as spec;
 ghost use Rattle.dm_lexer.specs.Words as word;
 
-use crate::lexing::{first_char, text_from, text_to};
+use crate::front::{first_char, text_from, text_to};
 use crate::words::{Class, begins_word, behind_pair, run_size};
 use dm_stream::{LitKind, Literal};
 

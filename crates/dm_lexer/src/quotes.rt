@@ -11,7 +11,7 @@ ghost use Rattle.dm_lexer.specs.Words.{goes_on};
 ghost use Rattle.dm_lexer.specs.Quotes.{begins, begins_raw, begins_hex, inside_of, is_code, code_digits, short_meaning, short_segment, hex_segment, unicode_segment, escape, line_end, is_gap, quoted_escape, is_plain, segment, string_closing, is_hash, begins_hashes, closes_raw, raw_closing, keeps_line, whole_lines, opens_raw, is_lone, lone_segment, lone_closing, raw_opening, second_raw, byte_opening, c_opening, opening, body, quoted_length, char_length, lifetime_length, with_code, IsCode, IsSegment, IsLoneSegment, IsSized};
 ghost use Rattle.dm_lexer.specs.declared.quotes.Inside.TheVariants as inside_kind;
 
-use crate::lexing::{first_char, text_from, text_to};
+use crate::front::{first_char, text_from, text_to};
 use crate::words::{Class, begins_word, behind_pair, run_size};
 use dm_stream::LitKind;
 

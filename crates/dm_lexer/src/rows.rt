@@ -10,7 +10,8 @@ ghost use Rattle.dm_lexer.specs.Quotes.{begins, char_length, opening};
 ghost use Rattle.dm_lexer.specs.Lexemes.{is_punct, opened_by, closed_by};
 ghost use Rattle.dm_lexer.specs.Rows as spec;
 
-use crate::lexing::{Lexeme, first_char, text_to};
+use crate::front::{first_char, text_to};
+use crate::lexing::Lexeme;
 use crate::numbers::{begins_digit, number_size};
 use crate::quotes::{Opening, begins_with, char_size, lifetime_size, opening_of, quoted_size};
 use crate::words::{Class, begins_word, behind_pair, raw_word_size, run_size, word_size};

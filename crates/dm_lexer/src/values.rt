@@ -6,11 +6,11 @@ ghost use Rattle.std.specs.String.{string_bytes};
 ghost use Rattle.dm_lexer.specs.Quotes.{meaning};
 ghost use Rattle.dm_lexer.specs.Values as spec;
 
-use crate::lexing::{first_char, text_from, text_to};
+use crate::front::{first_char, text_from, text_to};
 use crate::quotes::{
     Inside, Opening, begins_with, is_raw_end, opening_of, quoted_size, segment_of,
 };
-use dm_stream::{LitKind, Literal};
+use dm_stream::{LitKind, Literal, Made};
 use std::alloc::{AllocError, Global};
 
 /// The value of a string or a raw string, by the rules on escapes of docs/FORMATS.md, "Tokens" (Rust Reference, "Tokens", string and raw
@@ -40,12 +40,7 @@ fn whole_opening(text: &str) -> Option<Opening>
 }
 
 /// What a literal means, by its opening and the text behind that.
-fn meant_behind(
-    alloc: Global,
-    kind: LitKind,
-    by: Opening,
-    inside: &str,
-) -> Result<Option<String>, AllocError>
+fn meant_behind(alloc: Global, kind: LitKind, by: Opening, inside: &str) -> Made<Option<String>>
     ensures { IfOk result (λ v. option_map string_bytes v ≡ option_map encode_utf8_all (spec.meant_behind kind by.kind by.hashes (chars inside.now))) }
 {
     match (kind, by.kind) {
@@ -59,7 +54,7 @@ fn meant_behind(
 }
 
 /// What a string means, of which `text` is behind the opening quote.
-fn meaning_of(alloc: Global, text: &str) -> Result<String, AllocError>
+fn meaning_of(alloc: Global, text: &str) -> Made<String>
     ensures { IfOk result (λ s. string_bytes s ≡ encode_utf8_all (meaning 0 (chars text.now))) }
 {
     let mut out = String::new(alloc);
@@ -79,7 +74,7 @@ fn meaning_of(alloc: Global, text: &str) -> Result<String, AllocError>
 }
 
 /// Adds the character that a segment of a string means, if any.
-fn push_meant(out: &mut String, means: Option<char>) -> Result<(), AllocError>
+fn push_meant(out: &mut String, means: Option<char>) -> Made<()>
     ensures { OnOk result (string_bytes out.new ≡ string_bytes out.old ++ spec.meant_bytes means) }
 {
     if let Some(c) = means {

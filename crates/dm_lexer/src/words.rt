@@ -8,7 +8,7 @@ ghost use Rattle.dm_lexer.specs.Characters.{ascii_bound};
 ghost use Rattle.dm_lexer.specs.TextFronts.{IsFront, run, IsSized, IsBehind};
 ghost use Rattle.dm_lexer.specs.Words as spec;
 
-use crate::lexing::{first_char, text_from, text_to};
+use crate::front::{first_char, text_from, text_to};
 use crate::numbers::Base;
 
 /// The characters whose runs are read: those that go on with an identifier (Unicode's XID_Continue), those of a line, and the

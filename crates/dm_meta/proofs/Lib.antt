@@ -1,6 +1,5 @@
 pub mod BarePaths
 pub mod FrontParts
 pub mod LicensedFronts
-pub mod Lone
 pub mod MetaFronts
 pub mod MetaRules

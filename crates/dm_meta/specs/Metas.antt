@@ -1,5 +1,5 @@
 -- Metas: a path or a keyword, perhaps with trees in parentheses behind it; or a literal. As plain data, with what spells them and their tokens.
-use Rattle.std.specs.Prelude.{◌≡◌, ◌<◌, ℕ, Bool, true, false, ◌||◌, Option, Some, None}
+use Rattle.std.specs.Prelude.{◌≡◌, ◌<◌, ℕ, Bool, false, ◌||◌, Option, Some, None}
 use Rattle.std.specs.Str.{bytes_eq}
 use Rattle.std.specs.Prelude.{List}
 use Rattle.dm_stream.specs.declared.tokens.Span.{Span}
@@ -20,7 +20,8 @@ use Rattle.dm_meta.specs.declared.meta.Meta.{Meta}
 use Rattle.dm_meta.specs.declared.meta.Meta.TheVariants as metas
 use Rattle.dm_meta.specs.declared.meta.NestedMeta.{NestedMeta}
 use Rattle.dm_meta.specs.declared.meta.NestedMeta.TheVariants as nests
-use Rattle.dm_ast.specs.Tree.{PathTree, path_tree, SegmentTree, segment, SegmentTrees, no_segments, segment_then, ArgumentsTree, absent, angle, parens, path_view}
+use Rattle.dm_ast.specs.Idents.{path_ident}
+use Rattle.dm_ast.specs.Tree.{PathTree, path_tree, segment, no_segments, segment_then, absent, path_view}
 use Rattle.dm_ast.specs.Spelling.{Where, Marks, Spelling, deepest, first_too_deep, ◌then◌, Facing, Before, sees, sees_colons, sees_group, ident, literal, GroupAt}
 use Rattle.dm_ast.specs.TypeGrammar.{kept}
 use Rattle.dm_ast.specs.TypeTokens.{name, path_trees, grouped, literal as literal_trees}
@@ -141,23 +142,6 @@ nested_meta_trees (nested m) = meta_trees m
 nested_meta_trees (lit l) = literal_trees l
 
 -- ---- one identifier alone
-
-abbrev pub alone : Ident → ArgumentsTree → Option Ident
-alone i absent = Some i
-alone i (angle double gs trailing) = None
-alone i (parens ts trailing output) = None
-
-abbrev pub segment_ident : SegmentTree → Option Ident
-segment_ident (segment i as') = alone i as'
-
-abbrev pub segments_ident : SegmentTrees → Option Ident
-segments_ident no_segments = None
-segments_ident (segment_then s no_segments) = segment_ident s
-segments_ident (segment_then s (segment_then t ss)) = None
-
-abbrev pub path_ident : PathTree → Option Ident
-path_ident (path_tree true ss) = None
-path_ident (path_tree false ss) = segments_ident ss
 
 -- the keyword, or the only segment of a path without `::` in front and without arguments
 abbrev pub ident_of : PathOrKeywordTree → Option Ident

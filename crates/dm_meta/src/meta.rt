@@ -17,7 +17,7 @@ use dm_quote::ToTokens;
 use dm_quote::emit_parts::group;
 use dm_read::parts::kept_in;
 use dm_read::token::{literal, sees_group, sees_literal};
-use dm_stream::{Cursor, Delim, Error, Literal, TokenStream};
+use dm_stream::{Cursor, Delim, Error, Literal, Made, Read, TokenStream};
 use std::alloc::{AllocError, Global};
 
 /// A path or a keyword, and the tokens in parentheses behind it.
@@ -60,7 +60,7 @@ fn enclosed<'t, 'a>(
     alloc: Global,
     level: usize,
     c: Cursor<'t, 'a>,
-) -> Result<(TokenStream<'a>, Cursor<'t, 'a>), Error>
+) -> Read<(TokenStream<'a>, Cursor<'t, 'a>)>
     requires here { sound c }
     requires fits { level < 130 }
     ensures reads { Reads (λ s. s) (spec.read_enclosed (place level c.entry) (left c.entry)) result }
@@ -74,7 +74,7 @@ fn meta_list<'t, 'a>(
     alloc: Global,
     level: usize,
     c: Cursor<'t, 'a>,
-) -> Result<(MetaList<'a>, Cursor<'t, 'a>), Error>
+) -> Read<(MetaList<'a>, Cursor<'t, 'a>)>
     requires here { sound c }
     requires fits { level < 130 }
     ensures reads { Reads metas.meta_list_view (spec.read_meta_list (place level c.entry) (left c.entry)) result }
@@ -91,7 +91,7 @@ fn behind_path<'t, 'a>(
     path: PathOrKeyword<'a>,
     level: usize,
     c: Cursor<'t, 'a>,
-) -> Result<(Meta<'a>, Cursor<'t, 'a>), Error>
+) -> Read<(Meta<'a>, Cursor<'t, 'a>)>
     requires here { sound c }
     requires fits { level < 130 }
     ensures reads { Reads metas.meta_view (spec.behind_path (place level c.entry) (metas.path_or_keyword_view path.entry) (left c.entry)) result }
@@ -109,7 +109,7 @@ fn one_meta<'t, 'a>(
     alloc: Global,
     level: usize,
     c: Cursor<'t, 'a>,
-) -> Result<(Meta<'a>, Cursor<'t, 'a>), Error>
+) -> Read<(Meta<'a>, Cursor<'t, 'a>)>
     requires here { sound c }
     requires fits { level < 130 }
     ensures reads { Reads metas.meta_view (spec.read_meta (place level c.entry) (left c.entry)) result }
@@ -124,7 +124,7 @@ fn nested_literal<'t, 'a>(
     alloc: Global,
     level: usize,
     c: Cursor<'t, 'a>,
-) -> Result<(NestedMeta<'a>, Cursor<'t, 'a>), Error>
+) -> Read<(NestedMeta<'a>, Cursor<'t, 'a>)>
     requires { sound c }
     ensures reads { Reads metas.nested_meta_view (spec.read_lit (place level c.entry) (left c.entry)) result }
     ensures place { IfOk result (λ r. SharesEnd c.entry r.1) }
@@ -139,7 +139,7 @@ fn nested_meta<'t, 'a>(
     alloc: Global,
     level: usize,
     c: Cursor<'t, 'a>,
-) -> Result<(NestedMeta<'a>, Cursor<'t, 'a>), Error>
+) -> Read<(NestedMeta<'a>, Cursor<'t, 'a>)>
     requires here { sound c }
     requires fits { level < 130 }
     ensures reads { Reads metas.nested_meta_view (spec.read_nested_meta (place level c.entry) (left c.entry)) result }
@@ -154,11 +154,7 @@ fn nested_meta<'t, 'a>(
 
 /// Adds the tokens of a list.
 #[tactic(auto, using(dm_quote::proofs::Adding::adding_steps))]
-fn write_list<'a>(
-    alloc: Global,
-    out: &mut TokenStream<'a>,
-    list: &MetaList<'a>,
-) -> Result<(), AllocError>
+fn write_list<'a>(alloc: Global, out: &mut TokenStream<'a>, list: &MetaList<'a>) -> Made<()>
     ensures { OnOk result (out.new.trees ≡ join out.old.trees (metas.meta_list_trees (metas.meta_list_view list.now))) }
 {
     list.path.to_tokens(out)?;

@@ -23,11 +23,11 @@ use dm_read_decl::forms::commas;
 use dm_read_decl::generics::PredicateRule;
 use dm_read_types::bare::bare_path;
 use dm_read_types::entry::ty;
-use dm_stream::{Cursor, Error, Punctuated};
+use dm_stream::{Cursor, Error, Punctuated, Read};
 use std::alloc::Global;
 
 /// A type, and the place behind it.
-fn one_type<'t, 'a>(alloc: Global, c: Cursor<'t, 'a>) -> Result<(Ty<'a>, Cursor<'t, 'a>), Error>
+fn one_type<'t, 'a>(alloc: Global, c: Cursor<'t, 'a>) -> Read<(Ty<'a>, Cursor<'t, 'a>)>
     requires { sound c }
     ensures reads { Reads ty_view (whole_type (place 0 c.entry) (left c.entry)) result }
     ensures place { IfOk result (λ r. SharesEnd c.entry r.1) }
@@ -74,7 +74,7 @@ pub fn parse_path<'t, 'a>(
 fn predicates<'t, 'a>(
     alloc: Global,
     c: Cursor<'t, 'a>,
-) -> Result<(Punctuated<WherePredicate<'a>>, Cursor<'t, 'a>), Error>
+) -> Read<(Punctuated<WherePredicate<'a>>, Cursor<'t, 'a>)>
     requires { sound c }
     ensures reads { Reads (tree.listed tree.predicate_view) (spec.read_listed ends (spec.read_predicate parts) (place 0 c.entry) (left c.entry)) result }
     ensures place { IfOk result (λ r. SharesEnd c.entry r.1) }

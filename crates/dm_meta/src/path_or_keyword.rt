@@ -1,10 +1,10 @@
 //! Paths and keywords.
 #![tactic(auto)]
 
-ghost use Rattle.std.specs.Prelude.{◌≡◌, ◌<◌, IfOk, IfErr, map};
+ghost use Rattle.std.specs.Prelude.{◌≡◌, ◌<◌, IfOk, IfErr};
 ghost use Rattle.std.specs.Option.{option_copied};
 ghost use Rattle.dm_stream.specs.Cursors.{left, end_of, sound, first_span, SharesEnd};
-ghost use Rattle.dm_ast.specs.Tree.{path_view, segment_view, segments_of};
+ghost use Rattle.dm_ast.specs.Tree.{path_view};
 ghost use Rattle.dm_ast.specs.Readers.{place, Reads};
 ghost use Rattle.dm_meta.specs.Fronts.{IsFront};
 ghost use Rattle.dm_meta.specs.Metas as metas;
@@ -17,7 +17,7 @@ use dm_quote::ToTokens;
 use dm_read::token::ident;
 use dm_read_paths::path::{no_arguments, path_of, segment_of};
 use dm_read_types::bare::bare_path;
-use dm_stream::{Cursor, Error, Ident, Kind, Refusal, Seq, TokenStream};
+use dm_stream::{Cursor, Error, Ident, Kind, Read, Refusal, Seq, TokenStream};
 use std::alloc::{AllocError, Global};
 
 /// A path none of whose own segments has a list in parentheses; or any identifier where no such path stands, as a keyword.
@@ -58,7 +58,7 @@ fn keyword<'t, 'a>(
     alloc: Global,
     level: usize,
     c: Cursor<'t, 'a>,
-) -> Result<(PathOrKeyword<'a>, Cursor<'t, 'a>), Error>
+) -> Read<(PathOrKeyword<'a>, Cursor<'t, 'a>)>
     requires { sound c }
     ensures reads { Reads metas.path_or_keyword_view (spec.read_keyword (place level c.entry) (left c.entry)) result }
     ensures place { IfOk result (λ r. SharesEnd c.entry r.1) }
@@ -92,40 +92,6 @@ pub fn path_or_keyword<'t, 'a>(
     }
 }
 
-/// The name of a segment without arguments.
-#[tactic(auto, using(dm_ast::proofs::View::view_steps))]
-fn segment_ident<'p, 'a>(segment: &'p PathSegment<'a>) -> Option<&'p Ident<'a>>
-    ensures { option_copied result ≡ metas.segment_ident (segment_view segment.now) }
-{
-    match &segment.arguments {
-        PathArguments::Absent => Some(&segment.ident),
-        PathArguments::Angle(_, _) => None,
-        PathArguments::Paren(_, _) => None,
-    }
-}
-
-/// The name of one segment alone.
-#[tactic(auto, using(crate::proofs::Lone::lone_steps))]
-fn segments_ident<'p, 'a>(all: &'p [PathSegment<'a>]) -> Option<&'p Ident<'a>>
-    ensures { option_copied result ≡ metas.segments_ident (segments_of (map segment_view all.now)) }
-{
-    if all.len() != 1 {
-        return None;
-    }
-    segment_ident(&all[0])
-}
-
-/// The name that a path is.
-#[tactic(auto, using(dm_ast::proofs::View::view_steps))]
-fn path_ident<'p, 'a>(path: &'p Path<'a>) -> Option<&'p Ident<'a>>
-    ensures { option_copied result ≡ metas.path_ident (path_view path.now) }
-{
-    if path.leading_colon {
-        return None;
-    }
-    segments_ident(path.segments.as_slice())
-}
-
 impl<'a> PathOrKeyword<'a> {
     /// The one that the trees begin with, and the place behind it.
     ///
@@ -151,7 +117,7 @@ impl<'a> PathOrKeyword<'a> {
         ensures { option_copied result ≡ metas.ident_of (metas.path_or_keyword_view self.now) }
     {
         match self {
-            PathOrKeyword::Path(path) => path_ident(path),
+            PathOrKeyword::Path(path) => path.get_ident(),
             PathOrKeyword::Keyword(ident) => Some(ident),
         }
     }

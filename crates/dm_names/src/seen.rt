@@ -13,12 +13,12 @@ use crate::declarations::{in_declaration, place_of};
 use crate::places::Wanted;
 use dm_ast::{Data, DeriveInput, Field, Fields, GenericParam, Variant};
 use dm_repeats::repeats::place_if;
-use dm_stream::{Error, Ident, Kind, Refusal, Span};
+use dm_stream::{Error, Ident, Kind, Made, Refusal, Span};
 use std::alloc::{AllocError, Global};
 use std::collections::HashSet;
 
 /// Adds a name to those that were seen. The answer is whether it was among them.
-fn see<'t>(seen: &mut HashSet<&'t str>, name: &'t str) -> Result<bool, AllocError>
+fn see<'t>(seen: &mut HashSet<&'t str>, name: &'t str) -> Made<bool>
     ensures before { IfOk result (λ r. r ≡ was_seen seen.old name.now) }
     ensures after { OnOk result ((q : List ℕ) → was_seen seen.new q ≡ (bytes_eq name.now q || was_seen seen.old q)) }
 {
@@ -29,10 +29,7 @@ fn see<'t>(seen: &mut HashSet<&'t str>, name: &'t str) -> Result<bool, AllocErro
 }
 
 /// Adds a field's name, if it has one. The answer is its place if it was seen before.
-fn see_label<'t>(
-    ident: &'t Option<Ident<'_>>,
-    seen: &mut HashSet<&'t str>,
-) -> Result<Option<Span>, AllocError>
+fn see_label<'t>(ident: &'t Option<Ident<'_>>, seen: &mut HashSet<&'t str>) -> Made<Option<Span>>
     ensures before { IfOk result (λ r. r ≡ label_seen (was_seen seen.old) ident.now) }
     ensures after { OnOk result ((q : List ℕ) → was_seen seen.new q ≡ (spec.is_called q ident.now || was_seen seen.old q)) }
 {
@@ -45,7 +42,7 @@ fn see_label<'t>(
     }
 }
 
-fn field_seen_again(alloc: Global, all: &[Field<'_>]) -> Result<Option<Span>, AllocError>
+fn field_seen_again(alloc: Global, all: &[Field<'_>]) -> Made<Option<Span>>
     ensures { IfOk result (λ r. r ≡ spec.repeats spec.field_again [] (map tree.field_view all.now)) }
 {
     let mut seen = HashSet::new(alloc);
@@ -57,7 +54,7 @@ fn field_seen_again(alloc: Global, all: &[Field<'_>]) -> Result<Option<Span>, Al
     Ok(None)
 }
 
-fn seen_again_in_fields(alloc: Global, fields: &Fields<'_>) -> Result<Option<Span>, AllocError>
+fn seen_again_in_fields(alloc: Global, fields: &Fields<'_>) -> Made<Option<Span>>
     ensures { IfOk result (λ r. r ≡ spec.repeated_in_fields (tree.fields_view fields.now)) }
 {
     match fields {
@@ -73,7 +70,7 @@ fn see_variant<'t>(
     alloc: Global,
     variant: &'t Variant<'_>,
     seen: &mut HashSet<&'t str>,
-) -> Result<Option<Span>, AllocError>
+) -> Made<Option<Span>>
     ensures before { IfOk result (λ r. r ≡ option_or (spec.place_if (was_seen seen.old variant.now.ident.name) variant.now.ident.span) (spec.repeated_in_fields (tree.fields_view variant.now.fields))) }
     ensures after { OnOk result ((q : List ℕ) → was_seen seen.new q ≡ (bytes_eq variant.now.ident.name q || was_seen seen.old q)) }
 {
@@ -82,7 +79,7 @@ fn see_variant<'t>(
     Ok(place_if(is_there, variant.ident.span).or(inside))
 }
 
-fn variant_seen_again(alloc: Global, all: &[Variant<'_>]) -> Result<Option<Span>, AllocError>
+fn variant_seen_again(alloc: Global, all: &[Variant<'_>]) -> Made<Option<Span>>
     ensures { IfOk result (λ r. r ≡ spec.repeats spec.variant_again [] (map tree.variant_view all.now)) }
 {
     let mut seen = HashSet::new(alloc);
@@ -99,7 +96,7 @@ fn see_param<'t>(
     param: &'t GenericParam<'_>,
     lifetimes: &mut HashSet<&'t str>,
     types: &mut HashSet<&'t str>,
-) -> Result<Option<Span>, AllocError>
+) -> Made<Option<Span>>
     ensures before { IfOk result (λ r. r ≡ param_seen (was_seen lifetimes.old) (was_seen types.old) (tree.param_view param.now)) }
     ensures lifetimes { OnOk result ((q : List ℕ) → was_seen lifetimes.new q ≡ (spec.is_lifetime_called q (tree.param_view param.now) || was_seen lifetimes.old q)) }
     ensures types { OnOk result ((q : List ℕ) → was_seen types.new q ≡ (spec.is_type_called q (tree.param_view param.now) || was_seen types.old q)) }
@@ -124,7 +121,7 @@ fn param_seen_again(
     alloc: Global,
     all: &[GenericParam<'_>],
     type_name: &Ident<'_>,
-) -> Result<Option<Span>, AllocError>
+) -> Made<Option<Span>>
     ensures { IfOk result (λ r. r ≡ spec.repeats (spec.param_again type_name.now) [] (map tree.param_view all.now)) }
 {
     let mut lifetimes = HashSet::new(alloc);
@@ -138,7 +135,7 @@ fn param_seen_again(
     Ok(None)
 }
 
-fn seen_again_in_shape(alloc: Global, shape: &Data<'_>) -> Result<Option<Span>, AllocError>
+fn seen_again_in_shape(alloc: Global, shape: &Data<'_>) -> Made<Option<Span>>
     ensures { IfOk result (λ r. r ≡ spec.repeated_in_shape (tree.shape_view shape.now)) }
 {
     match shape {
@@ -148,7 +145,7 @@ fn seen_again_in_shape(alloc: Global, shape: &Data<'_>) -> Result<Option<Span>, 
     }
 }
 
-fn name_seen_again(alloc: Global, input: &DeriveInput<'_>) -> Result<Option<Span>, AllocError>
+fn name_seen_again(alloc: Global, input: &DeriveInput<'_>) -> Made<Option<Span>>
     ensures { IfOk result (λ r. r ≡ spec.repeated (tree.declaration_view input.now)) }
 {
     let all = input.generics.params.items.as_slice();

@@ -10,10 +10,9 @@ ghost use Rattle.dm_nodes.specs.Boxes.{last_view, IsBoxed};
 use crate::block::{ArmNode, BlockNode, BodyNode, StmtNode, StmtNodes};
 use crate::expr::{ExprNode, FieldNode};
 use dm_ast::{Opaque, Path, Ty};
-use dm_gather::Made;
 use dm_output::{Arm, ArmBody, Block, Expr, NamedExpr, Stmt};
 use dm_pattern_nodes::node::PatternNodes;
-use dm_stream::{Ident, Literal};
+use dm_stream::{Ident, Literal, Made};
 use std::alloc::Global;
 
 /// `x: a`

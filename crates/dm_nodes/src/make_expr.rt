@@ -9,9 +9,8 @@ ghost use Rattle.dm_output.specs.Views.{expr_view, named_expr_view, opaque_view,
 use crate::block::ArmNodes;
 use crate::expr::{ExprNode, ExprNodes, FieldNodes};
 use dm_ast::Opaque;
-use dm_gather::Made;
 use dm_output::{Expr, FmtArgs, Member, PathExpr};
-use dm_stream::{Ident, Literal};
+use dm_stream::{Ident, Literal, Made};
 use std::alloc::Global;
 
 /// `return a`

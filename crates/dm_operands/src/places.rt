@@ -16,11 +16,11 @@ ghost use Rattle.dm_operands.specs.CaseViews.{field_ref_view};
 use crate::cases::{CaseRef, FieldRef, Form};
 use dm_ast::{Attribute, Data, DeriveInput, Field, Fields, Variant};
 use dm_attr::skips::is_left_out;
-use dm_stream::{Error, Ident, Kind, Refusal, Span};
-use std::alloc::{AllocError, Global};
+use dm_stream::{Error, Ident, Kind, Made, Read, Refusal, Span};
+use std::alloc::Global;
 
 /// Adds an item.
-pub fn add<T: Drop>(out: &mut Vec<T>, item: T) -> Result<(), AllocError>
+pub fn add<T: Drop>(out: &mut Vec<T>, item: T) -> Made<()>
     ensures { OnOk result (out.new.items ≡ out.old.items ++ item ∷ []) }
 {
     out.push(item)?;
@@ -57,7 +57,7 @@ fn field_ref<'x, 'a, L: Leaving>(
     field: &'x Field<'a>,
     leaving: &L,
     alloc: Global,
-) -> Result<FieldRef<'x, 'a>, Error>
+) -> Read<FieldRef<'x, 'a>>
     ensures { spec.IsWalked (L.refuses leaving.now field.now.attrs) (λ f. field_ref_view f ≡ marked.mark_field (L.leaves_out leaving.now) (field_view field.now)) result }
 {
     let left_out = leaving.is_left_out(alloc, field.attrs.as_slice())?;
@@ -68,7 +68,7 @@ fn field_refs<'x, 'a, L: Leaving>(
     fields: &'x [Field<'a>],
     leaving: &L,
     alloc: Global,
-) -> Result<Vec<FieldRef<'x, 'a>>, Error>
+) -> Read<Vec<FieldRef<'x, 'a>>>
     ensures { spec.AreFieldsMarked (L.refuses leaving.now) (L.leaves_out leaving.now) (map field_view fields.now) result }
 {
     let mut out = Vec::with_capacity(alloc, fields.len())?;
@@ -97,7 +97,7 @@ pub fn marked_fields<'x, 'a, L: Leaving>(
     fields: &'x Fields<'a>,
     leaving: &L,
     alloc: Global,
-) -> Result<Vec<FieldRef<'x, 'a>>, Error>
+) -> Read<Vec<FieldRef<'x, 'a>>>
     ensures { spec.AreFieldsMarked (L.refuses leaving.now) (L.leaves_out leaving.now) (values.field_list (fields_view fields.now)) result }
 {
     match fields {
@@ -112,7 +112,7 @@ fn case_ref<'x, 'a>(
     attrs: &'x [Attribute<'a>],
     ident: &'x Ident<'a>,
     fields: &'x Fields<'a>,
-) -> Result<CaseRef<'x, 'a>, Error>
+) -> Read<CaseRef<'x, 'a>>
     ensures { spec.IsCaseWalked (record { attrs = attrs.now; ident = ident.now; fields = fields_view fields.now }) result }
 {
     let left_out = is_left_out(alloc, attrs)?;
@@ -130,10 +130,7 @@ fn case_ref<'x, 'a>(
     })
 }
 
-fn case_of_variant<'x, 'a>(
-    alloc: Global,
-    variant: &'x Variant<'a>,
-) -> Result<CaseRef<'x, 'a>, Error>
+fn case_of_variant<'x, 'a>(alloc: Global, variant: &'x Variant<'a>) -> Read<CaseRef<'x, 'a>>
     ensures { spec.IsCaseWalked (values.case_of_variant (variant_view variant.now)) result }
 {
     case_ref(
@@ -147,7 +144,7 @@ fn case_of_variant<'x, 'a>(
 fn cases_of_variants<'x, 'a>(
     alloc: Global,
     variants: &'x [Variant<'a>],
-) -> Result<Vec<CaseRef<'x, 'a>>, Error>
+) -> Read<Vec<CaseRef<'x, 'a>>>
     ensures { spec.AreCasesWalked (map values.case_of_variant (map variant_view variants.now)) result }
 {
     let mut out = Vec::with_capacity(alloc, variants.len())?;
@@ -165,7 +162,7 @@ fn only_case<'x, 'a>(
     alloc: Global,
     input: &'x DeriveInput<'a>,
     fields: &'x Fields<'a>,
-) -> Result<Vec<CaseRef<'x, 'a>>, Error>
+) -> Read<Vec<CaseRef<'x, 'a>>>
     ensures { spec.AreCasesWalked (record { attrs = input.now.attrs; ident = input.now.ident; fields = fields_view fields.now } ∷ []) result }
 {
     let case = case_ref(alloc, input.attrs.as_slice(), &input.ident, fields)?;
@@ -185,10 +182,7 @@ fn union_refusal(word: Span) -> Refusal
 
 /// The variants of an enum, or a struct as the only case, each marked whether it is left out, or the first refusal in the order of
 /// the text: of a case's own attributes, then of its fields' unless it is left out. A union is refused at its word.
-pub fn cases_of<'x, 'a>(
-    alloc: Global,
-    input: &'x DeriveInput<'a>,
-) -> Result<Vec<CaseRef<'x, 'a>>, Error>
+pub fn cases_of<'x, 'a>(alloc: Global, input: &'x DeriveInput<'a>) -> Read<Vec<CaseRef<'x, 'a>>>
     ensures { spec.IsMarking (declaration_view input.now) result }
 {
     match &input.shape {

@@ -8,8 +8,8 @@ ghost use Rattle.dm_operands.specs.CaseViews.{naming};
 
 use dm_ast::Field;
 use dm_generics::names::word;
-use dm_stream::Ident;
-use std::alloc::{AllocError, Global};
+use dm_stream::{Ident, Made};
+use std::alloc::Global;
 
 /// Whose fields are named.
 #[derive(Clone, Copy, Debug, PartialEq, Eq)]
@@ -103,7 +103,7 @@ pub fn first_name(operand: Operand, n: usize) -> Option<&'static str>
     }
 }
 
-pub fn formatted(alloc: Global, operand: Operand, n: usize) -> Result<String, AllocError>
+pub fn formatted(alloc: Global, operand: Operand, n: usize) -> Made<String>
     ensures { IfOk result (λ name. string_bytes name ≡ naming operand n) }
 {
     match operand {
@@ -115,7 +115,7 @@ pub fn formatted(alloc: Global, operand: Operand, n: usize) -> Result<String, Al
 }
 
 /// The name of a field in braces.
-pub fn field_ident<'a>(alloc: Global, field: &Field<'a>) -> Result<Ident<'a>, AllocError>
+pub fn field_ident<'a>(alloc: Global, field: &Field<'a>) -> Made<Ident<'a>>
     ensures { IfOk result (λ i. i ≡ spec.field_ident field.now.ident) }
 {
     match &field.ident {

@@ -15,8 +15,8 @@ use crate::printing::printed_item;
 use dm_ast::DeriveInput;
 use dm_operators::operator::{Implemented, Operator};
 use dm_operators::places::{Plan, plan_for};
-use dm_stream::Error;
-use std::alloc::{AllocError, Global};
+use dm_stream::{Made, Read};
+use std::alloc::Global;
 
 /// The text of the implementation by a plan.
 fn written<'x, 'a>(
@@ -24,7 +24,7 @@ fn written<'x, 'a>(
     plan: &Plan<'x, 'a>,
     operator: &Operator,
     alloc: Global,
-) -> Result<String, AllocError>
+) -> Made<String>
     requires is_operator { IsOperator (operator_view operator.now) }
     requires readable { IsReadable (declaration_view input.now) }
     requires unrefused { refusal (operator_view operator.now) (declaration_view input.now) ≡ None }
@@ -45,7 +45,7 @@ fn written<'x, 'a>(
 /// type parameter. Behind the declared predicates stands, for each field that isn't skipped, in order and with repeats, that its type has the
 /// operator, where it mentions a parameter, or for any right side of every type, and neither `Self` nor the declared type stands in it. The
 /// refusals are those of [plan_for].
-pub fn printed(input: &DeriveInput<'_>, operator: &Operator, alloc: Global) -> Result<String, Error>
+pub fn printed(input: &DeriveInput<'_>, operator: &Operator, alloc: Global) -> Read<String>
     requires is_operator { IsOperator (operator_view operator.now) }
     requires readable { IsReadable (declaration_view input.now) }
     ensures printed { spec.IsPrinted (operator_view operator.now) (declaration_view input.now) result }

@@ -3,10 +3,9 @@
 
 ghost use Rattle.std.specs.Prelude.{◌≡◌, [], ◌∷◌, map, Some, OnOk, IfOk, string_bytes};
 ghost use Rattle.dm_stream.specs.declared.tokens.Delim.TheVariants.{Paren};
-ghost use Rattle.dm_ast.specs.Declarations.{declaration_view};
 ghost use Rattle.dm_output.specs.Output.{last_expr, no_expr};
 ghost use Rattle.dm_output.specs.Tokens as tokens;
-ghost use Rattle.dm_print_types.specs.Laying.{lay};
+ghost use Rattle.dm_print_types.specs.Prelude.{declaration_view, lay};
 ghost use Rattle.dm_operands.specs.CaseViews.{case_view};
 ghost use Rattle.dm_operators.specs.Operators as ops;
 ghost use Rattle.dm_operators.specs.Heads as heads;
@@ -22,8 +21,8 @@ use dm_operator_prints::body;
 use dm_operators::operator::{Form, Implemented, Operator};
 use dm_print_types::token::{close, fixed, joint, open, word};
 use dm_sides::heads::declared_type;
-use dm_stream::Delim;
-use std::alloc::{AllocError, Global};
+use dm_stream::{Delim, Made};
+use std::alloc::Global;
 
 /// Adds the attributes of an operator with a right side, and `impl`.
 fn binary_start(out: &mut Layout) -> Printed
@@ -168,7 +167,7 @@ pub(crate) fn printed_item<'x, 'a>(
     cases: &[CaseRef<'x, 'a>],
     implemented: &Implemented,
     alloc: Global,
-) -> Result<String, AllocError>
+) -> Made<String>
     ensures { IfOk result (λ s. string_bytes s ≡ tokens.printed (items.item_for (form_view implemented.now.form) (operator_view implemented.now.operator) (declaration_view input.now) (map case_view cases.now) ∷ [])) }
 {
     let mut out = Layout::new(alloc);

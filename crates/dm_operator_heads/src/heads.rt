@@ -2,12 +2,10 @@
 #![tactic(auto, using(crate::proofs::HeadSteps::head_steps))]
 
 ghost use Rattle.std.specs.Prelude.{◌≡◌, [], ◌∷◌, ◌++◌, OnOk};
-ghost use Rattle.dm_stream.specs.Layout.{nowhere};
-ghost use Rattle.dm_ast.specs.Tree.{ty_view, type_arg};
-ghost use Rattle.dm_ast.specs.TypeTokens.{path_trees, arguments_trees};
-ghost use Rattle.dm_ast.specs.Declarations.{declaration_view};
+ghost use Rattle.dm_ast.specs.Tree.{type_arg};
+ghost use Rattle.dm_ast.specs.TypeTokens.{arguments_trees};
 ghost use Rattle.dm_output.specs.Tokens as tokens;
-ghost use Rattle.dm_print_types.specs.Laying.{lay};
+ghost use Rattle.dm_print_types.specs.Prelude.{nowhere, ty_view, path_trees, declaration_view, lay};
 ghost use Rattle.dm_bounds.specs.RightSide.{right_type};
 ghost use Rattle.dm_operators.specs.Heads as spec;
 ghost use Rattle.dm_operators.specs.Predicates as traits;

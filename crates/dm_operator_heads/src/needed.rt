@@ -2,10 +2,9 @@
 #![tactic(auto, using(crate::proofs::HeadSteps::head_steps))]
 
 ghost use Rattle.std.specs.Prelude.{◌≡◌, ◌++◌, map, IfOk, OnOk};
-ghost use Rattle.dm_ast.specs.Declarations.{declaration_view};
 ghost use Rattle.dm_ast.specs.Implementors.{predicates_of};
 ghost use Rattle.dm_output.specs.Tokens as tokens;
-ghost use Rattle.dm_print_types.specs.Laying.{lay};
+ghost use Rattle.dm_print_types.specs.Prelude.{declaration_view, lay};
 ghost use Rattle.dm_operands.specs.CaseViews.{case_view, field_ref_view};
 ghost use Rattle.dm_where_clauses.specs.Shown.{shown};
 ghost use Rattle.dm_operators.specs.Predicates as spec;
@@ -18,9 +17,10 @@ use dm_layout::{Layout, Printed};
 use dm_operands::cases::{CaseRef, FieldRef};
 use dm_operands::places::add;
 use dm_operators::operator::{Form, Implemented};
+use dm_stream::Made;
 use dm_where_clauses::needed::{Asks, Predicate, needs, with_needed};
 use dm_where_clauses::printing::clause;
-use std::alloc::{AllocError, Global};
+use std::alloc::Global;
 
 /// What the operator asks of the types of fields.
 #[derive(Clone, Copy)]
@@ -89,7 +89,7 @@ pub fn all_predicates<'x, 'a>(
     cases: &[CaseRef<'x, 'a>],
     implemented: &Implemented,
     alloc: Global,
-) -> Result<Vec<Predicate<'x, 'a>>, AllocError>
+) -> Made<Vec<Predicate<'x, 'a>>>
     ensures { IfOk result (λ ps. map (shown (spec.asking (form_view implemented.now.form) (operator_view implemented.now.operator))) ps.items ≡
         predicates_of (declaration_view input.now) ++
         spec.needed_in (form_view implemented.now.form) (operator_view implemented.now.operator) (declaration_view input.now) (map case_view cases.now)) }

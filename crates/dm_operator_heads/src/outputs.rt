@@ -2,11 +2,10 @@
 #![tactic(auto, using(crate::proofs::HeadSteps::head_steps))]
 
 ghost use Rattle.std.specs.Prelude.{◌≡◌, [], ◌∷◌, map, true, OnOk};
-ghost use Rattle.dm_ast.specs.TypeTokens.{type_trees};
-ghost use Rattle.dm_ast.specs.Declarations.{declaration_view, variant_view};
+ghost use Rattle.dm_ast.specs.Declarations.{variant_view};
 ghost use Rattle.dm_output.specs.Tokens as tokens;
 ghost use Rattle.dm_output.specs.Values as values;
-ghost use Rattle.dm_print_types.specs.Laying.{lay};
+ghost use Rattle.dm_print_types.specs.Prelude.{type_trees, declaration_view, lay};
 ghost use Rattle.dm_operators.specs.Meaning as meaning;
 ghost use Rattle.dm_operators.specs.Heads as spec;
 ghost use Rattle.dm_operators.specs.Table.{form_view, operator_view};

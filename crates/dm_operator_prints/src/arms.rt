@@ -3,10 +3,9 @@
 
 ghost use Rattle.std.specs.Prelude.{◌≡◌, ◌++◌, not, map, IfOk, OnOk};
 ghost use Rattle.dm_ast.specs.TypeTokens.{given};
-ghost use Rattle.dm_ast.specs.Declarations.{declaration_view};
 ghost use Rattle.dm_output.specs.Output.{arms_of, do_stmt, stmts_of};
 ghost use Rattle.dm_output.specs.Tokens as tokens;
-ghost use Rattle.dm_print_types.specs.Laying.{lay};
+ghost use Rattle.dm_print_types.specs.Prelude.{declaration_view, lay};
 ghost use Rattle.dm_operands.specs.CaseViews.{case_view, field_ref_view};
 ghost use Rattle.dm_operators.specs.Operators as ops;
 ghost use Rattle.dm_operators.specs.Bodies as spec;
@@ -23,14 +22,11 @@ use dm_operands::sides::Operand;
 use dm_operators::operator::{Form, Implemented, Operator};
 use dm_print_types::token::{close, fixed, joint, open, punct};
 use dm_sides::pattern::{case_path, side};
-use dm_stream::Delim;
-use std::alloc::{AllocError, Global};
+use dm_stream::{Delim, Made};
+use std::alloc::Global;
 
 /// The fields, none of which is left out.
-fn all_fields<'x, 'a>(
-    fields: &[FieldRef<'x, 'a>],
-    alloc: Global,
-) -> Result<Vec<FieldRef<'x, 'a>>, AllocError>
+fn all_fields<'x, 'a>(fields: &[FieldRef<'x, 'a>], alloc: Global) -> Made<Vec<FieldRef<'x, 'a>>>
     ensures { IfOk result (λ fs. map field_ref_view fs.items ≡ map spec.keep (map field_ref_view fields.now)) }
 {
     let mut out = Vec::with_capacity(alloc, fields.len())?;
@@ -45,7 +41,7 @@ fn all_fields<'x, 'a>(
 }
 
 /// The case with all of its fields.
-fn whole_case<'x, 'a>(case: &CaseRef<'x, 'a>, alloc: Global) -> Result<CaseRef<'x, 'a>, AllocError>
+fn whole_case<'x, 'a>(case: &CaseRef<'x, 'a>, alloc: Global) -> Made<CaseRef<'x, 'a>>
     ensures { IfOk result (λ c. case_view c ≡ spec.whole (case_view case.now)) }
 {
     let fields = all_fields(case.fields.as_slice(), alloc)?;

@@ -2,9 +2,8 @@
 #![tactic(auto, using(crate::proofs::Values::value_steps))]
 
 ghost use Rattle.std.specs.Prelude.{◌≡◌, map, OnOk};
-ghost use Rattle.dm_ast.specs.Declarations.{declaration_view};
 ghost use Rattle.dm_output.specs.Tokens as tokens;
-ghost use Rattle.dm_print_types.specs.Laying.{lay};
+ghost use Rattle.dm_print_types.specs.Prelude.{declaration_view, lay};
 ghost use Rattle.dm_operands.specs.CaseViews.{case_view};
 ghost use Rattle.dm_operators.specs.Operators as ops;
 ghost use Rattle.dm_operators.specs.Bodies as spec;

@@ -15,8 +15,8 @@ ghost use Rattle.dm_operators.specs.Table.{operator_view};
 use dm_layout::{Layout, Printed};
 use dm_operators::operator::Operator;
 use dm_print_types::token::{fixed, joint, literal, word};
-use dm_stream::{LitKind, Literal, Span, Text};
-use std::alloc::{AllocError, Global};
+use dm_stream::{LitKind, Literal, Made, Span, Text};
+use std::alloc::Global;
 
 /// Adds `derive_more::core::ops::TRAIT::METHOD`.
 pub(crate) fn method_path(operator: &Operator, out: &mut Layout) -> Printed
@@ -28,7 +28,7 @@ pub(crate) fn method_path(operator: &Operator, out: &mut Layout) -> Printed
     word(out, operator.method)
 }
 
-fn quoted_text(text: &str, alloc: Global) -> Result<String, AllocError>
+fn quoted_text(text: &str, alloc: Global) -> Made<String>
     ensures { IfOk result (λ s. string_bytes s ≡ 34 ∷ (text.now ++ 34 ∷ [])) }
 {
     format!(in alloc; "\"{text}\"")

@@ -2,12 +2,11 @@
 #![tactic(auto, using(crate::proofs::Values::value_steps))]
 
 ghost use Rattle.std.specs.Prelude.{◌≡◌, [], ◌∷◌, cond, OnOk, IfOk, string_bytes};
-ghost use Rattle.dm_stream.specs.Layout.{nowhere};
 ghost use Rattle.dm_stream.specs.declared.tokens.LitKind.TheVariants as kinds;
 ghost use Rattle.dm_ast.specs.TypeTokens as syntax;
 ghost use Rattle.dm_output.specs.Tokens as tokens;
 ghost use Rattle.dm_generics.specs.Numerals.{numeral};
-ghost use Rattle.dm_print_types.specs.Laying.{lay};
+ghost use Rattle.dm_print_types.specs.Prelude.{nowhere, lay};
 ghost use Rattle.dm_operands.specs.Bodies as bodies;
 ghost use Rattle.dm_operands.specs.CaseViews.{field_ref_view};
 ghost use Rattle.dm_operands.specs.Numbered.{self_name};
@@ -22,8 +21,8 @@ use dm_operands::sides::Operand;
 use dm_operators::operator::{Form, Operator};
 use dm_print_types::token::{close, fixed, literal, open, punct, word};
 use dm_sides::pattern::{field_name, numbered};
-use dm_stream::{Delim, LitKind, Literal, Span, Text};
-use std::alloc::{AllocError, Global};
+use dm_stream::{Delim, LitKind, Literal, Made, Span, Text};
+use std::alloc::Global;
 
 /// How the operation on a field is called.
 #[derive(Clone, Copy, Debug, PartialEq, Eq)]
@@ -83,7 +82,7 @@ fn inner_part(operator: &Operator, n: usize, out: &mut Layout) -> Printed
 }
 
 /// The digits of a number.
-fn digits(n: usize, alloc: Global) -> Result<String, AllocError>
+fn digits(n: usize, alloc: Global) -> Made<String>
     ensures { IfOk result (λ s. string_bytes s ≡ numeral n) }
 {
     format!(in alloc; "{n}")

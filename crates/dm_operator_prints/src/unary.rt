@@ -2,12 +2,10 @@
 #![tactic(auto, using(crate::proofs::Values::value_steps))]
 
 ghost use Rattle.std.specs.Prelude.{◌≡◌, map, OnOk};
-ghost use Rattle.dm_stream.specs.Layout.{nowhere};
-ghost use Rattle.dm_ast.specs.Declarations.{declaration_view};
 ghost use Rattle.dm_ast.specs.TypeTokens as syntax;
 ghost use Rattle.dm_output.specs.Output.{arms_of};
 ghost use Rattle.dm_output.specs.Tokens as tokens;
-ghost use Rattle.dm_print_types.specs.Laying.{lay};
+ghost use Rattle.dm_print_types.specs.Prelude.{nowhere, declaration_view, lay};
 ghost use Rattle.dm_operands.specs.Sides as sides;
 ghost use Rattle.dm_operands.specs.CaseViews.{case_view};
 ghost use Rattle.dm_operators.specs.Bodies as spec;

@@ -21,7 +21,7 @@ use dm_ast::{Attribute, Data, DeriveInput, Fields, Variant};
 use dm_attr::skips::{is_forwarded_under, is_skipped_under, refuse_skip};
 use dm_operands::cases::{CaseRef, FieldRef, is_enum, keeps_some};
 use dm_operands::places::{Leaving, add, form_of, marked_fields};
-use dm_stream::{Error, Ident, Kind, Refusal, Span};
+use dm_stream::{Error, Ident, Kind, Read, Refusal, Span};
 use std::alloc::Global;
 
 /// In which form an operator is implemented for a declaration, and on which cases it works: the variants of an enum, or the struct, each
@@ -110,7 +110,7 @@ fn kept_fields<'x, 'a>(
     fields: &'x Fields<'a>,
     operator: &Operator,
     at: Span,
-) -> Result<Vec<FieldRef<'x, 'a>>, Error>
+) -> Read<Vec<FieldRef<'x, 'a>>>
     ensures { IsWalked (plans.fields_refusal (operator_view operator.now) at (values.field_list (fields_view fields.now)))
         (λ x. map field_ref_view x.items ≡ map (mark_field (skipped_under operator.now.method.now)) (values.field_list (fields_view fields.now))) result }
 {
@@ -126,7 +126,7 @@ fn variant_fields<'x, 'a>(
     alloc: Global,
     variant: &'x Variant<'a>,
     operator: &Operator,
-) -> Result<Vec<FieldRef<'x, 'a>>, Error>
+) -> Read<Vec<FieldRef<'x, 'a>>>
     ensures { IsWalked (plans.own_refusal (operator_view operator.now) (variant_view variant.now))
         (λ x. map field_ref_view x.items ≡ map (mark_field (skipped_under operator.now.method.now)) (values.field_list (fields_view variant.now.fields))) result }
 {
@@ -142,7 +142,7 @@ fn variant_case<'x, 'a>(
     alloc: Global,
     variant: &'x Variant<'a>,
     operator: &Operator,
-) -> Result<CaseRef<'x, 'a>, Error>
+) -> Read<CaseRef<'x, 'a>>
     ensures { IsWalked (plans.variant_refusal (operator_view operator.now) (variant_view variant.now))
         (λ c. case_view c ≡ plans.opened (skipped_under operator.now.method.now) (values.case_of_variant (variant_view variant.now))) result }
 {
@@ -160,7 +160,7 @@ fn variant_cases<'x, 'a>(
     alloc: Global,
     variants: &'x [Variant<'a>],
     operator: &Operator,
-) -> Result<Vec<CaseRef<'x, 'a>>, Error>
+) -> Read<Vec<CaseRef<'x, 'a>>>
     ensures { IsWalked (plans.first_variant (operator_view operator.now) (map variant_view variants.now))
         (λ x. plans.AreOpened (skipped_under operator.now.method.now) (map values.case_of_variant (map variant_view variants.now)) x.items) result }
 {
@@ -180,7 +180,7 @@ fn only_case<'x, 'a>(
     ident: &'x Ident<'a>,
     fields: &'x Fields<'a>,
     kept: Vec<FieldRef<'x, 'a>>,
-) -> Result<Vec<CaseRef<'x, 'a>>, Error>
+) -> Read<Vec<CaseRef<'x, 'a>>>
     ensures { IsWalked None (λ x. map case_view x.items ≡
         record { ident = ident.now; form = marked.form_of (fields_view fields.now); left_out = false; fields = map field_ref_view kept.entry.items } ∷ []) result }
 {
@@ -202,7 +202,7 @@ fn part_cases<'x, 'a>(
     alloc: Global,
     input: &'x DeriveInput<'a>,
     operator: &Operator,
-) -> Result<Vec<CaseRef<'x, 'a>>, Error>
+) -> Read<Vec<CaseRef<'x, 'a>>>
     ensures { IsWalked (plans.parts_refusal (operator_view operator.now) (declaration_view input.now).shape)
         (λ x. plans.AreOpened (skipped_under operator.now.method.now) (values.cases (declaration_view input.now)) x.items) result }
 {
@@ -217,7 +217,7 @@ fn part_cases<'x, 'a>(
 }
 
 /// Refuses the declaration at its word where its shape is wrong.
-fn refuse_shape(input: &DeriveInput<'_>, wrong: bool) -> Result<(), Error>
+fn refuse_shape(input: &DeriveInput<'_>, wrong: bool) -> Read<()>
     ensures { IsWalked (spec.wrong_if wrong (declaration_view input.now)) (λ _. Unit {0}) result }
 {
     if wrong {
@@ -238,7 +238,7 @@ fn structural_cases<'x, 'a>(
     alloc: Global,
     input: &'x DeriveInput<'a>,
     operator: &Operator,
-) -> Result<Vec<CaseRef<'x, 'a>>, Error>
+) -> Read<Vec<CaseRef<'x, 'a>>>
     ensures { IsWalked (plans.structural_refusal (operator_view operator.now) (declaration_view input.now))
         (λ x. plans.AreOpened (skipped_under operator.now.method.now) (values.cases (declaration_view input.now)) x.items) result }
 {
@@ -257,7 +257,7 @@ fn has_no_form(input: &DeriveInput<'_>, operator: &Operator) -> bool
 }
 
 /// What stands right of self, any value or one of the same type, as the type's attributes say.
-fn scalar_form(alloc: Global, input: &DeriveInput<'_>, operator: &Operator) -> Result<Form, Error>
+fn scalar_form(alloc: Global, input: &DeriveInput<'_>, operator: &Operator) -> Read<Form>
     ensures { IsWalked (plans.type_refusal (operator_view operator.now) (declaration_view input.now))
         (λ f. form_view f ≡ form_by ops.scalar (forwards (operator_view operator.now) input.now.attrs)) result }
 {
@@ -273,7 +273,7 @@ fn scalar_plan<'x, 'a>(
     alloc: Global,
     input: &'x DeriveInput<'a>,
     operator: &Operator,
-) -> Result<Plan<'x, 'a>, Error>
+) -> Read<Plan<'x, 'a>>
     ensures { IsWalked (plans.scalar_refusal (operator_view operator.now) (declaration_view input.now))
         (λ p. (form_view p.form ≡ form_by ops.scalar (forwards (operator_view operator.now) input.now.attrs)) ×
         plans.AreOpened (skipped_under operator.now.method.now) (values.cases (declaration_view input.now)) p.cases.items) result }
@@ -288,7 +288,7 @@ fn whole_case<'x, 'a>(
     alloc: Global,
     ident: &'x Ident<'a>,
     fields: &'x Fields<'a>,
-) -> Result<CaseRef<'x, 'a>, Error>
+) -> Read<CaseRef<'x, 'a>>
     ensures { IsWalked None (λ c. case_view c ≡ plans.opened keeps_all (record { attrs = []; ident = ident.now; fields = fields_view fields.now })) result }
 {
     let found = marked_fields(fields, &Whole, alloc)?;
@@ -300,10 +300,7 @@ fn whole_case<'x, 'a>(
     })
 }
 
-fn whole_variants<'x, 'a>(
-    alloc: Global,
-    variants: &'x [Variant<'a>],
-) -> Result<Vec<CaseRef<'x, 'a>>, Error>
+fn whole_variants<'x, 'a>(alloc: Global, variants: &'x [Variant<'a>]) -> Read<Vec<CaseRef<'x, 'a>>>
     ensures { IsWalked None (λ x. plans.AreOpened keeps_all (map values.case_of_variant (map variant_view variants.now)) x.items) result }
 {
     let mut out = Vec::with_capacity(alloc, variants.len())?;
@@ -320,7 +317,7 @@ fn whole_struct<'x, 'a>(
     alloc: Global,
     ident: &'x Ident<'a>,
     fields: &'x Fields<'a>,
-) -> Result<Vec<CaseRef<'x, 'a>>, Error>
+) -> Read<Vec<CaseRef<'x, 'a>>>
     ensures { IsWalked None (λ x. plans.AreOpened keeps_all (record { attrs = []; ident = ident.now; fields = fields_view fields.now } ∷ []) x.items) result }
 {
     let case = whole_case(alloc, ident, fields)?;
@@ -330,10 +327,7 @@ fn whole_struct<'x, 'a>(
 }
 
 /// The struct, or the variants of an enum, whose attributes aren't looked at.
-fn whole_cases<'x, 'a>(
-    alloc: Global,
-    input: &'x DeriveInput<'a>,
-) -> Result<Vec<CaseRef<'x, 'a>>, Error>
+fn whole_cases<'x, 'a>(alloc: Global, input: &'x DeriveInput<'a>) -> Read<Vec<CaseRef<'x, 'a>>>
     ensures { IsWalked (plans.whole_refusal (declaration_view input.now).shape)
         (λ x. plans.AreOpened keeps_all (values.cases (declaration_view input.now)) x.items) result }
 {
@@ -345,10 +339,7 @@ fn whole_cases<'x, 'a>(
 }
 
 /// Without a right side.
-fn unary_cases<'x, 'a>(
-    alloc: Global,
-    input: &'x DeriveInput<'a>,
-) -> Result<Vec<CaseRef<'x, 'a>>, Error>
+fn unary_cases<'x, 'a>(alloc: Global, input: &'x DeriveInput<'a>) -> Read<Vec<CaseRef<'x, 'a>>>
     ensures { IsWalked (plans.unary_refusal (declaration_view input.now))
         (λ x. plans.AreOpened keeps_all (values.cases (declaration_view input.now)) x.items) result }
 {
@@ -356,10 +347,7 @@ fn unary_cases<'x, 'a>(
     whole_cases(alloc, input)
 }
 
-fn planned<'x, 'a>(
-    form: Form,
-    cases: Result<Vec<CaseRef<'x, 'a>>, Error>,
-) -> Result<Plan<'x, 'a>, Error>
+fn planned<'x, 'a>(form: Form, cases: Result<Vec<CaseRef<'x, 'a>>, Error>) -> Read<Plan<'x, 'a>>
     ensures { result ≡ plans.planned form cases.entry }
 {
     match cases {
@@ -379,7 +367,7 @@ pub fn plan_for<'x, 'a>(
     alloc: Global,
     input: &'x DeriveInput<'a>,
     operator: &Operator,
-) -> Result<Plan<'x, 'a>, Error>
+) -> Read<Plan<'x, 'a>>
     ensures { plans.IsPlanned (operator_view operator.now) (declaration_view input.now) result }
 {
     match operator.form {

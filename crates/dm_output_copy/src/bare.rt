@@ -3,8 +3,8 @@
 use crate::clone_emitted::CloneEmitted;
 use crate::copy_expr::{copy_arm, copy_block, copy_body, copy_expr, copy_stmt};
 use crate::copy_parts::field_of;
-use dm_gather::Made;
 use dm_output::{Arm, ArmBody, Block, Expr, NamedExpr, Stmt};
+use dm_stream::Made;
 use std::alloc::Global;
 
 impl<'a> CloneEmitted for Expr<'a> {

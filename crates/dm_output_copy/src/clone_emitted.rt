@@ -3,8 +3,7 @@
 ghost use Rattle.std.specs.Prelude.{◌≡◌, IfOk, map, option_map};
 
 use dm_copy::grown;
-use dm_gather::Made;
-use dm_stream::Seq;
+use dm_stream::{Made, Seq};
 use std::alloc::Global;
 
 /// A tree of the output language that can be copied with an allocator. A copy has the shape of what it was made of: the same tree, memory

@@ -8,7 +8,7 @@ use crate::copy_parts::{constant, field_of, method_call};
 use crate::copy_pattern::copy_patterns;
 use crate::node::{made, made_of_two, with_part};
 use dm_copy::{CloneIn, both};
-use dm_gather::{Gathers, Made};
+use dm_gather::Gathers;
 use dm_nodes::block::{ArmNode, ArmNodes, BlockNode, BodyNode, StmtNode, StmtNodes};
 use dm_nodes::expr::{ExprNode, ExprNodes, FieldNodes};
 use dm_nodes::make_block::{
@@ -20,6 +20,7 @@ use dm_nodes::make_expr::{
     ref_opaque, return_of, str_of, tuple_of, unequal_of, unsafe_of, write_of,
 };
 use dm_output::{Arm, ArmBody, Block, Expr, NamedExpr, Stmt};
+use dm_stream::Made;
 use std::alloc::Global;
 
 #[cycle(copy_expr)]

@@ -13,11 +13,11 @@ use crate::node::{made, with_part};
 use dm_ast::{GenericParam, Path, Ty, WherePredicate};
 use dm_copy::{CloneIn, both};
 use dm_expansion::Expansion;
-use dm_gather::{Gathers, Made};
+use dm_gather::Gathers;
 use dm_nodes::block::BlockNode;
 use dm_nodes::item::{ItemNode, ItemNodes, MethodNode, MethodNodes};
 use dm_output::{Assoc, Item, ItemAttr, Method, MethodParam, Receiver};
-use dm_stream::{Ident, Seq};
+use dm_stream::{Ident, Made, Seq};
 use std::alloc::Global;
 
 impl<'a> CloneEmitted for Item<'a> {

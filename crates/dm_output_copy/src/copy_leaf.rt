@@ -8,8 +8,8 @@ ghost use Rattle.dm_output.specs.Views.{fmt_arg_view, fmt_view};
 use crate::clone_emitted::CloneEmitted;
 use dm_ast::QSelf;
 use dm_copy::{CloneIn, both};
-use dm_gather::Made;
 use dm_output::{FmtArg, FmtArgs, Member, PathExpr};
+use dm_stream::Made;
 use std::alloc::Global;
 
 impl<'a> CloneEmitted for PathExpr<'a> {

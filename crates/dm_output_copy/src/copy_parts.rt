@@ -9,13 +9,12 @@ ghost use Rattle.dm_output.specs.Views.{opaque_view, expr_view, named_expr_view,
 use crate::node::{made_of_three, made_of_two};
 use dm_ast::{Opaque, Ty};
 use dm_copy::{CloneIn, both};
-use dm_gather::Made;
 use dm_nodes::block::StmtNode;
 use dm_nodes::expr::{ExprNode, ExprNodes, FieldNode};
 use dm_nodes::make_block::{const_of, named_expr};
 use dm_nodes::make_expr::method_call_of;
 use dm_output::{Expr, NamedExpr};
-use dm_stream::{Ident, Literal, Seq};
+use dm_stream::{Ident, Literal, Made, Seq};
 use std::alloc::Global;
 
 /// The copy of a field, of a copy of its value.

@@ -7,12 +7,13 @@ ghost use Rattle.dm_output.specs.Views.{pattern_view, named_view};
 use crate::clone_emitted::CloneEmitted;
 use crate::node::{made, made_of_two, with_part};
 use dm_copy::{CloneIn, both};
-use dm_gather::{Gathers, Made};
+use dm_gather::Gathers;
 use dm_output::{NamedPattern, Pattern};
 use dm_pattern_nodes::make::{
     bind, named_part, named_pattern, pair_of, path_of, str_pattern, tuple_pattern, wild,
 };
 use dm_pattern_nodes::node::{NamedNode, NamedNodes, PatternNode, PatternNodes};
+use dm_stream::Made;
 use std::alloc::Global;
 
 impl<'a> CloneEmitted for Pattern<'a> {

@@ -3,7 +3,8 @@
 ghost use Rattle.std.specs.Prelude.{◌≡◌, [], ◌∷◌, ◌++◌, Ok, IfOk, IsOkAnd};
 
 use dm_copy::both;
-use dm_gather::{Gathers, Made};
+use dm_gather::Gathers;
+use dm_stream::Made;
 use std::alloc::Global;
 
 /// What `make` makes of a part.

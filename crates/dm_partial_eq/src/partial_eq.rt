@@ -11,14 +11,14 @@ use crate::checks::checked;
 use crate::printing::printed_item;
 use dm_ast::DeriveInput;
 use dm_operands::cases::CaseRef;
-use dm_stream::Error;
-use std::alloc::{AllocError, Global};
+use dm_stream::{Made, Read};
+use std::alloc::Global;
 
 fn printed<'x, 'a>(
     input: &'x DeriveInput<'a>,
     cases: &[CaseRef<'x, 'a>],
     alloc: Global,
-) -> Result<String, AllocError>
+) -> Made<String>
     requires readable { IsReadable (declaration_view input.now) }
     requires cases { AreCases (declaration_view input.now) cases.now }
     ensures { IfOk result (λ text. IsText (declaration_view input.now) (string_bytes text)) }
@@ -39,7 +39,7 @@ fn printed<'x, 'a>(
 /// are none. One that isn't `skip` or `ignore` between delimiters is refused with `Kind::AttrSyntax`, and a second one that is
 /// with `Kind::AttrRepeated`, at its own range. The attributes of an enum and the fields of a skipped struct or variant
 /// aren't looked at. The first refusal in this order is the answer.
-pub fn print<'a>(alloc: Global, input: &DeriveInput<'a>, _trait_name: &str) -> Result<String, Error>
+pub fn print<'a>(alloc: Global, input: &DeriveInput<'a>, _trait_name: &str) -> Read<String>
     requires { IsReadable (declaration_view input.now) }
     ensures { IsPrinted (declaration_view input.now) result }
 {

@@ -2,11 +2,8 @@
 #![tactic(auto, using(dm_print_types::proofs::Laying::print_steps))]
 
 ghost use Rattle.std.specs.Prelude.{◌≡◌, map, OnOk};
-ghost use Rattle.dm_stream.specs.Layout.{nowhere};
-ghost use Rattle.dm_ast.specs.TypeTokens.{path_trees};
-ghost use Rattle.dm_ast.specs.Declarations.{declaration_view};
 ghost use Rattle.dm_output.specs.Tokens as tokens;
-ghost use Rattle.dm_print_types.specs.Laying.{lay};
+ghost use Rattle.dm_print_types.specs.Prelude.{nowhere, path_trees, declaration_view, lay};
 ghost use Rattle.dm_bounds.specs.Needed.{needing};
 ghost use Rattle.dm_partial_eq.specs.Heads.{partial_eq_path};
 ghost use Rattle.dm_partial_eq.specs.Emitted as spec;

@@ -2,9 +2,8 @@
 #![tactic(auto, using(crate::proofs::PrintLaws::printing_steps))]
 
 ghost use Rattle.std.specs.Prelude.{◌≡◌, ◌∷◌, [], map, IfOk, OnOk, string_bytes};
-ghost use Rattle.dm_ast.specs.Declarations.{declaration_view};
 ghost use Rattle.dm_output.specs.Tokens as tokens;
-ghost use Rattle.dm_print_types.specs.Laying.{lay};
+ghost use Rattle.dm_print_types.specs.Prelude.{declaration_view, lay};
 ghost use Rattle.dm_partial_eq.specs.Emitted as spec;
 ghost use Rattle.dm_partial_eq.specs.Printed as printed;
 ghost use Rattle.dm_operands.specs.CaseViews.{case_view};
@@ -18,9 +17,9 @@ use dm_ast::DeriveInput;
 use dm_layout::{Layout, Printed};
 use dm_operands::cases::{CaseRef, is_enum, some_case_left_out, some_compared};
 use dm_print_types::token::{close, fixed, open, word};
-use dm_stream::Delim;
+use dm_stream::{Delim, Made};
 use heads::item_head;
-use std::alloc::{AllocError, Global};
+use std::alloc::Global;
 
 /// Whether values of two variants have to be told apart.
 fn needs_discriminants(input: &DeriveInput<'_>, cases: &[CaseRef<'_, '_>]) -> bool
@@ -144,7 +143,7 @@ pub(crate) fn printed_item<'x, 'a>(
     input: &'x DeriveInput<'a>,
     cases: &[CaseRef<'x, 'a>],
     alloc: Global,
-) -> Result<String, AllocError>
+) -> Made<String>
     ensures { IfOk result (λ s. string_bytes s ≡ tokens.printed (spec.item_for (declaration_view input.now) (map case_view cases.now) ∷ [])) }
 {
     let mut out = Layout::new(alloc);

@@ -8,9 +8,8 @@ ghost use Rattle.dm_output.specs.Views.{pattern_view, named_view};
 
 use crate::node::{NamedNode, NamedNodes, PatternNode, PatternNodes};
 use dm_ast::Path;
-use dm_gather::Made;
 use dm_output::{Binding, NamedPattern, Pattern};
-use dm_stream::{Ident, Literal};
+use dm_stream::{Ident, Literal, Made};
 use std::alloc::Global;
 
 /// `_`

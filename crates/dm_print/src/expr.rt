@@ -4,12 +4,12 @@
 ghost use Rattle.std.specs.Prelude.{◌≡◌, map, codes, cond, OnOk, true};
 ghost use Rattle.dm_stream.specs.Trees.{join};
 ghost use Rattle.dm_stream.specs.declared.tokens.Delim.TheVariants.{Paren, Brace};
-ghost use Rattle.dm_ast.specs.Tree.{path_view, maybe_self_view};
+ghost use Rattle.dm_ast.specs.Tree.{maybe_self_view};
 ghost use Rattle.dm_ast.specs.TypeTokens as syntax;
 ghost use Rattle.dm_output.specs.Output.{ref_expr, map_err, call, build, build_named, opaque_call, unsafe_expr, exprs_of, named_exprs_of, arms_of, stmts_of};
 ghost use Rattle.dm_output.specs.Tokens as spec;
 ghost use Rattle.dm_output.specs.Views.{opaque_view, expr_view, named_expr_view, arm_view, body_view, block_view, stmt_view};
-ghost use Rattle.dm_print_types.specs.Laying.{lay};
+ghost use Rattle.dm_print_types.specs.Prelude.{path_view, lay};
 
 use crate::format::{format_call, write_call};
 use crate::pattern::patterns;

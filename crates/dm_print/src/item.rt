@@ -2,12 +2,10 @@
 #![tactic(auto, using(dm_print_types::proofs::Laying::print_steps))]
 
 ghost use Rattle.std.specs.Prelude.{◌≡◌, map, OnOk, true, option_map};
-ghost use Rattle.dm_ast.specs.Tree.{ty_view, path_view};
-ghost use Rattle.dm_ast.specs.Declarations.{param_view, predicate_view};
 ghost use Rattle.dm_ast.specs.TypeTokens as syntax;
 ghost use Rattle.dm_output.specs.Tokens as spec;
 ghost use Rattle.dm_output.specs.Views.{item_view, method_view, assoc_view, method_param_view};
-ghost use Rattle.dm_print_types.specs.Laying.{lay};
+ghost use Rattle.dm_print_types.specs.Prelude.{ty_view, path_view, param_view, predicate_view, lay};
 
 use crate::attr::attrs;
 use crate::expr::block;

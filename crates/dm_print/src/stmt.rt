@@ -3,12 +3,11 @@
 
 ghost use Rattle.std.specs.Prelude.{◌≡◌, codes, None, OnOk, option_map};
 ghost use Rattle.dm_stream.specs.Trees.{join};
-ghost use Rattle.dm_ast.specs.Tree.{ty_view, path_view};
 ghost use Rattle.dm_ast.specs.TypeTokens as syntax;
 ghost use Rattle.dm_output.specs.Output.{check_stmt, import_stmt, const_stmt};
 ghost use Rattle.dm_output.specs.Tokens as spec;
 ghost use Rattle.dm_output.specs.Views.{opaque_view};
-ghost use Rattle.dm_print_types.specs.Laying.{lay};
+ghost use Rattle.dm_print_types.specs.Prelude.{ty_view, path_view, lay};
 
 use dm_ast::{Opaque, Path, Ty};
 use dm_layout::{Layout, Printed};

@@ -2,12 +2,10 @@
 #![tactic(auto, using(crate::proofs::Laying::print_steps))]
 
 ghost use Rattle.std.specs.Prelude.{◌≡◌, map, OnOk, Some, true, option_map};
-ghost use Rattle.dm_stream.specs.Layout.{nowhere};
-ghost use Rattle.dm_ast.specs.Tree.{ty_view, bound_view};
-ghost use Rattle.dm_ast.specs.Declarations.{listed, param_view, predicate_view};
+ghost use Rattle.dm_ast.specs.Declarations.{listed};
 ghost use Rattle.dm_ast.specs.TypeTokens as syntax;
 ghost use Rattle.dm_output.specs.Tokens as spec;
-ghost use Rattle.dm_print_types.specs.Laying.{lay};
+ghost use Rattle.dm_print_types.specs.Prelude.{nowhere, ty_view, bound_view, param_view, predicate_view, lay};
 
 use crate::path::ty;
 use crate::token::{lifetime, name, punct, punct_if, stream, word};

@@ -2,11 +2,10 @@
 #![tactic(auto, using(crate::proofs::Laying::print_steps))]
 
 ghost use Rattle.std.specs.Prelude.{◌≡◌, map, OnOk, true};
-ghost use Rattle.dm_stream.specs.Layout.{nowhere};
-ghost use Rattle.dm_ast.specs.Tree.{ty_view, some_self, path_view, segment_view, self_view, arguments_view, maybe_self_view, segments_of};
+ghost use Rattle.dm_ast.specs.Tree.{some_self, segment_view, self_view, arguments_view, maybe_self_view, segments_of};
 ghost use Rattle.dm_ast.specs.TypeTokens as syntax;
 ghost use Rattle.dm_output.specs.Tokens as spec;
-ghost use Rattle.dm_print_types.specs.Laying.{lay};
+ghost use Rattle.dm_print_types.specs.Prelude.{nowhere, ty_view, path_view, lay};
 
 use crate::token::{joint, joint_if, name, stream};
 use dm_ast::{Path, PathArguments, PathSegment, QSelf, Ty};

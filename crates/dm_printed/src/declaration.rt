@@ -11,14 +11,14 @@ use dm_gather::Node;
 use dm_lexer::lex;
 use dm_names::check_names_in;
 use dm_read_decl::parse_decl;
-use dm_stream::Error;
+use dm_stream::Read;
 use std::alloc::Global;
 
 /// A declaration that was read, in a box that hides how its tree is dropped.
 pub type Declaration<'a> = Node<DeriveInput<'a>>;
 
 /// The declaration of a text, whose names may be declared. The refusals are those of `lex`, `parse_decl` and `check_names_in`, in this order.
-pub fn read<'a>(alloc: Global, decl: &'a str) -> Result<Declaration<'a>, Error>
+pub fn read<'a>(alloc: Global, decl: &'a str) -> Read<Declaration<'a>>
     ensures reads { Reads decl.now result }
     ensures of_text { IfOk result (λ d. IsOfText (declaration_view d)) }
 {

@@ -11,7 +11,7 @@ ghost use Rattle.dm_printed.specs.Derived.{IsDerivable, IsUnrefused, Names, Prin
 use crate::declaration::read;
 use crate::predicates::counted;
 use crate::traits::{Trait, printed, trait_named};
-use dm_stream::{Error, Kind, Refusal, Span};
+use dm_stream::{Error, Kind, Read, Refusal, Span};
 use std::alloc::Global;
 
 /// What a name that is none of a trait that is derived is refused with.
@@ -39,7 +39,7 @@ pub fn unknown_trait() -> Error
 /// - `Kind::ReservedName`: a name begins with `__`, or the type or a type or const parameter is called `derive_more`, at the first
 ///   such name;
 /// - what the trait refuses, see `partial_eq::print`, and of the operators `plan_for`.
-pub fn derive_printed(alloc: Global, trait_name: &str, decl: &str) -> Result<String, Error>
+pub fn derive_printed(alloc: Global, trait_name: &str, decl: &str) -> Read<String>
     ensures prints { Prints trait_name.now decl.now result }
     ensures complete { IsDerivable trait_name.now decl.now → IsUnrefused result }
 {
@@ -49,7 +49,7 @@ pub fn derive_printed(alloc: Global, trait_name: &str, decl: &str) -> Result<Str
     }
 }
 
-fn print_known(alloc: Global, derived: Trait, decl: &str) -> Result<String, Error>
+fn print_known(alloc: Global, derived: Trait, decl: &str) -> Read<String>
     requires { IsDerived derived }
     ensures { (name : List ℕ) → Names name (trait_view derived) → Prints name decl.now result }
 {
@@ -60,7 +60,7 @@ fn print_known(alloc: Global, derived: Trait, decl: &str) -> Result<String, Erro
 }
 
 /// How many predicates the where clause of that implementation has. It refuses where [derive_printed] does.
-pub fn count_predicates(alloc: Global, trait_name: &str, decl: &str) -> Result<usize, Error>
+pub fn count_predicates(alloc: Global, trait_name: &str, decl: &str) -> Read<usize>
     ensures counts { Counts trait_name.now decl.now result }
     ensures complete { IsDerivable trait_name.now decl.now → IsUnrefused result }
 {
@@ -70,7 +70,7 @@ pub fn count_predicates(alloc: Global, trait_name: &str, decl: &str) -> Result<u
     }
 }
 
-fn count_known(alloc: Global, derived: Trait, decl: &str) -> Result<usize, Error>
+fn count_known(alloc: Global, derived: Trait, decl: &str) -> Read<usize>
     requires { IsDerived derived }
     ensures { (name : List ℕ) → Names name (trait_view derived) → Counts name decl.now result }
 {

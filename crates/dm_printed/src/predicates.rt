@@ -21,12 +21,12 @@ use dm_operator_heads::all_predicates;
 use dm_operators::operator::{Implemented, Operator};
 use dm_operators::places::plan_for;
 use dm_partial_eq::predicates::Compares;
-use dm_stream::Error;
+use dm_stream::{Error, Made, Read};
 use dm_where_clauses::needed::with_needed;
 use std::alloc::{AllocError, Global};
 
 /// How many there are of what was made.
-fn number<T: Drop>(made: Result<Vec<T>, AllocError>) -> Result<usize, AllocError>
+fn number<T: Drop>(made: Result<Vec<T>, AllocError>) -> Made<usize>
     ensures { IfOk result (λ n. IsOkAnd made (λ all. n ≡ length all.items)) }
 {
     match made {
@@ -35,18 +35,14 @@ fn number<T: Drop>(made: Result<Vec<T>, AllocError>) -> Result<usize, AllocError
     }
 }
 
-fn compared_count(alloc: Global, input: &DeriveInput<'_>) -> Result<usize, Error>
+fn compared_count(alloc: Global, input: &DeriveInput<'_>) -> Read<usize>
     ensures { IsWalked (comparing.refusal (declaration_view input.now)) (λ n. n ≡ length (compared.item (declaration_view input.now)).predicates) result }
 {
     let cases = cases_of(alloc, input)?;
     Ok(number(with_needed(input, cases.as_slice(), &Compares, alloc))?)
 }
 
-fn operated_count(
-    input: &DeriveInput<'_>,
-    operator: &Operator,
-    alloc: Global,
-) -> Result<usize, Error>
+fn operated_count(input: &DeriveInput<'_>, operator: &Operator, alloc: Global) -> Read<usize>
     ensures { IsWalked (operating.refusal (operator_view operator.now) (declaration_view input.now))
         (λ n. n ≡ length (item_of (operator_view operator.now) (declaration_view input.now)).predicates) result }
 {
@@ -60,7 +56,7 @@ fn operated_count(
 }
 
 /// How many predicates the trait's implementation for a declaration has.
-fn count(alloc: Global, derived: Trait, input: &DeriveInput<'_>) -> Result<usize, Error>
+fn count(alloc: Global, derived: Trait, input: &DeriveInput<'_>) -> Read<usize>
     ensures { IsWalked (spec.refusal (trait_view derived) (declaration_view input.now))
         (λ n. n ≡ length (spec.emitted (trait_view derived) (declaration_view input.now)).predicates) result }
 {
@@ -71,7 +67,7 @@ fn count(alloc: Global, derived: Trait, input: &DeriveInput<'_>) -> Result<usize
 }
 
 /// A number, where the text beside it could be made.
-fn beside<T: Drop>(number: usize, text: Result<T, Error>) -> Result<usize, Error>
+fn beside<T: Drop>(number: usize, text: Result<T, Error>) -> Read<usize>
     ensures { MatchResult text (λ _. result ≡ Ok number) (λ e. result ≡ Err e) }
 {
     match text {
@@ -81,11 +77,7 @@ fn beside<T: Drop>(number: usize, text: Result<T, Error>) -> Result<usize, Error
 }
 
 /// How many predicates the implementation has that the trait prints for a declaration.
-pub(crate) fn counted(
-    alloc: Global,
-    derived: Trait,
-    input: &DeriveInput<'_>,
-) -> Result<usize, Error>
+pub(crate) fn counted(alloc: Global, derived: Trait, input: &DeriveInput<'_>) -> Read<usize>
     requires derived { IsDerived derived }
     requires readable { IsReadable (declaration_view input.now) }
     ensures { TraitCounts (trait_view derived) (declaration_view input.now) result }

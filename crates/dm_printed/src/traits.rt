@@ -11,7 +11,7 @@ use dm_ast::DeriveInput;
 use dm_operations::expand;
 use dm_operators::operator::{Operator, operator_named};
 use dm_partial_eq::partial_eq;
-use dm_stream::Error;
+use dm_stream::Read;
 use std::alloc::Global;
 
 /// A trait that is derived.
@@ -35,7 +35,7 @@ pub fn trait_named(name: &str) -> Option<Trait>
 }
 
 /// The text of what the trait answers of a declaration.
-pub fn printed(alloc: Global, derived: Trait, input: &DeriveInput<'_>) -> Result<String, Error>
+pub fn printed(alloc: Global, derived: Trait, input: &DeriveInput<'_>) -> Read<String>
     requires derived { IsDerived derived }
     requires readable { IsReadable (declaration_view input.now) }
     ensures { TraitPrints (trait_view derived) (declaration_view input.now) result }

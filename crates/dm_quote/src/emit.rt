@@ -15,7 +15,7 @@ use dm_ast::{
     BareFn, Bound, ConstArg, FnArg, GenericArgument, Opaque, Path, PathArguments, PathSegment,
     PlainPath, QSelf, TraitBound, Ty, TyNode,
 };
-use dm_stream::{Delim, Ident, Lifetime, Punctuated, Span, TokenStream};
+use dm_stream::{Delim, Ident, Lifetime, Made, Punctuated, Span, TokenStream};
 use std::alloc::AllocError;
 
 /// Adds a type. Each of its own tokens stands at the range of the innermost type around it, delimiters at no place of a
@@ -29,11 +29,7 @@ pub fn write_type<'a>(out: &mut TokenStream<'a>, ty: &Ty<'a>) -> Result<(), Allo
 }
 
 #[cycle(emit)]
-fn write_node<'a>(
-    out: &mut TokenStream<'a>,
-    node: &TyNode<'a>,
-    span: Span,
-) -> Result<(), AllocError>
+fn write_node<'a>(out: &mut TokenStream<'a>, node: &TyNode<'a>, span: Span) -> Made<()>
     ensures added { OnOk result (out.new.trees ≡ join out.old.trees (spec.node_trees span (tree.node_view node.now))) }
     ensures limit { out.new.limit ≡ out.old.limit }
 {
@@ -77,7 +73,7 @@ fn write_reference<'a>(
     is_mut: bool,
     inner: &Ty<'a>,
     span: Span,
-) -> Result<(), AllocError>
+) -> Made<()>
     ensures added { OnOk result (out.new.trees ≡ join out.old.trees (spec.node_trees span (tree.reference name.now is_mut (tree.ty_view inner.now)))) }
     ensures limit { out.new.limit ≡ out.old.limit }
 {
@@ -94,7 +90,7 @@ fn write_pointer<'a>(
     is_mut: bool,
     inner: &Ty<'a>,
     span: Span,
-) -> Result<(), AllocError>
+) -> Made<()>
     ensures added { OnOk result (out.new.trees ≡ join out.old.trees (spec.node_trees span (tree.pointer is_mut (tree.ty_view inner.now)))) }
     ensures limit { out.new.limit ≡ out.old.limit }
 {
@@ -103,7 +99,7 @@ fn write_pointer<'a>(
     write_type(out, inner)
 }
 
-fn write_pointer_word(out: &mut TokenStream<'_>, is_mut: bool, span: Span) -> Result<(), AllocError>
+fn write_pointer_word(out: &mut TokenStream<'_>, is_mut: bool, span: Span) -> Made<()>
     ensures added { OnOk result (out.new.trees ≡ join out.old.trees (cond is_mut (spec.word (codes "mut") span) (spec.word (codes "const") span))) }
     ensures limit { out.new.limit ≡ out.old.limit }
 {
@@ -120,7 +116,7 @@ fn write_macro<'a>(
     delim: Delim,
     tokens: &TokenStream<'a>,
     span: Span,
-) -> Result<(), AllocError>
+) -> Made<()>
     ensures added { OnOk result (out.new.trees ≡ join out.old.trees (spec.node_trees span (tree.macro_type path.now delim tokens.now))) }
     ensures limit { out.new.limit ≡ out.old.limit }
 {
@@ -130,11 +126,7 @@ fn write_macro<'a>(
 }
 
 #[cycle(emit)]
-fn write_enclosed<'a>(
-    out: &mut TokenStream<'a>,
-    delim: Delim,
-    inner: &Ty<'a>,
-) -> Result<(), AllocError>
+fn write_enclosed<'a>(out: &mut TokenStream<'a>, delim: Delim, inner: &Ty<'a>) -> Made<()>
     ensures added { OnOk result (out.new.trees ≡ join out.old.trees (spec.grouped delim (spec.type_trees (tree.ty_view inner.now)))) }
     ensures limit { out.new.limit ≡ out.old.limit }
 {
@@ -149,7 +141,7 @@ fn write_array<'a>(
     inner: &Ty<'a>,
     size: &Opaque<'a>,
     span: Span,
-) -> Result<(), AllocError>
+) -> Made<()>
     ensures added { OnOk result (out.new.trees ≡ join out.old.trees (spec.node_trees span (tree.array (tree.ty_view inner.now) size.now))) }
     ensures limit { out.new.limit ≡ out.old.limit }
 {
@@ -166,7 +158,7 @@ fn write_tuple<'a>(
     all: &[Ty<'a>],
     trailing: bool,
     span: Span,
-) -> Result<(), AllocError>
+) -> Made<()>
     ensures added { OnOk result (out.new.trees ≡ join out.old.trees (spec.node_trees span (tree.tuple (tree.types_of (map tree.ty_view all.now)) trailing))) }
     ensures limit { out.new.limit ≡ out.old.limit }
 {
@@ -181,7 +173,7 @@ fn write_types<'a>(
     all: &[Ty<'a>],
     trailing: bool,
     span: Span,
-) -> Result<(), AllocError>
+) -> Made<()>
     ensures added { OnOk result (out.new.trees ≡ join out.old.trees (spec.listed 44 span (spec.each_type (tree.types_of (map tree.ty_view all.now))) trailing)) }
     ensures limit { out.new.limit ≡ out.old.limit }
 {
@@ -231,11 +223,7 @@ pub fn write_bound<'a>(
 }
 
 #[cycle(emit)]
-fn write_trait_bound<'a>(
-    out: &mut TokenStream<'a>,
-    bound: &TraitBound<'a>,
-    span: Span,
-) -> Result<(), AllocError>
+fn write_trait_bound<'a>(out: &mut TokenStream<'a>, bound: &TraitBound<'a>, span: Span) -> Made<()>
     ensures added { OnOk result (out.new.trees ≡ join out.old.trees (spec.trait_bound_trees span (tree.trait_view bound.now))) }
     ensures limit { out.new.limit ≡ out.old.limit }
 {
@@ -250,11 +238,7 @@ fn write_trait_bound<'a>(
 }
 
 #[cycle(emit)]
-fn write_fn<'a>(
-    out: &mut TokenStream<'a>,
-    function: &BareFn<'a>,
-    span: Span,
-) -> Result<(), AllocError>
+fn write_fn<'a>(out: &mut TokenStream<'a>, function: &BareFn<'a>, span: Span) -> Made<()>
     ensures added { OnOk result (out.new.trees ≡ join out.old.trees (spec.fn_trees span (tree.fn_view function.now))) }
     ensures limit { out.new.limit ≡ out.old.limit }
 {
@@ -273,7 +257,7 @@ fn write_fn<'a>(
 }
 
 #[cycle(emit)]
-fn write_output<'a>(out: &mut TokenStream<'a>, ty: &Ty<'a>, span: Span) -> Result<(), AllocError>
+fn write_output<'a>(out: &mut TokenStream<'a>, ty: &Ty<'a>, span: Span) -> Made<()>
     ensures added { OnOk result (out.new.trees ≡ join out.old.trees (spec.output_trees span (tree.some_type (tree.ty_view ty.now)))) }
     ensures limit { out.new.limit ≡ out.old.limit }
 {
@@ -287,7 +271,7 @@ fn write_inputs<'a>(
     all: &[FnArg<'a>],
     trailing: bool,
     span: Span,
-) -> Result<(), AllocError>
+) -> Made<()>
     ensures added { OnOk result (out.new.trees ≡ join out.old.trees (spec.listed 44 span (spec.each_input span (tree.inputs_of (map tree.input_view all.now))) trailing)) }
     ensures limit { out.new.limit ≡ out.old.limit }
 {
@@ -301,11 +285,7 @@ fn write_inputs<'a>(
 }
 
 #[cycle(emit)]
-fn write_input<'a>(
-    out: &mut TokenStream<'a>,
-    input: &FnArg<'a>,
-    span: Span,
-) -> Result<(), AllocError>
+fn write_input<'a>(out: &mut TokenStream<'a>, input: &FnArg<'a>, span: Span) -> Made<()>
     ensures added { OnOk result (out.new.trees ≡ join out.old.trees (spec.input_trees span (tree.input_view input.now))) }
     ensures limit { out.new.limit ≡ out.old.limit }
 {
@@ -330,11 +310,7 @@ pub fn write_path<'a>(
 
 /// Adds `<Self`.
 #[cycle(emit)]
-fn write_self<'a>(
-    out: &mut TokenStream<'a>,
-    qself: &QSelf<'a>,
-    span: Span,
-) -> Result<(), AllocError>
+fn write_self<'a>(out: &mut TokenStream<'a>, qself: &QSelf<'a>, span: Span) -> Made<()>
     ensures added { OnOk result (out.new.trees ≡ join out.old.trees (join (spec.punct 60 span) (spec.type_trees (tree.ty_view qself.now.ty)))) }
     ensures limit { out.new.limit ≡ out.old.limit }
 {
@@ -350,7 +326,7 @@ fn write_behind_self<'a>(
     position: usize,
     leading_colon: bool,
     span: Span,
-) -> Result<(), AllocError>
+) -> Made<()>
     ensures added { OnOk result (out.new.trees ≡ join out.old.trees (spec.behind_self_trees span position leading_colon (spec.each_segment span (tree.segments_of (map tree.segment_view all.now))))) }
     ensures limit { out.new.limit ≡ out.old.limit }
 {
@@ -381,11 +357,7 @@ pub fn write_qualified<'a>(
 }
 
 #[cycle(emit)]
-fn write_segments<'a>(
-    out: &mut TokenStream<'a>,
-    all: &[PathSegment<'a>],
-    span: Span,
-) -> Result<(), AllocError>
+fn write_segments<'a>(out: &mut TokenStream<'a>, all: &[PathSegment<'a>], span: Span) -> Made<()>
     ensures added { OnOk result (out.new.trees ≡ join out.old.trees (spec.spaced (spec.colons span) true (spec.each_segment span (tree.segments_of (map tree.segment_view all.now))))) }
     ensures limit { out.new.limit ≡ out.old.limit }
 {
@@ -405,7 +377,7 @@ fn write_first<'a>(
     all: &[PathSegment<'a>],
     position: usize,
     span: Span,
-) -> Result<(), AllocError>
+) -> Made<()>
     ensures added { OnOk result (out.new.trees ≡ join out.old.trees (spec.spaced (spec.colons span) true (take position (spec.each_segment span (tree.segments_of (map tree.segment_view all.now)))))) }
     ensures limit { out.new.limit ≡ out.old.limit }
 {
@@ -428,7 +400,7 @@ fn write_later<'a>(
     all: &[PathSegment<'a>],
     position: usize,
     span: Span,
-) -> Result<(), AllocError>
+) -> Made<()>
     ensures added { OnOk result (out.new.trees ≡ join out.old.trees (spec.spaced (spec.colons span) false (drop position (spec.each_segment span (tree.segments_of (map tree.segment_view all.now)))))) }
     ensures limit { out.new.limit ≡ out.old.limit }
 {
@@ -443,11 +415,7 @@ fn write_later<'a>(
 }
 
 #[cycle(emit)]
-fn write_segment<'a>(
-    out: &mut TokenStream<'a>,
-    segment: &PathSegment<'a>,
-    span: Span,
-) -> Result<(), AllocError>
+fn write_segment<'a>(out: &mut TokenStream<'a>, segment: &PathSegment<'a>, span: Span) -> Made<()>
     ensures added { OnOk result (out.new.trees ≡ join out.old.trees (spec.segment_trees span (tree.segment_view segment.now))) }
     ensures limit { out.new.limit ≡ out.old.limit }
 {
@@ -488,7 +456,7 @@ fn write_angle<'a>(
     all: &[GenericArgument<'a>],
     trailing: bool,
     span: Span,
-) -> Result<(), AllocError>
+) -> Made<()>
     ensures added { OnOk result (out.new.trees ≡ join out.old.trees (spec.angle_trees span (spec.each_argument span (tree.arguments_of (map tree.argument_view all.now))) trailing)) }
     ensures limit { out.new.limit ≡ out.old.limit }
 {
@@ -503,7 +471,7 @@ fn write_angle_items<'a>(
     all: &[GenericArgument<'a>],
     trailing: bool,
     span: Span,
-) -> Result<(), AllocError>
+) -> Made<()>
     ensures added { OnOk result (out.new.trees ≡ join out.old.trees (spec.listed 44 span (spec.each_argument span (tree.arguments_of (map tree.argument_view all.now))) trailing)) }
     ensures limit { out.new.limit ≡ out.old.limit }
 {
@@ -518,11 +486,7 @@ fn write_angle_items<'a>(
 
 /// Adds `= Type`.
 #[cycle(emit)]
-fn write_equal_type<'a>(
-    out: &mut TokenStream<'a>,
-    ty: &Ty<'a>,
-    span: Span,
-) -> Result<(), AllocError>
+fn write_equal_type<'a>(out: &mut TokenStream<'a>, ty: &Ty<'a>, span: Span) -> Made<()>
     ensures added { OnOk result (out.new.trees ≡ join out.old.trees (join (spec.punct 61 span) (spec.type_trees (tree.ty_view ty.now)))) }
     ensures limit { out.new.limit ≡ out.old.limit }
 {
@@ -531,11 +495,7 @@ fn write_equal_type<'a>(
 }
 
 /// Adds `= value`.
-fn write_equal_const<'a>(
-    out: &mut TokenStream<'a>,
-    value: &ConstArg<'a>,
-    span: Span,
-) -> Result<(), AllocError>
+fn write_equal_const<'a>(out: &mut TokenStream<'a>, value: &ConstArg<'a>, span: Span) -> Made<()>
     ensures added { OnOk result (out.new.trees ≡ join out.old.trees (join (spec.punct 61 span) (spec.const_trees span value.now))) }
     ensures limit { out.new.limit ≡ out.old.limit }
 {
@@ -549,7 +509,7 @@ fn write_argument<'a>(
     out: &mut TokenStream<'a>,
     argument: &GenericArgument<'a>,
     span: Span,
-) -> Result<(), AllocError>
+) -> Made<()>
     ensures added { OnOk result (out.new.trees ≡ join out.old.trees (spec.argument_trees span (tree.argument_view argument.now))) }
     ensures limit { out.new.limit ≡ out.old.limit }
 {
@@ -591,7 +551,7 @@ fn write_constraint<'a>(
     all: &[Bound<'a>],
     trailing: bool,
     span: Span,
-) -> Result<(), AllocError>
+) -> Made<()>
     ensures added { OnOk result (out.new.trees ≡ join out.old.trees (join (spec.punct 58 span) (spec.listed 43 span (spec.each_bound span (tree.bounds_of (map tree.bound_view all.now))) trailing))) }
     ensures limit { out.new.limit ≡ out.old.limit }
 {

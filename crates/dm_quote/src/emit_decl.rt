@@ -20,14 +20,10 @@ use dm_ast::{
     Bound, ConstArg, ConstParam, Data, DeriveInput, Field, Fields, GenericParam, Generics,
     LifetimeParam, Opaque, Ty, TyParam, Variant, Vis, WherePredicate,
 };
-use dm_stream::{Delim, Ident, Lifetime, Punctuated, Span, TokenStream};
+use dm_stream::{Delim, Ident, Lifetime, Made, Punctuated, Span, TokenStream};
 use std::alloc::AllocError;
 
-fn write_vis<'a>(
-    out: &mut TokenStream<'a>,
-    vis: &Option<Vis<'a>>,
-    span: Span,
-) -> Result<(), AllocError>
+fn write_vis<'a>(out: &mut TokenStream<'a>, vis: &Option<Vis<'a>>, span: Span) -> Made<()>
     ensures added { OnOk result (out.new.trees ≡ join out.old.trees (spec.vis_trees span vis.now)) }
     ensures limit { out.new.limit ≡ out.old.limit }
 {
@@ -41,7 +37,7 @@ fn write_vis<'a>(
 }
 
 /// Adds what stands behind `pub`.
-fn write_reach<'a>(out: &mut TokenStream<'a>, vis: &Vis<'a>, span: Span) -> Result<(), AllocError>
+fn write_reach<'a>(out: &mut TokenStream<'a>, vis: &Vis<'a>, span: Span) -> Made<()>
     ensures added { OnOk result (out.new.trees ≡ join out.old.trees (spec.reach_trees span vis.now)) }
     ensures limit { out.new.limit ≡ out.old.limit }
 {
@@ -62,7 +58,7 @@ fn write_reach<'a>(out: &mut TokenStream<'a>, vis: &Vis<'a>, span: Span) -> Resu
 fn write_outlived<'a>(
     out: &mut TokenStream<'a>,
     bounds: &Option<Punctuated<Lifetime<'a>>>,
-) -> Result<(), AllocError>
+) -> Made<()>
     ensures added { OnOk result (out.new.trees ≡ join out.old.trees (spec.outlived_trees bounds.now)) }
     ensures limit { out.new.limit ≡ out.old.limit }
 {
@@ -78,7 +74,7 @@ fn write_outlived<'a>(
 fn write_colon_bounds<'a>(
     out: &mut TokenStream<'a>,
     bounds: &Option<Punctuated<Bound<'a>>>,
-) -> Result<(), AllocError>
+) -> Made<()>
     ensures added { OnOk result (out.new.trees ≡ join out.old.trees (spec.colon_bounds_trees (option_map (tree.listed bound_view) bounds.now))) }
     ensures limit { out.new.limit ≡ out.old.limit }
 {
@@ -91,10 +87,7 @@ fn write_colon_bounds<'a>(
     }
 }
 
-fn write_default_type<'a>(
-    out: &mut TokenStream<'a>,
-    default_ty: &Option<Ty<'a>>,
-) -> Result<(), AllocError>
+fn write_default_type<'a>(out: &mut TokenStream<'a>, default_ty: &Option<Ty<'a>>) -> Made<()>
     ensures added { OnOk result (out.new.trees ≡ join out.old.trees (spec.default_type_trees (option_map ty_view default_ty.now))) }
     ensures limit { out.new.limit ≡ out.old.limit }
 {
@@ -110,7 +103,7 @@ fn write_default_type<'a>(
 fn write_default_const<'a>(
     out: &mut TokenStream<'a>,
     default_value: &Option<ConstArg<'a>>,
-) -> Result<(), AllocError>
+) -> Made<()>
     ensures added { OnOk result (out.new.trees ≡ join out.old.trees (spec.default_const_trees default_value.now)) }
     ensures limit { out.new.limit ≡ out.old.limit }
 {
@@ -123,10 +116,7 @@ fn write_default_const<'a>(
     }
 }
 
-fn write_lifetime_param<'a>(
-    out: &mut TokenStream<'a>,
-    param: &LifetimeParam<'a>,
-) -> Result<(), AllocError>
+fn write_lifetime_param<'a>(out: &mut TokenStream<'a>, param: &LifetimeParam<'a>) -> Made<()>
     ensures added { OnOk result (out.new.trees ≡ join out.old.trees (spec.param_trees (tree.param_view (params.Lifetime param.now)))) }
     ensures limit { out.new.limit ≡ out.old.limit }
 {
@@ -135,7 +125,7 @@ fn write_lifetime_param<'a>(
     write_outlived(out, &param.bounds)
 }
 
-fn write_type_param<'a>(out: &mut TokenStream<'a>, param: &TyParam<'a>) -> Result<(), AllocError>
+fn write_type_param<'a>(out: &mut TokenStream<'a>, param: &TyParam<'a>) -> Made<()>
     ensures added { OnOk result (out.new.trees ≡ join out.old.trees (spec.param_trees (tree.param_view (params.Ty param.now)))) }
     ensures limit { out.new.limit ≡ out.old.limit }
 {
@@ -145,10 +135,7 @@ fn write_type_param<'a>(out: &mut TokenStream<'a>, param: &TyParam<'a>) -> Resul
     write_default_type(out, &param.default_ty)
 }
 
-fn write_const_param<'a>(
-    out: &mut TokenStream<'a>,
-    param: &ConstParam<'a>,
-) -> Result<(), AllocError>
+fn write_const_param<'a>(out: &mut TokenStream<'a>, param: &ConstParam<'a>) -> Made<()>
     ensures added { OnOk result (out.new.trees ≡ join out.old.trees (spec.param_trees (tree.param_view (params.Const param.now)))) }
     ensures limit { out.new.limit ≡ out.old.limit }
 {
@@ -172,7 +159,7 @@ impl<'a> Item<'a> for GenericParam<'a> {
     }
 }
 
-fn write_params<'a>(out: &mut TokenStream<'a>, generics: &Generics<'a>) -> Result<(), AllocError>
+fn write_params<'a>(out: &mut TokenStream<'a>, generics: &Generics<'a>) -> Made<()>
     ensures added { OnOk result (out.new.trees ≡ join out.old.trees (spec.params_trees (tree.generics_view generics.now))) }
     ensures limit { out.new.limit ≡ out.old.limit }
 {
@@ -207,7 +194,7 @@ impl<'a> Item<'a> for WherePredicate<'a> {
 fn write_where<'a>(
     out: &mut TokenStream<'a>,
     clause: &Option<Punctuated<WherePredicate<'a>>>,
-) -> Result<(), AllocError>
+) -> Made<()>
     ensures added { OnOk result (out.new.trees ≡ join out.old.trees (spec.where_trees (option_map (tree.listed tree.predicate_view) clause.now))) }
     ensures limit { out.new.limit ≡ out.old.limit }
 {
@@ -236,7 +223,7 @@ fn write_enclosed_fields<'a>(
     out: &mut TokenStream<'a>,
     delim: Delim,
     fields: &Punctuated<Field<'a>>,
-) -> Result<(), AllocError>
+) -> Made<()>
     ensures added { OnOk result (out.new.trees ≡ join out.old.trees (types.grouped delim (spec.field_list_trees (tree.listed tree.field_view fields.now)))) }
     ensures limit { out.new.limit ≡ out.old.limit }
 {
@@ -245,7 +232,7 @@ fn write_enclosed_fields<'a>(
     group(out, delim, inside)
 }
 
-fn write_fields<'a>(out: &mut TokenStream<'a>, fields: &Fields<'a>) -> Result<(), AllocError>
+fn write_fields<'a>(out: &mut TokenStream<'a>, fields: &Fields<'a>) -> Made<()>
     ensures added { OnOk result (out.new.trees ≡ join out.old.trees (spec.fields_trees (tree.fields_view fields.now))) }
     ensures limit { out.new.limit ≡ out.old.limit }
 {
@@ -260,7 +247,7 @@ fn write_discriminant<'a>(
     out: &mut TokenStream<'a>,
     discriminant: &Option<Opaque<'a>>,
     span: Span,
-) -> Result<(), AllocError>
+) -> Made<()>
     ensures added { OnOk result (out.new.trees ≡ join out.old.trees (spec.discriminant_trees span discriminant.now)) }
     ensures limit { out.new.limit ≡ out.old.limit }
 {
@@ -288,7 +275,7 @@ impl<'a> Item<'a> for Variant<'a> {
 fn write_enclosed_variants<'a>(
     out: &mut TokenStream<'a>,
     variants: &Punctuated<Variant<'a>>,
-) -> Result<(), AllocError>
+) -> Made<()>
     ensures added { OnOk result (out.new.trees ≡ join out.old.trees (types.grouped Brace (spec.variant_list_trees (tree.listed tree.variant_view variants.now)))) }
     ensures limit { out.new.limit ≡ out.old.limit }
 {
@@ -302,7 +289,7 @@ fn write_struct_body<'a>(
     out: &mut TokenStream<'a>,
     clause: &Option<Punctuated<WherePredicate<'a>>>,
     fields: &Fields<'a>,
-) -> Result<(), AllocError>
+) -> Made<()>
     ensures added { OnOk result (out.new.trees ≡ join out.old.trees (spec.struct_body_trees (option_map (tree.listed tree.predicate_view) clause.now) (tree.fields_view fields.now))) }
     ensures limit { out.new.limit ≡ out.old.limit }
 {
@@ -330,7 +317,7 @@ fn write_head<'a>(
     range: Span,
     ident: &Ident<'a>,
     generics: &Generics<'a>,
-) -> Result<(), AllocError>
+) -> Made<()>
     ensures added { OnOk result (out.new.trees ≡ join out.old.trees (spec.head_trees text.now range ident.now (tree.generics_view generics.now))) }
     ensures limit { out.new.limit ≡ out.old.limit }
 {
@@ -344,7 +331,7 @@ fn write_shape<'a>(
     ident: &Ident<'a>,
     generics: &Generics<'a>,
     shape: &Data<'a>,
-) -> Result<(), AllocError>
+) -> Made<()>
     ensures added { OnOk result (out.new.trees ≡ join out.old.trees (spec.shape_trees ident.now (tree.generics_view generics.now) (tree.shape_view shape.now))) }
     ensures limit { out.new.limit ≡ out.old.limit }
 {

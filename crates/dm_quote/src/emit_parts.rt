@@ -8,7 +8,8 @@ ghost use Rattle.dm_ast.specs.TypeTokens as spec;
 
 use dm_ast::{AttrArgs, Attribute, ConstArg, PlainPath};
 use dm_stream::{
-    Delim, Ident, Lifetime, Literal, Punct, Punctuated, Spacing, Span, Text, Token, TokenStream,
+    Delim, Ident, Lifetime, Literal, Made, Punct, Punctuated, Spacing, Span, Text, Token,
+    TokenStream,
 };
 use std::alloc::AllocError;
 
@@ -192,7 +193,7 @@ pub enum Separator {
     Colons,
 }
 
-fn separate(out: &mut TokenStream<'_>, separator: Separator, span: Span) -> Result<(), AllocError>
+fn separate(out: &mut TokenStream<'_>, separator: Separator, span: Span) -> Made<()>
     ensures added { OnOk result (out.new.trees ≡ join out.old.trees (separator_trees separator span)) }
     ensures limit { out.new.limit ≡ out.old.limit }
 {

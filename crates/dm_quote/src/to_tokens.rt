@@ -16,11 +16,11 @@ use crate::emit::{write_bound, write_path, write_type};
 use crate::emit_decl::write_declaration;
 use crate::emit_parts::Item;
 use dm_ast::{Bound, DeriveInput, GenericParam, Opaque, Path, Ty, WherePredicate};
-use dm_stream::{Span, TokenStream};
+use dm_stream::{Made, Span, TokenStream};
 use std::alloc::AllocError;
 
 /// Adds all trees of a list, or none for want of memory.
-fn add_all<'a>(out: &mut TokenStream<'a>, tokens: &TokenStream<'a>) -> Result<(), AllocError>
+fn add_all<'a>(out: &mut TokenStream<'a>, tokens: &TokenStream<'a>) -> Made<()>
     ensures added { OnOk result (out.new.trees ≡ join out.old.trees tokens.now.trees) }
     ensures partly { OnErr result (IsPartly out.old.trees tokens.now.trees out.new.trees) }
     ensures limit { out.new.limit ≡ out.old.limit }

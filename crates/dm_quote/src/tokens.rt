@@ -7,7 +7,7 @@ ghost use Rattle.dm_stream.specs.Trees.{Trees, join, no_trees, token};
 ghost use Rattle.dm_quote.specs.Appends.{IsPartly};
 ghost use Rattle.dm_stream.specs.Cursors.{sound_piece, trees_in};
 
-use dm_stream::{Ident, Lifetime, Literal, Piece, Punct, Token, TokenStream};
+use dm_stream::{Ident, Lifetime, Literal, Made, Piece, Punct, Token, TokenStream};
 use std::alloc::AllocError;
 
 /// A value that stands for tokens.
@@ -26,7 +26,7 @@ pub trait ToTokens<'a> {
         ensures limit { out.new.limit ≡ out.old.limit };
 }
 
-fn push_token<'a>(out: &mut TokenStream<'a>, item: Token<'a>) -> Result<(), AllocError>
+fn push_token<'a>(out: &mut TokenStream<'a>, item: Token<'a>) -> Made<()>
     ensures added { OnOk result (out.new.trees ≡ join out.old.trees (token item.entry no_trees)) }
     ensures partly { OnErr result (IsPartly out.old.trees (token item.entry no_trees) out.new.trees) }
     ensures limit { out.new.limit ≡ out.old.limit }

@@ -11,7 +11,7 @@ ghost use Rattle.dm_ast.specs.PlainReaders as plain;
 ghost use Rattle.dm_ast.specs.Readers.{place, Opens};
 
 use crate::token::{Found, at_end, refused, sees_group, too_deep};
-use dm_stream::{Cursor, DEEPEST, Delim, Error};
+use dm_stream::{Cursor, DEEPEST, Delim, Read};
 
 /// The inside of a group with this delimiter, and what follows the group.
 #[tactic(auto, using(crate::proofs::Opening::opening_steps))]
@@ -31,7 +31,7 @@ pub fn open<'t, 'a>(delim: Delim, level: usize, c: Cursor<'t, 'a>) -> Found<'t, 
 }
 
 /// Refuses what is left of the inside of a group.
-pub fn close(c: Cursor<'_, '_>) -> Result<(), Error>
+pub fn close(c: Cursor<'_, '_>) -> Read<()>
     requires { sound c }
     ensures { MatchResult result (λ _. spelling.at_end (left c.entry) ≡ true) (λ e. (spelling.at_end (left c.entry) ≡ false) × (e ≡ Refused (record { kind = Syntax; span = front_span (left c.entry) (end_of c.entry) }))) }
 {

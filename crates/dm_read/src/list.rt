@@ -14,7 +14,7 @@ use crate::token::{
     Found, at_end, colons, punct, refused, sees, sees_colons, sees_group, sees_lifetime,
 };
 use crate::words::sees_bound;
-use dm_stream::{Cursor, Delim, Error, Punctuated, Seq};
+use dm_stream::{Cursor, Delim, Punctuated, Read, Seq};
 use std::alloc::Global;
 
 /// Reads one part.
@@ -124,7 +124,7 @@ fn begins(link: Link, c: Cursor<'_, '_>) -> bool
     }
 }
 
-fn past<'t, 'a>(link: Link, level: usize, c: Cursor<'t, 'a>) -> Result<Cursor<'t, 'a>, Error>
+fn past<'t, 'a>(link: Link, level: usize, c: Cursor<'t, 'a>) -> Read<Cursor<'t, 'a>>
     requires { sound c }
     ensures reads { Passes (reads_link link (place level c.entry) (left c.entry)) result }
     ensures place { IfOk result (λ r. SharesEnd c.entry r) }

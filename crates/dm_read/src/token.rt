@@ -10,11 +10,11 @@ ghost use Rattle.dm_ast.specs.Readers as spec;
 ghost use Rattle.dm_ast.specs.Readers.{place, Reads, Passes};
 
 use dm_stream::{
-    Cursor, DEEPEST, Delim, Error, Ident, Kind, Lifetime, Literal, Refusal, Spacing, Span,
+    Cursor, DEEPEST, Delim, Error, Ident, Kind, Lifetime, Literal, Read, Refusal, Spacing, Span,
 };
 
 /// What was read, and the place behind it.
-pub type Found<'t, 'a, T> = Result<(T, Cursor<'t, 'a>), Error>;
+pub type Found<'t, 'a, T> = Read<(T, Cursor<'t, 'a>)>;
 
 /// The refusal of the next token, or of the end.
 pub fn refused(c: Cursor<'_, '_>) -> Error
@@ -190,7 +190,7 @@ fn pass<'t, 'a>(
     level: usize,
     c: Cursor<'t, 'a>,
     rest: Cursor<'t, 'a>,
-) -> Result<Cursor<'t, 'a>, Error>
+) -> Read<Cursor<'t, 'a>>
     requires here { sound c }
     requires there { SharesEnd c rest }
     ensures reads { Passes (spec.if_seen seen (place level c.entry) (left c.entry) (left rest.entry)) result }
@@ -206,7 +206,7 @@ fn pass<'t, 'a>(
 }
 
 /// A punct of this character.
-pub fn punct<'t, 'a>(ch: char, level: usize, c: Cursor<'t, 'a>) -> Result<Cursor<'t, 'a>, Error>
+pub fn punct<'t, 'a>(ch: char, level: usize, c: Cursor<'t, 'a>) -> Read<Cursor<'t, 'a>>
     requires { sound c }
     ensures reads { Passes (spec.read_punct ch (place level c.entry) (left c.entry)) result }
     ensures place { IfOk result (λ r. SharesEnd c.entry r) }
@@ -215,7 +215,7 @@ pub fn punct<'t, 'a>(ch: char, level: usize, c: Cursor<'t, 'a>) -> Result<Cursor
 }
 
 /// This keyword.
-pub fn word<'t, 'a>(word: &str, level: usize, c: Cursor<'t, 'a>) -> Result<Cursor<'t, 'a>, Error>
+pub fn word<'t, 'a>(word: &str, level: usize, c: Cursor<'t, 'a>) -> Read<Cursor<'t, 'a>>
     requires { sound c }
     ensures reads { Passes (spec.read_word word.now (place level c.entry) (left c.entry)) result }
     ensures place { IfOk result (λ r. SharesEnd c.entry r) }
@@ -224,7 +224,7 @@ pub fn word<'t, 'a>(word: &str, level: usize, c: Cursor<'t, 'a>) -> Result<Curso
 }
 
 /// `::`.
-pub fn colons<'t, 'a>(level: usize, c: Cursor<'t, 'a>) -> Result<Cursor<'t, 'a>, Error>
+pub fn colons<'t, 'a>(level: usize, c: Cursor<'t, 'a>) -> Read<Cursor<'t, 'a>>
     requires { sound c }
     ensures reads { Passes (spec.read_colons (place level c.entry) (left c.entry)) result }
     ensures place { IfOk result (λ r. SharesEnd c.entry r) }
@@ -233,7 +233,7 @@ pub fn colons<'t, 'a>(level: usize, c: Cursor<'t, 'a>) -> Result<Cursor<'t, 'a>,
 }
 
 /// `->`.
-pub fn arrow<'t, 'a>(level: usize, c: Cursor<'t, 'a>) -> Result<Cursor<'t, 'a>, Error>
+pub fn arrow<'t, 'a>(level: usize, c: Cursor<'t, 'a>) -> Read<Cursor<'t, 'a>>
     requires { sound c }
     ensures reads { Passes (spec.read_arrow (place level c.entry) (left c.entry)) result }
     ensures place { IfOk result (λ r. SharesEnd c.entry r) }
@@ -242,7 +242,7 @@ pub fn arrow<'t, 'a>(level: usize, c: Cursor<'t, 'a>) -> Result<Cursor<'t, 'a>, 
 }
 
 /// A `:` that isn't the front of `::`.
-pub fn colon<'t, 'a>(level: usize, c: Cursor<'t, 'a>) -> Result<Cursor<'t, 'a>, Error>
+pub fn colon<'t, 'a>(level: usize, c: Cursor<'t, 'a>) -> Read<Cursor<'t, 'a>>
     requires { sound c }
     ensures reads { Passes (spec.read_colon (place level c.entry) (left c.entry)) result }
     ensures place { IfOk result (λ r. SharesEnd c.entry r) }
@@ -251,7 +251,7 @@ pub fn colon<'t, 'a>(level: usize, c: Cursor<'t, 'a>) -> Result<Cursor<'t, 'a>, 
 }
 
 /// A `=` that isn't the front of `==` or `=>`.
-pub fn equals<'t, 'a>(level: usize, c: Cursor<'t, 'a>) -> Result<Cursor<'t, 'a>, Error>
+pub fn equals<'t, 'a>(level: usize, c: Cursor<'t, 'a>) -> Read<Cursor<'t, 'a>>
     requires { sound c }
     ensures reads { Passes (spec.read_equals (place level c.entry) (left c.entry)) result }
     ensures place { IfOk result (λ r. SharesEnd c.entry r) }

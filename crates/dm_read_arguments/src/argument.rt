@@ -3,11 +3,8 @@
 
 ghost use Rattle.std.specs.Prelude.{map, false};
 ghost use Rattle.dm_output.specs.Output.{exprs_of, named_exprs_of};
-ghost use Rattle.dm_reread.specs.Next.{next};
-ghost use Rattle.dm_output.specs.Views.{expr_view, named_expr_view};
 ghost use Rattle.dm_reread.specs.Reading.{read_args, first_arg};
-ghost use Rattle.dm_read_places.specs.Reads.{Reads, ReadsWhole};
-ghost use Rattle.dm_read_places.specs.Turns.{rows};
+ghost use Rattle.dm_read_places.specs.Prelude.{next, expr_view, named_expr_view, Reads, ReadsWhole, rows};
 ghost use Rattle.dm_read_arguments.specs.ExprNests.{ExprNests};
 ghost use Rattle.dm_read_arguments.specs.Turns.{value_behind, field_value};
 
@@ -18,7 +15,8 @@ use dm_input::join::joined;
 use dm_nodes::expr::{ExprNode, ExprNodes, FieldNode, FieldNodes};
 use dm_nodes::make_block::named_expr;
 use dm_read_places::list::{Rule, Turn, gathered};
-use dm_read_places::place::{Place, Read};
+use dm_read_places::place::Place;
+use dm_stream::Read;
 
 /// Arguments behind the first, each with a comma in front.
 #[derive(Drop)]

@@ -2,17 +2,16 @@
 #![tactic(auto, using(crate::proofs::RuleSteps::rule_steps))]
 
 ghost use Rattle.std.specs.Prelude.{◌≡◌, true};
-ghost use Rattle.dm_output.specs.Views.{expr_view};
 ghost use Rattle.dm_reread.specs.Reading.{whole};
-ghost use Rattle.dm_read_places.specs.Reads.{Reads, ReadsWhole};
-ghost use Rattle.dm_read_places.specs.Turns.{rows};
+ghost use Rattle.dm_read_places.specs.Prelude.{expr_view, Reads, ReadsWhole, rows};
 ghost use Rattle.dm_read_arguments.specs.ExprNests.{ExprNests};
 ghost use Rattle.dm_read_arguments.specs.Turns as spec;
 
 use crate::sort::{Sort, Wanted};
 use dm_input::join::ended;
 use dm_nodes::expr::ExprNode;
-use dm_read_places::place::{Place, Read};
+use dm_read_places::place::Place;
+use dm_stream::Read;
 
 /// The rules of expressions.
 #[derive(Clone, Copy)]

@@ -5,23 +5,24 @@ use Rattle.dm_stream.specs.declared.tokens.Ident.{Ident}
 use Rattle.dm_stream.specs.Trees.{Trees}
 use Rattle.dm_ast.specs.declared.ty.PathSegment.{PathSegment}
 use Rattle.dm_ast.specs.Keywords.{is_name}
+use Rattle.dm_ast.specs.Idents.{segment_ident}
 use Rattle.dm_ast.specs.Spelling.{is_word}
 use Rattle.dm_ast.specs.Tree.{PathTree, path_tree, SegmentTree, segment, no_segments, segment_then, absent, angle, parens, segments_of, segment_view}
 use Rattle.dm_ast.proofs.View as syntax
 use Rattle.dm_output.specs.Output.{ExprTree, write_expr, FmtTree}
 use Rattle.dm_reread.specs.Next.{Next, a_name, next}
 use Rattle.dm_reread.specs.Reading.{then, provided, comma_after, read_fmt, is_macro_path, write_from, macro_of}
-use Rattle.dm_read_places.specs.Turns.{rows, declared_at, segment_name}
+use Rattle.dm_read_places.specs.Turns.{rows, declared_at}
 use Rattle.dm_read_bases.specs.Macros.{segment_is, fmt_behind_comma, named_write, format_args_from}
 
 -- ---- the names of macros
 
-pub a_word_alone : (word : List ℕ) (s : SegmentTree) (i : Ident) → segment_name s ≡ Some i → segment_is word s ≡ is_word word i
+pub a_word_alone : (word : List ℕ) (s : SegmentTree) (i : Ident) → segment_ident s ≡ Some i → segment_is word s ≡ is_word word i
 a_word_alone word (segment j absent) i e = let f : j ≡ i = cc in ap (is_word word) f
 a_word_alone word (segment j (angle d xs u)) i e = absurd (cc)
 a_word_alone word (segment j (parens xs u o)) i e = absurd (cc)
 
-pub no_word_alone : (word : List ℕ) (s : SegmentTree) → segment_name s ≡ None → segment_is word s ≡ false
+pub no_word_alone : (word : List ℕ) (s : SegmentTree) → segment_ident s ≡ None → segment_is word s ≡ false
 no_word_alone word (segment j absent) e = absurd (cc)
 no_word_alone word (segment j (angle d xs u)) e = refl
 no_word_alone word (segment j (parens xs u o)) e = refl

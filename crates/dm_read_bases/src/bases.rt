@@ -2,13 +2,10 @@
 #![tactic(auto, using(crate::proofs::BaseSteps::base_steps))]
 
 ghost use Rattle.std.specs.Prelude.{◌≡◌, IfOk, map};
-ghost use Rattle.dm_ast.specs.Tree.{path_view, maybe_self_view};
+ghost use Rattle.dm_ast.specs.Tree.{maybe_self_view};
 ghost use Rattle.dm_output.specs.Output.{exprs_of};
-ghost use Rattle.dm_output.specs.Views.{expr_view};
-ghost use Rattle.dm_reread.specs.Next.{next};
 ghost use Rattle.dm_reread.specs.Reading as plain;
-ghost use Rattle.dm_read_places.specs.Reads.{Reads, ReadsWhole};
-ghost use Rattle.dm_read_places.specs.Turns.{rows};
+ghost use Rattle.dm_read_places.specs.Prelude.{path_view, expr_view, next, Reads, ReadsWhole, rows};
 ghost use Rattle.dm_read_arguments.specs.ExprNests.{ExprNests};
 ghost use Rattle.dm_read_bases.specs.Rows as spec;
 
@@ -27,8 +24,8 @@ use dm_read_leaves::qualified::{plain_path, qualified};
 use dm_read_places::expect::is_str;
 use dm_read_places::front::Sign;
 use dm_read_places::path::path;
-use dm_read_places::place::{Place, Read};
-use dm_stream::{Delim, Error, Literal};
+use dm_read_places::place::Place;
+use dm_stream::{Delim, Error, Literal, Made, Read};
 use std::alloc::{AllocError, Global};
 
 /// The rules of such expressions.
@@ -72,11 +69,7 @@ fn tuple_or_paren<'a>(parts: ExprNodes<'a>, last: bool, place: &Place<'_, 'a>) -
 }
 
 /// A path with arguments behind it. A comma behind the last of them says that it is built, and not called.
-fn called<'a>(
-    alloc: Global,
-    path: PathExpr<'a>,
-    args: (ExprNodes<'a>, bool),
-) -> Result<ExprNode<'a>, AllocError>
+fn called<'a>(alloc: Global, path: PathExpr<'a>, args: (ExprNodes<'a>, bool)) -> Made<ExprNode<'a>>
     ensures { IfOk result (λ e. expr_view e ≡ plain.called (maybe_self_view path.entry.qself) (path_view path.entry.path) (exprs_of (map expr_view args.entry.0)) args.entry.1) }
 {
     let (parts, is_built) = args;

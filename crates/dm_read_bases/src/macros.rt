@@ -2,11 +2,8 @@
 #![tactic(auto, using(crate::proofs::MacroSteps::macro_steps))]
 
 ghost use Rattle.std.specs.Prelude.{◌≡◌};
-ghost use Rattle.dm_ast.specs.Tree.{path_view, segment_view};
-ghost use Rattle.dm_output.specs.Views.{expr_view, fmt_view};
 ghost use Rattle.dm_reread.specs.Reading as plain;
-ghost use Rattle.dm_read_places.specs.Reads.{ReadsWhole};
-ghost use Rattle.dm_read_places.specs.Turns.{rows};
+ghost use Rattle.dm_read_places.specs.Prelude.{path_view, segment_view, expr_view, fmt_view, ReadsWhole, rows};
 ghost use Rattle.dm_read_bases.specs.Macros.{segment_is, fmt_behind_comma, named_write, format_args_from};
 
 use dm_ast::{Path, PathSegment};
@@ -16,14 +13,14 @@ use dm_nodes::make_expr::{format_args_of, write_of};
 use dm_output::FmtArgs;
 use dm_read::token::is_word;
 use dm_read_formats::format::format;
-use dm_read_places::path::segment_alone;
-use dm_read_places::place::{Place, Read};
+use dm_read_places::place::Place;
+use dm_stream::Read;
 
 /// Whether a segment is this word, without arguments.
 fn is_segment(word: &str, segment: &PathSegment<'_>) -> bool
     ensures { result ≡ segment_is word.now (segment_view segment.now) }
 {
-    match segment_alone(segment) {
+    match segment.get_ident() {
         Some(ident) => is_word(word, ident),
         None => false,
     }

@@ -3,12 +3,9 @@
 
 ghost use Rattle.std.specs.Prelude.{map, option_map, true};
 ghost use Rattle.dm_output.specs.Output as tree;
-ghost use Rattle.dm_output.specs.Views.{expr_view, arm_view, body_view};
-ghost use Rattle.dm_reread.specs.Next.{next};
 ghost use Rattle.dm_reread.specs.Reading as plain;
-ghost use Rattle.dm_read_places.specs.Reads.{Reads, ReadsWhole};
 ghost use Rattle.dm_read_places.specs.Repeating.{turn_view, repeat};
-ghost use Rattle.dm_read_places.specs.Turns.{rows};
+ghost use Rattle.dm_read_places.specs.Prelude.{expr_view, arm_view, body_view, next, Reads, ReadsWhole, rows};
 ghost use Rattle.dm_read_arguments.specs.ExprNests.{ExprNests};
 ghost use Rattle.dm_read_blocks.specs.Turns as turns;
 ghost use Rattle.dm_read_blocks.specs.Rows as spec;
@@ -23,8 +20,8 @@ use dm_read_arguments::sort::Wanted;
 use dm_read_patterns::arm::arm_patterns;
 use dm_read_places::front::Keyword;
 use dm_read_places::list::Turn;
-use dm_read_places::place::{Place, Read};
-use dm_stream::Delim;
+use dm_read_places::place::Place;
+use dm_stream::{Delim, Read};
 
 impl<F: Copy + for<'t, 'b> Fn(&mut Place<'t, 'b>, Wanted) -> Read<ExprNode<'b>>> Blocks<F> {
     /// `if` and a condition, or nothing.

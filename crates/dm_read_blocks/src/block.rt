@@ -2,11 +2,8 @@
 #![tactic(auto, using(crate::proofs::BlockSteps::block_steps))]
 
 ghost use Rattle.std.specs.Prelude.{map, true};
-ghost use Rattle.dm_output.specs.Views.{expr_view, stmt_view, block_view};
-ghost use Rattle.dm_reread.specs.Next.{next};
-ghost use Rattle.dm_read_places.specs.Reads.{Reads, ReadsWhole};
 ghost use Rattle.dm_read_places.specs.Repeating.{turn_view, repeat};
-ghost use Rattle.dm_read_places.specs.Turns.{rows};
+ghost use Rattle.dm_read_places.specs.Prelude.{expr_view, stmt_view, block_view, next, Reads, ReadsWhole, rows};
 ghost use Rattle.dm_read_arguments.specs.ExprNests.{ExprNests};
 ghost use Rattle.dm_read_statements.specs.Statements.{ended_stmt};
 ghost use Rattle.dm_read_blocks.specs.Turns as turns;
@@ -22,8 +19,9 @@ use dm_nodes::make_block::{block_of, do_of, let_of};
 use dm_read_arguments::sort::Wanted;
 use dm_read_places::front::Keyword;
 use dm_read_places::list::Turn;
-use dm_read_places::place::{Place, Read};
+use dm_read_places::place::Place;
 use dm_read_statements::statement::{check, constant_ended, import_ended};
+use dm_stream::Read;
 
 /// What ends a block: perhaps an expression.
 type Last<'a> = Option<ExprNode<'a>>;

@@ -1,12 +1,11 @@
 //! Fields.
 #![tactic(auto)]
 
-ghost use Rattle.dm_ast.specs.Tree.{ty_view};
 ghost use Rattle.dm_ast.specs.Declarations as tree;
 ghost use Rattle.dm_read.specs.DeclarationReaders as spec;
 ghost use Rattle.dm_read_paths.specs.WholeReaders.{parts};
 ghost use Rattle.dm_read_decl.specs.Rules as rules;
-ghost use Rattle.dm_input.specs.Inputs.{Reads};
+ghost use Rattle.dm_read_paths.specs.Prelude.{ty_view, Reads};
 
 use crate::forms::{enclosed, marked};
 use dm_ast::{Field, Fields, Ty};
@@ -14,10 +13,10 @@ use dm_input::Input;
 use dm_input::join::{ended, joined};
 use dm_input::list::Rule;
 use dm_read_types::entry::ty;
-use dm_stream::{Delim, Error, Ident, Punctuated};
+use dm_stream::{Delim, Ident, Punctuated, Read};
 
 /// A name, and the `:` behind it.
-fn field_name<'a>(input: &mut Input<'_, 'a>) -> Result<Ident<'a>, Error>
+fn field_name<'a>(input: &mut Input<'_, 'a>) -> Read<Ident<'a>>
     ensures { Reads (λ i. i) rules.read_field_name input.old result input.new }
 {
     let found = input.name()?;
@@ -43,7 +42,7 @@ impl<'a> Rule<'a> for NamedType {
 
     ghost reader = { λ _ w. rules.read_named_type w };
 
-    fn read(&self, input: &mut Input<'_, 'a>) -> Result<(Ident<'a>, Ty<'a>), Error> {
+    fn read(&self, input: &mut Input<'_, 'a>) -> Read<(Ident<'a>, Ty<'a>)> {
         let name = field_name(input)?;
         joined(name, ty(input))
     }
@@ -67,13 +66,13 @@ impl<'a> Rule<'a> for OnlyType {
 
     ghost reader = { λ _ w. whole_type w };
 
-    fn read(&self, input: &mut Input<'_, 'a>) -> Result<Ty<'a>, Error> {
+    fn read(&self, input: &mut Input<'_, 'a>) -> Read<Ty<'a>> {
         ty(input)
     }
 }
 
 /// A field with a name.
-fn field<'a>(input: &mut Input<'_, 'a>) -> Result<Field<'a>, Error>
+fn field<'a>(input: &mut Input<'_, 'a>) -> Read<Field<'a>>
     ensures { Reads tree.field_view (spec.read_field parts) input.old result input.new }
 {
     let begun = input.cursor();
@@ -88,7 +87,7 @@ fn field<'a>(input: &mut Input<'_, 'a>) -> Result<Field<'a>, Error>
 }
 
 /// A field without a name.
-fn slot<'a>(input: &mut Input<'_, 'a>) -> Result<Field<'a>, Error>
+fn slot<'a>(input: &mut Input<'_, 'a>) -> Read<Field<'a>>
     ensures { Reads tree.field_view (spec.read_slot parts) input.old result input.new }
 {
     let begun = input.cursor();
@@ -121,7 +120,7 @@ impl<'a> Rule<'a> for FieldRule {
 
     ghost reader = { λ _ w. spec.read_field parts w };
 
-    fn read(&self, input: &mut Input<'_, 'a>) -> Result<Field<'a>, Error> {
+    fn read(&self, input: &mut Input<'_, 'a>) -> Read<Field<'a>> {
         field(input)
     }
 }
@@ -145,27 +144,27 @@ impl<'a> Rule<'a> for SlotRule {
 
     ghost reader = { λ _ w. spec.read_slot parts w };
 
-    fn read(&self, input: &mut Input<'_, 'a>) -> Result<Field<'a>, Error> {
+    fn read(&self, input: &mut Input<'_, 'a>) -> Read<Field<'a>> {
         slot(input)
     }
 }
 
 /// Fields in braces.
-pub fn fields<'a>(input: &mut Input<'_, 'a>) -> Result<Punctuated<Field<'a>>, Error>
+pub fn fields<'a>(input: &mut Input<'_, 'a>) -> Read<Punctuated<Field<'a>>>
     ensures { Reads (tree.listed tree.field_view) (spec.read_fields parts) input.old result input.new }
 {
     enclosed(&FieldRule, Delim::Brace, input)
 }
 
 /// Fields in parentheses.
-pub fn slots<'a>(input: &mut Input<'_, 'a>) -> Result<Punctuated<Field<'a>>, Error>
+pub fn slots<'a>(input: &mut Input<'_, 'a>) -> Read<Punctuated<Field<'a>>>
     ensures { Reads (tree.listed tree.field_view) (spec.read_slots parts) input.old result input.new }
 {
     enclosed(&SlotRule, Delim::Paren, input)
 }
 
 /// The fields of a variant.
-pub fn variant_fields<'a>(input: &mut Input<'_, 'a>) -> Result<Fields<'a>, Error>
+pub fn variant_fields<'a>(input: &mut Input<'_, 'a>) -> Read<Fields<'a>>
     ensures { Reads tree.fields_view (spec.read_variant_fields parts) input.old result input.new }
 {
     if input.sees_group(Delim::Brace) {

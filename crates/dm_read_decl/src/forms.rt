@@ -13,13 +13,10 @@ use dm_input::Input;
 use dm_input::join::{ended, joined};
 use dm_input::list::{Rule, listed};
 use dm_read::list::Stop;
-use dm_stream::{Delim, Error, Punctuated, Seq};
+use dm_stream::{Delim, Punctuated, Read, Seq};
 
 /// A visibility where one comes next, and a part.
-fn visible<'a, R: Rule<'a>>(
-    rule: &R,
-    input: &mut Input<'_, 'a>,
-) -> Result<(Option<Vis<'a>>, R::Part), Error>
+fn visible<'a, R: Rule<'a>>(rule: &R, input: &mut Input<'_, 'a>) -> Read<(Option<Vis<'a>>, R::Part)>
     requires { R.usable rule.now }
     ensures { Reads (second_view R.view) (rules.visible (R.reader rule.now)) input.old result input.new }
 {
@@ -31,7 +28,7 @@ fn visible<'a, R: Rule<'a>>(
 pub fn marked<'a, R: Rule<'a>>(
     rule: &R,
     input: &mut Input<'_, 'a>,
-) -> Result<(Seq<Attribute<'a>>, (Option<Vis<'a>>, R::Part)), Error>
+) -> Read<(Seq<Attribute<'a>>, (Option<Vis<'a>>, R::Part))>
     requires { R.usable rule.now }
     ensures { Reads (second_view (second_view R.view)) (rules.marked (R.reader rule.now)) input.old result input.new }
 {
@@ -44,7 +41,7 @@ pub fn commas<'a, R: Rule<'a>>(
     rule: &R,
     stop: Stop,
     input: &mut Input<'_, 'a>,
-) -> Result<Punctuated<R::Part>, Error>
+) -> Read<Punctuated<R::Part>>
     requires { R.usable rule.now }
     ensures { Reads (tree.listed R.view) (spec.read_listed (stops stop) (R.reader rule.now)) input.old result input.new }
 {
@@ -56,7 +53,7 @@ pub fn enclosed<'a, R: Rule<'a>>(
     rule: &R,
     delim: Delim,
     input: &mut Input<'_, 'a>,
-) -> Result<Punctuated<R::Part>, Error>
+) -> Read<Punctuated<R::Part>>
     requires { R.usable rule.now }
     ensures { Reads (tree.listed R.view) (rules.enclosed delim (R.reader rule.now)) input.old result input.new }
 {

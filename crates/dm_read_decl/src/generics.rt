@@ -2,14 +2,12 @@
 #![tactic(auto)]
 
 ghost use Rattle.std.specs.Prelude.{◌≤◌};
-ghost use Rattle.dm_ast.specs.Spelling.{deepest};
-ghost use Rattle.dm_ast.specs.Tree.{ty_view, bound_view};
 ghost use Rattle.dm_ast.specs.Declarations as tree;
 ghost use Rattle.dm_read.specs.DeclarationReaders as spec;
 ghost use Rattle.dm_read_paths.specs.WholeReaders.{parts};
 ghost use Rattle.dm_read_decl.specs.Rules as rules;
 ghost use Rattle.dm_read_decl.specs.ShapeViews.{both_views, second_view, angled_view, clause_view};
-ghost use Rattle.dm_input.specs.Inputs.{Reads};
+ghost use Rattle.dm_read_paths.specs.Prelude.{deepest, ty_view, bound_view, Reads};
 
 use crate::forms::commas;
 use crate::param::{ParamRule, some_bounds, some_outlived};
@@ -19,10 +17,10 @@ use dm_input::join::{ended, joined};
 use dm_input::list::Rule;
 use dm_read::list::Stop;
 use dm_read_types::entry::ty;
-use dm_stream::{Error, Lifetime, Punctuated};
+use dm_stream::{Error, Lifetime, Punctuated, Read};
 
 /// Parameters with commas between, up to `>`.
-fn params<'a>(input: &mut Input<'_, 'a>) -> Result<Punctuated<GenericParam<'a>>, Error>
+fn params<'a>(input: &mut Input<'_, 'a>) -> Read<Punctuated<GenericParam<'a>>>
     ensures { Reads (tree.listed tree.param_view) rules.read_params input.old result input.new }
 {
     commas(&ParamRule, Stop::Angle, input)
@@ -30,7 +28,7 @@ fn params<'a>(input: &mut Input<'_, 'a>) -> Result<Punctuated<GenericParam<'a>>,
 
 /// Parameters one level deeper.
 #[tactic(auto, using(dm_input::proofs::Levels::level_steps))]
-fn deep_params<'a>(input: &mut Input<'_, 'a>) -> Result<Punctuated<GenericParam<'a>>, Error>
+fn deep_params<'a>(input: &mut Input<'_, 'a>) -> Read<Punctuated<GenericParam<'a>>>
     requires { input.old.at.level ≤ deepest }
     ensures { Reads (tree.listed tree.param_view) rules.read_deep_params input.old result input.new }
 {
@@ -41,7 +39,7 @@ fn deep_params<'a>(input: &mut Input<'_, 'a>) -> Result<Punctuated<GenericParam<
 }
 
 /// Parameters and `>`.
-fn till_angle<'a>(input: &mut Input<'_, 'a>) -> Result<Punctuated<GenericParam<'a>>, Error>
+fn till_angle<'a>(input: &mut Input<'_, 'a>) -> Read<Punctuated<GenericParam<'a>>>
     requires { input.old.at.level ≤ deepest }
     ensures { Reads (tree.listed tree.param_view) rules.read_till_angle input.old result input.new }
 {
@@ -50,7 +48,7 @@ fn till_angle<'a>(input: &mut Input<'_, 'a>) -> Result<Punctuated<GenericParam<'
 }
 
 /// `<..>`.
-fn angled<'a>(input: &mut Input<'_, 'a>) -> Result<Punctuated<GenericParam<'a>>, Error>
+fn angled<'a>(input: &mut Input<'_, 'a>) -> Read<Punctuated<GenericParam<'a>>>
     ensures { Reads (tree.listed tree.param_view) rules.read_angled input.old result input.new }
 {
     input.punct('<')?;
@@ -58,9 +56,7 @@ fn angled<'a>(input: &mut Input<'_, 'a>) -> Result<Punctuated<GenericParam<'a>>,
 }
 
 /// Whether `<` comes next, and the parameters.
-pub fn generics<'a>(
-    input: &mut Input<'_, 'a>,
-) -> Result<(bool, Punctuated<GenericParam<'a>>), Error>
+pub fn generics<'a>(input: &mut Input<'_, 'a>) -> Read<(bool, Punctuated<GenericParam<'a>>)>
     ensures { Reads angled_view (spec.read_generics parts) input.old result input.new }
 {
     if !input.sees('<') {
@@ -70,9 +66,7 @@ pub fn generics<'a>(
 }
 
 /// A lifetime, `:` and the lifetimes that it outlives.
-fn outlives_parts<'a>(
-    input: &mut Input<'_, 'a>,
-) -> Result<(Lifetime<'a>, Punctuated<Lifetime<'a>>), Error>
+fn outlives_parts<'a>(input: &mut Input<'_, 'a>) -> Read<(Lifetime<'a>, Punctuated<Lifetime<'a>>)>
     ensures { Reads (λ v. v) rules.read_outlives_parts input.old result input.new }
 {
     let lifetime = input.lifetime()?;
@@ -80,7 +74,7 @@ fn outlives_parts<'a>(
 }
 
 /// A predicate on a lifetime.
-fn lifetime_predicate<'a>(input: &mut Input<'_, 'a>) -> Result<WherePredicate<'a>, Error>
+fn lifetime_predicate<'a>(input: &mut Input<'_, 'a>) -> Read<WherePredicate<'a>>
     ensures { Reads tree.predicate_view (spec.read_lifetime_predicate parts) input.old result input.new }
 {
     let (lifetime, outlived) = outlives_parts(input)?;
@@ -88,7 +82,7 @@ fn lifetime_predicate<'a>(input: &mut Input<'_, 'a>) -> Result<WherePredicate<'a
 }
 
 /// A type, `:` and bounds.
-fn bounded<'a>(input: &mut Input<'_, 'a>) -> Result<(Ty<'a>, Punctuated<Bound<'a>>), Error>
+fn bounded<'a>(input: &mut Input<'_, 'a>) -> Read<(Ty<'a>, Punctuated<Bound<'a>>)>
     ensures { Reads (both_views ty_view (tree.listed bound_view)) rules.read_bounded input.old result input.new }
 {
     let found = ty(input)?;
@@ -112,7 +106,7 @@ fn predicate_parts<'a>(
 }
 
 /// A predicate on a type.
-fn type_predicate<'a>(input: &mut Input<'_, 'a>) -> Result<WherePredicate<'a>, Error>
+fn type_predicate<'a>(input: &mut Input<'_, 'a>) -> Read<WherePredicate<'a>>
     ensures { Reads tree.predicate_view (spec.read_type_predicate parts) input.old result input.new }
 {
     let (lifetimes, (found, bounds)) = predicate_parts(input)?;
@@ -120,7 +114,7 @@ fn type_predicate<'a>(input: &mut Input<'_, 'a>) -> Result<WherePredicate<'a>, E
 }
 
 /// A predicate.
-fn predicate<'a>(input: &mut Input<'_, 'a>) -> Result<WherePredicate<'a>, Error>
+fn predicate<'a>(input: &mut Input<'_, 'a>) -> Read<WherePredicate<'a>>
     ensures { Reads tree.predicate_view (spec.read_predicate parts) input.old result input.new }
 {
     if input.sees_lifetime() {
@@ -148,20 +142,20 @@ impl<'a> Rule<'a> for PredicateRule {
 
     ghost reader = { λ _ w. spec.read_predicate parts w };
 
-    fn read(&self, input: &mut Input<'_, 'a>) -> Result<WherePredicate<'a>, Error> {
+    fn read(&self, input: &mut Input<'_, 'a>) -> Read<WherePredicate<'a>> {
         predicate(input)
     }
 }
 
 /// Predicates with commas between, up to where they end.
-fn predicates<'a>(input: &mut Input<'_, 'a>) -> Result<Punctuated<WherePredicate<'a>>, Error>
+fn predicates<'a>(input: &mut Input<'_, 'a>) -> Read<Punctuated<WherePredicate<'a>>>
     ensures { Reads (tree.listed tree.predicate_view) rules.read_predicates input.old result input.new }
 {
     commas(&PredicateRule, Stop::Where, input)
 }
 
 /// `where` and its predicates.
-fn some_where<'a>(input: &mut Input<'_, 'a>) -> Result<Punctuated<WherePredicate<'a>>, Error>
+fn some_where<'a>(input: &mut Input<'_, 'a>) -> Read<Punctuated<WherePredicate<'a>>>
     ensures { Reads (tree.listed tree.predicate_view) rules.read_some_where input.old result input.new }
 {
     input.word("where")?;
@@ -169,9 +163,7 @@ fn some_where<'a>(input: &mut Input<'_, 'a>) -> Result<Punctuated<WherePredicate
 }
 
 /// The `where` clause where one comes next.
-pub fn where_clause<'a>(
-    input: &mut Input<'_, 'a>,
-) -> Result<Option<Punctuated<WherePredicate<'a>>>, Error>
+pub fn where_clause<'a>(input: &mut Input<'_, 'a>) -> Read<Option<Punctuated<WherePredicate<'a>>>>
     ensures { Reads clause_view (spec.read_where parts) input.old result input.new }
 {
     if !input.sees_word("where") {

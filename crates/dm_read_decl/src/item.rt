@@ -21,11 +21,11 @@ use dm_ast::{
 use dm_input::Input;
 use dm_input::join::{ended, joined};
 use dm_input::list::Rule;
-use dm_stream::{Delim, Error, Ident, Punctuated, Span};
+use dm_stream::{Delim, Error, Ident, Punctuated, Read, Span};
 
 /// The range of a word.
 #[tactic(auto, using(crate::proofs::WordRanges::word_range))]
-fn word_at<'a>(word: &str, input: &mut Input<'_, 'a>) -> Result<Span, Error>
+fn word_at<'a>(word: &str, input: &mut Input<'_, 'a>) -> Read<Span>
     ensures { Reads (λ s. s) (spec.read_word_at word.now) input.old result input.new }
 {
     let span = input.front();
@@ -37,7 +37,7 @@ fn word_at<'a>(word: &str, input: &mut Input<'_, 'a>) -> Result<Span, Error>
 fn behind_name<'a, R: Rule<'a>>(
     rule: &R,
     input: &mut Input<'_, 'a>,
-) -> Result<((bool, Punctuated<GenericParam<'a>>), R::Part), Error>
+) -> Read<((bool, Punctuated<GenericParam<'a>>), R::Part)>
     requires { R.usable rule.now }
     ensures { Reads (both_views views.angled_view R.view) (rules.behind_name (R.reader rule.now)) input.old result input.new }
 {
@@ -49,7 +49,7 @@ fn behind_name<'a, R: Rule<'a>>(
 fn behind_word<'a, R: Rule<'a>>(
     rule: &R,
     input: &mut Input<'_, 'a>,
-) -> Result<(Ident<'a>, ((bool, Punctuated<GenericParam<'a>>), R::Part)), Error>
+) -> Read<(Ident<'a>, ((bool, Punctuated<GenericParam<'a>>), R::Part))>
     requires { R.usable rule.now }
     ensures { Reads (second_view (both_views views.angled_view R.view)) (rules.behind_word (R.reader rule.now)) input.old result input.new }
 {
@@ -80,7 +80,7 @@ fn headed<'a, R: Rule<'a>>(
 fn braces<'a, R: Rule<'a>>(
     item: &R,
     input: &mut Input<'_, 'a>,
-) -> Result<(Option<Punctuated<WherePredicate<'a>>>, Punctuated<R::Part>), Error>
+) -> Read<(Option<Punctuated<WherePredicate<'a>>>, Punctuated<R::Part>)>
     requires { R.usable item.now }
     ensures { Reads (both_views views.clause_view (tree.listed R.view)) (rules.read_braces (R.reader item.now)) input.old result input.new }
 {
@@ -114,13 +114,13 @@ impl<'a, R: Rule<'a>> Rule<'a> for BracesRule<R> {
     fn read(
         &self,
         input: &mut Input<'_, 'a>,
-    ) -> Result<(Option<Punctuated<WherePredicate<'a>>>, Punctuated<R::Part>), Error> {
+    ) -> Read<(Option<Punctuated<WherePredicate<'a>>>, Punctuated<R::Part>)> {
         braces(&self.item, input)
     }
 }
 
 /// An enum, its name and its generics.
-fn enum_item<'a>(input: &mut Input<'_, 'a>) -> Result<(Data<'a>, (Ident<'a>, Generics<'a>)), Error>
+fn enum_item<'a>(input: &mut Input<'_, 'a>) -> Read<(Data<'a>, (Ident<'a>, Generics<'a>))>
     ensures { Reads views.shaped_view (spec.read_braced parts (codes "enum") (spec.read_variants parts) tree.enum_shape) input.old result input.new }
 {
     let rule = BracesRule { item: VariantRule };
@@ -136,7 +136,7 @@ fn enum_item<'a>(input: &mut Input<'_, 'a>) -> Result<(Data<'a>, (Ident<'a>, Gen
 }
 
 /// A union, its name and its generics.
-fn union_item<'a>(input: &mut Input<'_, 'a>) -> Result<(Data<'a>, (Ident<'a>, Generics<'a>)), Error>
+fn union_item<'a>(input: &mut Input<'_, 'a>) -> Read<(Data<'a>, (Ident<'a>, Generics<'a>))>
     ensures { Reads views.shaped_view (spec.read_braced parts (codes "union") (spec.read_fields parts) tree.union_shape) input.old result input.new }
 {
     let rule = BracesRule { item: FieldRule };
@@ -152,7 +152,7 @@ fn union_item<'a>(input: &mut Input<'_, 'a>) -> Result<(Data<'a>, (Ident<'a>, Ge
 }
 
 /// Fields in braces, or `;`.
-fn named_or_unit<'a>(input: &mut Input<'_, 'a>) -> Result<Fields<'a>, Error>
+fn named_or_unit<'a>(input: &mut Input<'_, 'a>) -> Read<Fields<'a>>
     ensures { Reads tree.fields_view (spec.read_named_or_unit parts) input.old result input.new }
 {
     if input.sees_group(Delim::Brace) {
@@ -163,9 +163,7 @@ fn named_or_unit<'a>(input: &mut Input<'_, 'a>) -> Result<Fields<'a>, Error>
 }
 
 /// A `where` clause where one comes next, and the `;` behind it.
-fn ended_where<'a>(
-    input: &mut Input<'_, 'a>,
-) -> Result<Option<Punctuated<WherePredicate<'a>>>, Error>
+fn ended_where<'a>(input: &mut Input<'_, 'a>) -> Read<Option<Punctuated<WherePredicate<'a>>>>
     ensures { Reads views.clause_view rules.read_ended_where input.old result input.new }
 {
     let found = where_clause(input)?;
@@ -191,7 +189,7 @@ fn slots_body<'a>(
 /// A `where` clause where one comes next, and the fields in braces or `;`.
 fn other_body<'a>(
     input: &mut Input<'_, 'a>,
-) -> Result<(Option<Punctuated<WherePredicate<'a>>>, Fields<'a>), Error>
+) -> Read<(Option<Punctuated<WherePredicate<'a>>>, Fields<'a>)>
     ensures { Reads (both_views views.clause_view tree.fields_view) rules.read_other_body input.old result input.new }
 {
     let clause = where_clause(input)?;
@@ -222,7 +220,7 @@ impl<'a> Rule<'a> for StructBody {
     fn read(
         &self,
         input: &mut Input<'_, 'a>,
-    ) -> Result<(Fields<'a>, Option<Punctuated<WherePredicate<'a>>>), Error> {
+    ) -> Read<(Fields<'a>, Option<Punctuated<WherePredicate<'a>>>)> {
         if input.sees_group(Delim::Paren) {
             let (found, clause) = slots_body(input)?;
             return Ok((Fields::Unnamed(found), clause));
@@ -233,9 +231,7 @@ impl<'a> Rule<'a> for StructBody {
 }
 
 /// A struct, its name and its generics.
-fn struct_item<'a>(
-    input: &mut Input<'_, 'a>,
-) -> Result<(Data<'a>, (Ident<'a>, Generics<'a>)), Error>
+fn struct_item<'a>(input: &mut Input<'_, 'a>) -> Read<(Data<'a>, (Ident<'a>, Generics<'a>))>
     ensures { Reads views.shaped_view (spec.read_struct parts) input.old result input.new }
 {
     let (word, (ident, ((angled, params), (fields, where_clause)))) = headed(
@@ -252,7 +248,7 @@ fn struct_item<'a>(
 }
 
 /// A struct, an enum or a union, its name and its generics.
-fn shape<'a>(input: &mut Input<'_, 'a>) -> Result<(Data<'a>, (Ident<'a>, Generics<'a>)), Error>
+fn shape<'a>(input: &mut Input<'_, 'a>) -> Read<(Data<'a>, (Ident<'a>, Generics<'a>))>
     ensures { Reads views.shaped_view (spec.read_shape parts) input.old result input.new }
 {
     if input.sees_word("struct") {
@@ -284,10 +280,7 @@ impl<'a> Rule<'a> for ShapeRule {
 
     ghost reader = { λ _ w. spec.read_shape parts w };
 
-    fn read(
-        &self,
-        input: &mut Input<'_, 'a>,
-    ) -> Result<(Data<'a>, (Ident<'a>, Generics<'a>)), Error> {
+    fn read(&self, input: &mut Input<'_, 'a>) -> Read<(Data<'a>, (Ident<'a>, Generics<'a>))> {
         shape(input)
     }
 }

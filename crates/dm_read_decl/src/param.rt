@@ -2,23 +2,22 @@
 #![tactic(auto)]
 
 ghost use Rattle.std.specs.Prelude.{option_map};
-ghost use Rattle.dm_ast.specs.Tree.{ty_view, bound_view};
 ghost use Rattle.dm_ast.specs.Declarations as tree;
 ghost use Rattle.dm_read.specs.DeclarationReaders as spec;
 ghost use Rattle.dm_read_paths.specs.WholeReaders.{parts};
 ghost use Rattle.dm_read_decl.specs.Rules as rules;
 ghost use Rattle.dm_read_decl.specs.ShapeViews.{second_view, value_view, bounds_default_view};
-ghost use Rattle.dm_input.specs.Inputs.{Reads};
+ghost use Rattle.dm_read_paths.specs.Prelude.{ty_view, bound_view, Reads};
 
 use dm_ast::{Attribute, Bound, ConstArg, ConstParam, GenericParam, LifetimeParam, Ty, TyParam};
 use dm_input::Input;
 use dm_input::join::joined;
 use dm_input::list::Rule;
 use dm_read_types::entry::{bounds, ty};
-use dm_stream::{Error, Ident, Lifetime, Punctuated, Seq};
+use dm_stream::{Ident, Lifetime, Punctuated, Read, Seq};
 
 /// `:` and the bounds of a lifetime.
-pub fn some_outlived<'a>(input: &mut Input<'_, 'a>) -> Result<Punctuated<Lifetime<'a>>, Error>
+pub fn some_outlived<'a>(input: &mut Input<'_, 'a>) -> Read<Punctuated<Lifetime<'a>>>
     ensures { Reads (λ v. v) rules.read_some_outlived input.old result input.new }
 {
     input.colon()?;
@@ -26,7 +25,7 @@ pub fn some_outlived<'a>(input: &mut Input<'_, 'a>) -> Result<Punctuated<Lifetim
 }
 
 /// The bounds of a lifetime where `:` comes next.
-fn outlived<'a>(input: &mut Input<'_, 'a>) -> Result<Option<Punctuated<Lifetime<'a>>>, Error>
+fn outlived<'a>(input: &mut Input<'_, 'a>) -> Read<Option<Punctuated<Lifetime<'a>>>>
     ensures { Reads (λ v. v) rules.read_outlived input.old result input.new }
 {
     if !input.sees_colon() {
@@ -38,7 +37,7 @@ fn outlived<'a>(input: &mut Input<'_, 'a>) -> Result<Option<Punctuated<Lifetime<
 /// A lifetime and its bounds.
 fn lifetime_parts<'a>(
     input: &mut Input<'_, 'a>,
-) -> Result<(Lifetime<'a>, Option<Punctuated<Lifetime<'a>>>), Error>
+) -> Read<(Lifetime<'a>, Option<Punctuated<Lifetime<'a>>>)>
     ensures { Reads (λ v. v) rules.read_lifetime_parts input.old result input.new }
 {
     let lifetime = input.lifetime()?;
@@ -49,7 +48,7 @@ fn lifetime_parts<'a>(
 fn lifetime_param<'a>(
     attrs: Seq<Attribute<'a>>,
     input: &mut Input<'_, 'a>,
-) -> Result<GenericParam<'a>, Error>
+) -> Read<GenericParam<'a>>
     ensures { Reads tree.param_view (spec.read_lifetime_param parts attrs.entry) input.old result input.new }
 {
     let (attrs, (lifetime, bounds)) = joined(attrs, lifetime_parts(input))?;
@@ -61,7 +60,7 @@ fn lifetime_param<'a>(
 }
 
 /// The value of a constant parameter where `=` comes next.
-fn default_value<'a>(input: &mut Input<'_, 'a>) -> Result<Option<ConstArg<'a>>, Error>
+fn default_value<'a>(input: &mut Input<'_, 'a>) -> Read<Option<ConstArg<'a>>>
     ensures { Reads (λ v. v) rules.read_value input.old result input.new }
 {
     if !input.sees_equals() {
@@ -72,7 +71,7 @@ fn default_value<'a>(input: &mut Input<'_, 'a>) -> Result<Option<ConstArg<'a>>, 
 }
 
 /// The type of a constant parameter, and its value.
-fn type_value<'a>(input: &mut Input<'_, 'a>) -> Result<(Ty<'a>, Option<ConstArg<'a>>), Error>
+fn type_value<'a>(input: &mut Input<'_, 'a>) -> Read<(Ty<'a>, Option<ConstArg<'a>>)>
     ensures { Reads value_view rules.read_type_value input.old result input.new }
 {
     let found = ty(input)?;
@@ -80,7 +79,7 @@ fn type_value<'a>(input: &mut Input<'_, 'a>) -> Result<(Ty<'a>, Option<ConstArg<
 }
 
 /// `:`, the type of a constant parameter, and its value.
-fn typed_value<'a>(input: &mut Input<'_, 'a>) -> Result<(Ty<'a>, Option<ConstArg<'a>>), Error>
+fn typed_value<'a>(input: &mut Input<'_, 'a>) -> Read<(Ty<'a>, Option<ConstArg<'a>>)>
     ensures { Reads value_view rules.read_typed_value input.old result input.new }
 {
     input.colon()?;
@@ -88,9 +87,7 @@ fn typed_value<'a>(input: &mut Input<'_, 'a>) -> Result<(Ty<'a>, Option<ConstArg
 }
 
 /// A name, its type, and its value.
-fn named_value<'a>(
-    input: &mut Input<'_, 'a>,
-) -> Result<(Ident<'a>, (Ty<'a>, Option<ConstArg<'a>>)), Error>
+fn named_value<'a>(input: &mut Input<'_, 'a>) -> Read<(Ident<'a>, (Ty<'a>, Option<ConstArg<'a>>))>
     ensures { Reads (second_view value_view) rules.read_named_value input.old result input.new }
 {
     let name = input.name()?;
@@ -98,9 +95,7 @@ fn named_value<'a>(
 }
 
 /// `const`, a name, its type, and its value.
-fn const_parts<'a>(
-    input: &mut Input<'_, 'a>,
-) -> Result<(Ident<'a>, (Ty<'a>, Option<ConstArg<'a>>)), Error>
+fn const_parts<'a>(input: &mut Input<'_, 'a>) -> Read<(Ident<'a>, (Ty<'a>, Option<ConstArg<'a>>))>
     ensures { Reads (second_view value_view) rules.read_const_parts input.old result input.new }
 {
     input.word("const")?;
@@ -108,10 +103,7 @@ fn const_parts<'a>(
 }
 
 /// A constant parameter behind its attributes.
-fn const_param<'a>(
-    attrs: Seq<Attribute<'a>>,
-    input: &mut Input<'_, 'a>,
-) -> Result<GenericParam<'a>, Error>
+fn const_param<'a>(attrs: Seq<Attribute<'a>>, input: &mut Input<'_, 'a>) -> Read<GenericParam<'a>>
     ensures { Reads tree.param_view (spec.read_const_param parts attrs.entry) input.old result input.new }
 {
     let (attrs, (ident, (ty, default_value))) = joined(attrs, const_parts(input))?;
@@ -124,7 +116,7 @@ fn const_param<'a>(
 }
 
 /// `:` and bounds.
-pub fn some_bounds<'a>(input: &mut Input<'_, 'a>) -> Result<Punctuated<Bound<'a>>, Error>
+pub fn some_bounds<'a>(input: &mut Input<'_, 'a>) -> Read<Punctuated<Bound<'a>>>
     ensures { Reads (tree.listed bound_view) rules.read_some_bounds input.old result input.new }
 {
     input.colon()?;
@@ -132,7 +124,7 @@ pub fn some_bounds<'a>(input: &mut Input<'_, 'a>) -> Result<Punctuated<Bound<'a>
 }
 
 /// The bounds of a type parameter where `:` comes next.
-fn maybe_bounds<'a>(input: &mut Input<'_, 'a>) -> Result<Option<Punctuated<Bound<'a>>>, Error>
+fn maybe_bounds<'a>(input: &mut Input<'_, 'a>) -> Read<Option<Punctuated<Bound<'a>>>>
     ensures { Reads (option_map (tree.listed bound_view)) rules.read_bounds input.old result input.new }
 {
     if !input.sees_colon() {
@@ -142,7 +134,7 @@ fn maybe_bounds<'a>(input: &mut Input<'_, 'a>) -> Result<Option<Punctuated<Bound
 }
 
 /// The type that a type parameter stands for by itself, where `=` comes next.
-fn default_type<'a>(input: &mut Input<'_, 'a>) -> Result<Option<Ty<'a>>, Error>
+fn default_type<'a>(input: &mut Input<'_, 'a>) -> Read<Option<Ty<'a>>>
     ensures { Reads (option_map ty_view) rules.read_default input.old result input.new }
 {
     if !input.sees_equals() {
@@ -155,7 +147,7 @@ fn default_type<'a>(input: &mut Input<'_, 'a>) -> Result<Option<Ty<'a>>, Error>
 /// The bounds of a type parameter, and the type that it stands for by itself.
 fn bounds_default<'a>(
     input: &mut Input<'_, 'a>,
-) -> Result<(Option<Punctuated<Bound<'a>>>, Option<Ty<'a>>), Error>
+) -> Read<(Option<Punctuated<Bound<'a>>>, Option<Ty<'a>>)>
     ensures { Reads bounds_default_view rules.read_bounds_default input.old result input.new }
 {
     let bounds = maybe_bounds(input)?;
@@ -165,7 +157,7 @@ fn bounds_default<'a>(
 /// A name, bounds, and the type that the parameter stands for by itself.
 fn type_parts<'a>(
     input: &mut Input<'_, 'a>,
-) -> Result<(Ident<'a>, (Option<Punctuated<Bound<'a>>>, Option<Ty<'a>>)), Error>
+) -> Read<(Ident<'a>, (Option<Punctuated<Bound<'a>>>, Option<Ty<'a>>))>
     ensures { Reads (second_view bounds_default_view) rules.read_type_parts input.old result input.new }
 {
     let name = input.name()?;
@@ -173,10 +165,7 @@ fn type_parts<'a>(
 }
 
 /// A type parameter behind its attributes.
-fn type_param<'a>(
-    attrs: Seq<Attribute<'a>>,
-    input: &mut Input<'_, 'a>,
-) -> Result<GenericParam<'a>, Error>
+fn type_param<'a>(attrs: Seq<Attribute<'a>>, input: &mut Input<'_, 'a>) -> Read<GenericParam<'a>>
     ensures { Reads tree.param_view (spec.read_type_param parts attrs.entry) input.old result input.new }
 {
     let (attrs, (ident, (bounds, default_ty))) = joined(attrs, type_parts(input))?;
@@ -189,10 +178,7 @@ fn type_param<'a>(
 }
 
 /// A parameter behind its attributes.
-fn param_behind<'a>(
-    attrs: Seq<Attribute<'a>>,
-    input: &mut Input<'_, 'a>,
-) -> Result<GenericParam<'a>, Error>
+fn param_behind<'a>(attrs: Seq<Attribute<'a>>, input: &mut Input<'_, 'a>) -> Read<GenericParam<'a>>
     ensures { Reads tree.param_view (spec.read_param_behind parts attrs.entry) input.old result input.new }
 {
     if input.sees_lifetime() {
@@ -223,7 +209,7 @@ impl<'a> Rule<'a> for ParamRule {
 
     ghost reader = { λ _ w. spec.read_param parts w };
 
-    fn read(&self, input: &mut Input<'_, 'a>) -> Result<GenericParam<'a>, Error> {
+    fn read(&self, input: &mut Input<'_, 'a>) -> Read<GenericParam<'a>> {
         let attrs = input.attributes()?;
         param_behind(attrs, input)
     }

@@ -14,10 +14,10 @@ use dm_ast::{Fields, Opaque, Variant};
 use dm_input::Input;
 use dm_input::join::joined;
 use dm_input::list::Rule;
-use dm_stream::{Error, Ident};
+use dm_stream::{Ident, Read};
 
 /// The discriminant where `=` comes next.
-fn discriminant<'a>(input: &mut Input<'_, 'a>) -> Result<Option<Opaque<'a>>, Error>
+fn discriminant<'a>(input: &mut Input<'_, 'a>) -> Read<Option<Opaque<'a>>>
     ensures { Reads (λ o. o) (spec.read_discriminant parts) input.old result input.new }
 {
     if !input.sees_equals() {
@@ -28,7 +28,7 @@ fn discriminant<'a>(input: &mut Input<'_, 'a>) -> Result<Option<Opaque<'a>>, Err
 }
 
 /// The fields and the discriminant.
-fn body<'a>(input: &mut Input<'_, 'a>) -> Result<(Fields<'a>, Option<Opaque<'a>>), Error>
+fn body<'a>(input: &mut Input<'_, 'a>) -> Read<(Fields<'a>, Option<Opaque<'a>>)>
     ensures { Reads body_view rules.read_body input.old result input.new }
 {
     let fields = variant_fields(input)?;
@@ -60,14 +60,14 @@ impl<'a> Rule<'a> for NamedBody {
     fn read(
         &self,
         input: &mut Input<'_, 'a>,
-    ) -> Result<(Ident<'a>, (Fields<'a>, Option<Opaque<'a>>)), Error> {
+    ) -> Read<(Ident<'a>, (Fields<'a>, Option<Opaque<'a>>))> {
         let name = input.name()?;
         joined(name, body(input))
     }
 }
 
 /// A variant.
-fn variant<'a>(input: &mut Input<'_, 'a>) -> Result<Variant<'a>, Error>
+fn variant<'a>(input: &mut Input<'_, 'a>) -> Read<Variant<'a>>
     ensures { Reads tree.variant_view (spec.read_variant parts) input.old result input.new }
 {
     let begun = input.cursor();
@@ -101,7 +101,7 @@ impl<'a> Rule<'a> for VariantRule {
 
     ghost reader = { λ _ w. spec.read_variant parts w };
 
-    fn read(&self, input: &mut Input<'_, 'a>) -> Result<Variant<'a>, Error> {
+    fn read(&self, input: &mut Input<'_, 'a>) -> Read<Variant<'a>> {
         variant(input)
     }
 }

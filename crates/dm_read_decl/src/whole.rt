@@ -11,11 +11,11 @@ use crate::item::ShapeRule;
 use dm_ast::DeriveInput;
 use dm_input::Input;
 use dm_input::join::ended;
-use dm_stream::{Error, TokenStream};
+use dm_stream::{Error, Read, TokenStream};
 use std::alloc::Global;
 
 /// A declaration at the front.
-fn front<'a>(input: &mut Input<'_, 'a>) -> Result<DeriveInput<'a>, Error>
+fn front<'a>(input: &mut Input<'_, 'a>) -> Read<DeriveInput<'a>>
     ensures { Reads tree.declaration_view (spec.read_front parts) input.old result input.new }
 {
     let (attrs, (vis, (shape, (ident, generics)))) = marked(&ShapeRule, input)?;

@@ -8,10 +8,10 @@ ghost use Rattle.dm_read_places.specs.Reads.{ReadsWhole};
 ghost use Rattle.dm_read_exact.specs.Exact.{only};
 
 use dm_quote::ToTokens;
-use dm_read_places::place::{Place, Read};
+use dm_read_places::place::Place;
 use dm_same::all_alike;
-use dm_stream::{Cursor, Entry, TokenStream};
-use std::alloc::{AllocError, Global};
+use dm_stream::{Cursor, Entry, Made, Read, TokenStream};
+use std::alloc::Global;
 
 /// The tokens and delimiters from one place to another.
 fn passed_entries<'t, 'a>(from: Cursor<'t, 'a>, to: Cursor<'_, 'a>) -> &'t [Entry<'a>]
@@ -24,11 +24,7 @@ fn passed_entries<'t, 'a>(from: Cursor<'t, 'a>, to: Cursor<'_, 'a>) -> &'t [Entr
 }
 
 /// Whether a value has these tokens and delimiters, wherever they stand.
-fn has_tokens<'a, T: ToTokens<'a>>(
-    value: &T,
-    alloc: Global,
-    wanted: &[Entry<'_>],
-) -> Result<bool, AllocError>
+fn has_tokens<'a, T: ToTokens<'a>>(value: &T, alloc: Global, wanted: &[Entry<'_>]) -> Made<bool>
     requires { T.stands value.now }
     ensures { IfOk result (λ b. b ≡ has_entries (T.trees_of value.now) wanted.now) }
 {

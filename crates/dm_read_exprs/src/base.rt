@@ -3,11 +3,8 @@
 
 ghost use Rattle.std.specs.Prelude.{map};
 ghost use Rattle.dm_output.specs.Output.{arms_of};
-ghost use Rattle.dm_output.specs.Views.{expr_view, arm_view};
-ghost use Rattle.dm_reread.specs.Next.{next};
 ghost use Rattle.dm_reread.specs.Reading as plain;
-ghost use Rattle.dm_read_places.specs.Reads.{Reads};
-ghost use Rattle.dm_read_places.specs.Turns.{rows};
+ghost use Rattle.dm_read_places.specs.Prelude.{expr_view, arm_view, next, Reads, rows};
 ghost use Rattle.dm_read_arguments.specs.ExprNests.{ExprNests};
 ghost use Rattle.dm_read_blocks.specs.Rows.{braced_arms};
 ghost use Rattle.dm_read_exprs.specs.Rows as spec;
@@ -21,8 +18,8 @@ use dm_read_arguments::sort::Wanted;
 use dm_read_bases::bases::Bases;
 use dm_read_blocks::blocks::Blocks;
 use dm_read_places::front::Keyword;
-use dm_read_places::place::{Place, Read};
-use dm_stream::Delim;
+use dm_read_places::place::Place;
+use dm_stream::{Delim, Read};
 
 impl<F: Copy + for<'t, 'b> Fn(&mut Place<'t, 'b>, Wanted) -> Read<ExprNode<'b>>> Operators<F> {
     /// Arms in braces.

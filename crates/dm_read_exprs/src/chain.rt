@@ -3,11 +3,8 @@
 
 ghost use Rattle.std.specs.Prelude.{map};
 ghost use Rattle.dm_output.specs.Output.{exprs_of};
-ghost use Rattle.dm_output.specs.Views.{expr_view};
-ghost use Rattle.dm_reread.specs.Next.{next};
 ghost use Rattle.dm_reread.specs.Reading as plain;
-ghost use Rattle.dm_read_places.specs.Reads.{Reads};
-ghost use Rattle.dm_read_places.specs.Turns.{rows};
+ghost use Rattle.dm_read_places.specs.Prelude.{expr_view, next, Reads, rows};
 ghost use Rattle.dm_read_arguments.specs.ExprNests.{ExprNests};
 ghost use Rattle.dm_read_exprs.specs.Rows.{plain_or};
 
@@ -18,7 +15,8 @@ use dm_nodes::make_expr::{and_of, equal_of, or_of, return_of, unequal_of};
 use dm_read_arguments::sort::Wanted;
 use dm_read_places::front::{Keyword, Sign};
 use dm_read_places::list::{Rule, Turn, gathered};
-use dm_read_places::place::{Place, Read};
+use dm_read_places::place::Place;
+use dm_stream::Read;
 
 /// `&&` and what stands behind it. The truth value says whether a brace continues a path.
 #[derive(Drop)]

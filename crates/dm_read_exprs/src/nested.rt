@@ -1,9 +1,7 @@
 //! Expressions and blocks that nest down to a depth.
 #![tactic(auto, using(crate::proofs::NestSteps::nest_steps))]
 
-ghost use Rattle.dm_output.specs.Views.{expr_view, block_view};
-ghost use Rattle.dm_read_places.specs.Reads.{Reads, ReadsWhole};
-ghost use Rattle.dm_read_places.specs.Turns.{rows};
+ghost use Rattle.dm_read_places.specs.Prelude.{expr_view, block_view, Reads, ReadsWhole, rows};
 ghost use Rattle.dm_read_arguments.specs.Sorts.{sorted};
 
 use crate::operators::Operators;
@@ -12,8 +10,8 @@ use dm_nodes::expr::ExprNode;
 use dm_read_arguments::rules::Exprs;
 use dm_read_arguments::sort::{Sort, Wanted};
 use dm_read_blocks::blocks::Blocks;
-use dm_read_places::place::{Place, Read};
-use dm_stream::Error;
+use dm_read_places::place::Place;
+use dm_stream::{Error, Read};
 
 /// The expression that is wanted. Where more than `room` expressions stand in one another it wants memory: that of the stack. With less
 /// fuel than a list in it is long, or than expressions nest deep there, what is there isn't read. Refuses where no such expression stands

@@ -2,11 +2,8 @@
 #![tactic(auto, using(crate::proofs::PrefixSteps::prefix_steps))]
 
 ghost use Rattle.std.specs.Prelude.{◌≡◌, None, Some};
-ghost use Rattle.dm_output.specs.Views.{expr_view};
-ghost use Rattle.dm_reread.specs.Next.{next};
 ghost use Rattle.dm_reread.specs.Reading as plain;
-ghost use Rattle.dm_read_places.specs.Reads.{Reads};
-ghost use Rattle.dm_read_places.specs.Turns.{rows};
+ghost use Rattle.dm_read_places.specs.Prelude.{expr_view, next, Reads, rows};
 ghost use Rattle.dm_read_arguments.specs.ExprNests.{ExprNests};
 ghost use Rattle.dm_read_exprs.specs.Rows as spec;
 
@@ -16,9 +13,9 @@ use dm_nodes::make_expr::{deref_of, ref_of, ref_opaque};
 use dm_read_arguments::sort::Wanted;
 use dm_read_formats::opaque::kept;
 use dm_read_places::front::{Keyword, Sign};
-use dm_read_places::place::{Place, Read};
+use dm_read_places::place::Place;
 use dm_read_posts::posts::Posts;
-use dm_stream::Delim;
+use dm_stream::{Delim, Read};
 
 /// Whether what comes next goes on with a group in front of it: arguments, `.` or `?`.
 fn goes_on(place: &Place<'_, '_>) -> bool

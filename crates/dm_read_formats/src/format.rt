@@ -3,12 +3,9 @@
 
 ghost use Rattle.std.specs.Prelude.{◌≡◌, None, Some, MatchOption, IfSome, map};
 ghost use Rattle.dm_stream.specs.Cursors.{left, sound};
-ghost use Rattle.dm_output.specs.Views.{fmt_arg_view, fmt_view};
-ghost use Rattle.dm_reread.specs.Next.{next};
 ghost use Rattle.dm_reread.specs.Reading as plain;
 ghost use Rattle.dm_reread.specs.ReadBack.{leaves};
-ghost use Rattle.dm_read_places.specs.Reads.{Reads, ReadsWhole};
-ghost use Rattle.dm_read_places.specs.Turns.{rows};
+ghost use Rattle.dm_read_places.specs.Prelude.{fmt_arg_view, fmt_view, next, Reads, ReadsWhole, rows};
 ghost use Rattle.dm_read_formats.specs.Values.{is_alias, Aliased};
 
 use crate::opaque::run;
@@ -16,9 +13,8 @@ use dm_input::join::joined;
 use dm_output::{FmtArg, FmtArgs};
 use dm_read::words::is_name;
 use dm_read_places::list::{Rule, Turn, repeated};
-use dm_read_places::place::{Place, Read};
-use dm_stream::{Cursor, Ident, Punct, Seq, Spacing};
-use std::alloc::AllocError;
+use dm_read_places::place::Place;
+use dm_stream::{Cursor, Ident, Made, Punct, Read, Seq, Spacing};
 
 fn is_alone(spacing: Spacing) -> bool
     ensures { result ≡ plain.is_alone spacing }
@@ -51,7 +47,7 @@ fn front_alias<'t, 'a>(c: Cursor<'t, 'a>) -> Option<(&'t Ident<'a>, Cursor<'t, '
 }
 
 /// Passes a name in front of a `=` that stands alone where both come next, and gives the name.
-fn alias<'a>(place: &mut Place<'_, 'a>) -> Result<Option<Ident<'a>>, AllocError>
+fn alias<'a>(place: &mut Place<'_, 'a>) -> Made<Option<Ident<'a>>>
     ensures { Aliased place.old result place.new }
 {
     let Some((ident, rest)) = front_alias(place.cursor()) else {

@@ -3,20 +3,18 @@
 
 ghost use Rattle.std.specs.Prelude.{◌≡◌, IfOk};
 ghost use Rattle.dm_stream.specs.Cursors.{left, sound};
-ghost use Rattle.dm_output.specs.Views.{opaque_view};
 ghost use Rattle.dm_reread.specs.RunLeaves as plain;
 ghost use Rattle.dm_reread.specs.ExactLeaves.{closed_run};
-ghost use Rattle.dm_read_places.specs.Reads.{Reads};
+ghost use Rattle.dm_read_places.specs.Prelude.{opaque_view, Reads};
 ghost use Rattle.dm_read_formats.specs.Values.{closes};
 
 use dm_ast::Opaque;
 use dm_expr::{pair_size, take_until1};
-use dm_read_places::place::{Place, Read};
-use dm_stream::{Cursor, TokenStream};
-use std::alloc::AllocError;
+use dm_read_places::place::Place;
+use dm_stream::{Cursor, Made, Read, TokenStream};
 
 /// All that is left, as it stands.
-pub fn kept<'a>(place: &Place<'_, 'a>) -> Result<Opaque<'a>, AllocError>
+pub fn kept<'a>(place: &Place<'_, 'a>) -> Made<Opaque<'a>>
     ensures { IfOk result (λ o. opaque_view o ≡ place.now) }
 {
     Ok(Opaque {

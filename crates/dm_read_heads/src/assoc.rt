@@ -2,12 +2,9 @@
 #![tactic(auto, using(crate::proofs::MemberSteps::member_steps))]
 
 ghost use Rattle.std.specs.Prelude.{◌≡◌, map};
-ghost use Rattle.dm_ast.specs.Tree.{ty_view};
-ghost use Rattle.dm_output.specs.Views.{assoc_view};
-ghost use Rattle.dm_reread.specs.Next.{next};
 ghost use Rattle.dm_reread.specs.Items as plain;
 ghost use Rattle.dm_reread.specs.ReadBack.{leaves};
-ghost use Rattle.dm_read_places.specs.Reads.{Reads};
+ghost use Rattle.dm_read_places.specs.Prelude.{ty_view, assoc_view, next, Reads};
 ghost use Rattle.dm_read_heads.specs.Members as spec;
 
 use dm_ast::Ty;
@@ -17,7 +14,8 @@ use dm_output::Assoc;
 use dm_read_leaves::ty::ty;
 use dm_read_places::front::Keyword;
 use dm_read_places::list::{Rule, Turn, repeated};
-use dm_read_places::place::{Place, Read};
+use dm_read_places::place::Place;
+use dm_stream::Read;
 
 /// Associated types that were read.
 pub type AssocTypes<'a> = Nodes<Assoc<'a>>;

@@ -7,20 +7,19 @@ ghost use Rattle.dm_stream.specs.declared.tokens.Delim.TheVariants.{Paren};
 ghost use Rattle.dm_stream.specs.Trees.{join};
 ghost use Rattle.dm_output.specs.Tokens as spell;
 ghost use Rattle.dm_output.specs.declared.item.ItemAttr.TheVariants as attr;
-ghost use Rattle.dm_reread.specs.Next.{next};
 ghost use Rattle.dm_reread.specs.Reading as reading;
 ghost use Rattle.dm_reread.specs.Items as plain;
 ghost use Rattle.dm_reread.specs.Items.{same_words};
 ghost use Rattle.dm_reread.specs.Whole.{size};
-ghost use Rattle.dm_read_places.specs.Reads.{Reads};
+ghost use Rattle.dm_read_places.specs.Prelude.{next, Reads};
 ghost use Rattle.dm_read_heads.specs.Attrs as spec;
 
 use dm_output::ItemAttr;
 use dm_read::token::at_end;
 use dm_read_places::front::Sign;
 use dm_read_places::list::{Rule, Turn, repeated};
-use dm_read_places::place::{Place, Read};
-use dm_stream::{Cursor, Delim, Seq, Spacing};
+use dm_read_places::place::Place;
+use dm_stream::{Cursor, Delim, Read, Seq, Spacing};
 
 // ---- words and puncts
 

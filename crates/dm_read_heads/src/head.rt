@@ -2,14 +2,12 @@
 #![tactic(auto, using(crate::proofs::HeadSteps::head_steps))]
 
 ghost use Rattle.std.specs.Prelude.{◌≡◌, true, IfOk, map};
-ghost use Rattle.dm_ast.specs.Tree.{ty_view, path_view};
 ghost use Rattle.dm_ast.specs.Declarations.{param_view, predicate_view};
-ghost use Rattle.dm_output.specs.Views.{assoc_view, item_view, method_view};
 ghost use Rattle.dm_read_paths.specs.Bindings.{path_alone};
 ghost use Rattle.dm_read_decl.specs.ShapeViews.{angled_view, clause_view};
 ghost use Rattle.dm_reread.specs.HeadLeaves as plain;
 ghost use Rattle.dm_reread.specs.ExactLeaves.{exact_head};
-ghost use Rattle.dm_read_places.specs.Reads.{Reads};
+ghost use Rattle.dm_read_places.specs.Prelude.{ty_view, path_view, assoc_view, item_view, method_view, Reads};
 ghost use Rattle.dm_read_heads.specs.Heads as spec;
 ghost use Rattle.dm_read_heads.specs.Heads.{head_view};
 ghost use Rattle.dm_read_heads.specs.Named.{named_view, behind_view};
@@ -26,9 +24,9 @@ use dm_read_decl::generics::{generics, where_clause};
 use dm_read_exact::exact::exact;
 use dm_read_leaves::ty::front_type;
 use dm_read_paths::path::path_alone;
-use dm_read_places::place::{Place, Read};
-use dm_stream::{Punctuated, Seq};
-use std::alloc::{AllocError, Global};
+use dm_read_places::place::Place;
+use dm_stream::{Made, Punctuated, Read, Seq};
+use std::alloc::Global;
 
 /// What stands between `impl` and the brace: parameters, perhaps a trait, the type, and predicates. Its drop is a function, so that what
 /// holds a head needs to know nothing of how trees are dropped.
@@ -62,7 +60,7 @@ impl<'a> Head<'a> {
         attrs: Seq<ItemAttr>,
         assocs: AssocTypes<'a>,
         methods: MethodNodes<'a>,
-    ) -> Result<ItemNode<'a>, AllocError>
+    ) -> Made<ItemNode<'a>>
         ensures { IfOk result (λ i. item_view i ≡ spec.item_of attrs (head_view self.entry) (map assoc_view assocs.entry) (map method_view methods.entry)) }
     {
         let Self {

@@ -2,12 +2,10 @@
 #![tactic(auto, using(crate::proofs::MemberSteps::member_steps))]
 
 ghost use Rattle.std.specs.Prelude.{◌≡◌, None, Some, IfOk, option_map};
-ghost use Rattle.dm_ast.specs.Tree.{ty_view};
-ghost use Rattle.dm_output.specs.Views.{block_view, method_param_view, method_view};
-ghost use Rattle.dm_reread.specs.Next.{next};
+ghost use Rattle.dm_output.specs.Views.{method_param_view};
 ghost use Rattle.dm_reread.specs.Items as plain;
 ghost use Rattle.dm_reread.specs.ReadBack.{leaves};
-ghost use Rattle.dm_read_places.specs.Reads.{Reads, ReadsWhole};
+ghost use Rattle.dm_read_places.specs.Prelude.{ty_view, block_view, method_view, next, Reads, ReadsWhole};
 ghost use Rattle.dm_read_heads.specs.Members as spec;
 ghost use Rattle.dm_read_heads.specs.Signatures.{inputs_view, signature_view, named_view};
 
@@ -21,9 +19,9 @@ use dm_read::token::is_word;
 use dm_read::words::is_name;
 use dm_read_leaves::ty::ty;
 use dm_read_places::front::{Keyword, Sign};
-use dm_read_places::place::{Place, Read};
-use dm_stream::{Delim, Ident, Seq};
-use std::alloc::{AllocError, Global};
+use dm_read_places::place::Place;
+use dm_stream::{Delim, Ident, Made, Read, Seq};
+use std::alloc::Global;
 
 /// What stands in a method's parentheses: its receiver, its parameter, both or none.
 #[derive(Drop)]
@@ -56,7 +54,7 @@ impl<'a> Signature<'a> {
         is_const: bool,
         name: Ident<'a>,
         body: BlockNode<'a>,
-    ) -> Result<MethodNode<'a>, AllocError>
+    ) -> Made<MethodNode<'a>>
         ensures { IfOk result (λ m. method_view m ≡ spec.method_of attrs is_const name.entry (signature_view self.entry) (block_view body.entry)) }
     {
         let Self { inputs, output } = self;

@@ -14,11 +14,11 @@ use crate::head::Head;
 use dm_ast::{GenericParam, Path, WherePredicate};
 use dm_quote::ToTokens;
 use dm_quote::emit_parts::{Separator, punct, word, write_separated};
-use dm_stream::{Span, TokenStream};
+use dm_stream::{Made, Span, TokenStream};
 use std::alloc::AllocError;
 
 /// Adds parameters with commas between them.
-fn joined_params<'a>(out: &mut TokenStream<'a>, all: &[GenericParam<'a>]) -> Result<(), AllocError>
+fn joined_params<'a>(out: &mut TokenStream<'a>, all: &[GenericParam<'a>]) -> Made<()>
     ensures added { OnOk result (out.new.trees ≡ join out.old.trees (syntax.spaced spell.comma true (map spell.param_trees (map param_view all.now)))) }
     ensures limit { out.new.limit ≡ out.old.limit }
 {
@@ -26,10 +26,7 @@ fn joined_params<'a>(out: &mut TokenStream<'a>, all: &[GenericParam<'a>]) -> Res
 }
 
 /// Adds `<..>`, or nothing where there are no parameters.
-fn write_params<'a>(
-    out: &mut TokenStream<'a>,
-    params: &[GenericParam<'a>],
-) -> Result<(), AllocError>
+fn write_params<'a>(out: &mut TokenStream<'a>, params: &[GenericParam<'a>]) -> Made<()>
     ensures added { OnOk result (out.new.trees ≡ join out.old.trees (spell.params_trees (map param_view params.now))) }
     ensures limit { out.new.limit ≡ out.old.limit }
 {
@@ -42,7 +39,7 @@ fn write_params<'a>(
 }
 
 /// Adds a trait's path and `for`, or nothing.
-fn write_trait<'a>(out: &mut TokenStream<'a>, path: &Option<Path<'a>>) -> Result<(), AllocError>
+fn write_trait<'a>(out: &mut TokenStream<'a>, path: &Option<Path<'a>>) -> Made<()>
     ensures added { OnOk result (out.new.trees ≡ join out.old.trees (spell.trait_trees (option_map path_view path.now))) }
     ensures limit { out.new.limit ≡ out.old.limit }
 {
@@ -56,10 +53,7 @@ fn write_trait<'a>(out: &mut TokenStream<'a>, path: &Option<Path<'a>>) -> Result
 }
 
 /// Adds predicates with commas between them.
-fn joined_predicates<'a>(
-    out: &mut TokenStream<'a>,
-    all: &[WherePredicate<'a>],
-) -> Result<(), AllocError>
+fn joined_predicates<'a>(out: &mut TokenStream<'a>, all: &[WherePredicate<'a>]) -> Made<()>
     ensures added { OnOk result (out.new.trees ≡ join out.old.trees (syntax.spaced spell.comma true (map spell.predicate_trees (map predicate_view all.now)))) }
     ensures limit { out.new.limit ≡ out.old.limit }
 {
@@ -67,10 +61,7 @@ fn joined_predicates<'a>(
 }
 
 /// Adds `where` and the predicates, or nothing where there are none.
-fn write_where<'a>(
-    out: &mut TokenStream<'a>,
-    predicates: &[WherePredicate<'a>],
-) -> Result<(), AllocError>
+fn write_where<'a>(out: &mut TokenStream<'a>, predicates: &[WherePredicate<'a>]) -> Made<()>
     ensures added { OnOk result (out.new.trees ≡ join out.old.trees (spell.where_trees (map predicate_view predicates.now))) }
     ensures limit { out.new.limit ≡ out.old.limit }
 {
@@ -82,7 +73,7 @@ fn write_where<'a>(
 }
 
 /// Adds a head.
-fn write_head<'a>(out: &mut TokenStream<'a>, head: &Head<'a>) -> Result<(), AllocError>
+fn write_head<'a>(out: &mut TokenStream<'a>, head: &Head<'a>) -> Made<()>
     ensures added { OnOk result (out.new.trees ≡ join out.old.trees (between_trees (head_view head.now))) }
     ensures limit { out.new.limit ≡ out.old.limit }
 {

@@ -8,7 +8,8 @@ ghost use Rattle.dm_read_places.specs.Reads.{ReadsWhole};
 use dm_nodes::item::ItemNodes;
 use dm_read_exprs::nested::expr;
 use dm_read_members::Bodies;
-use dm_read_places::place::{Place, Read};
+use dm_read_places::place::Place;
+use dm_stream::Read;
 
 /// How many expressions may stand in one another. Deeper ones want memory: that of the stack.
 const ROOM: usize = 1024;

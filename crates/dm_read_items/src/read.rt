@@ -13,7 +13,7 @@ use dm_lexer::lex;
 use dm_nodes::item::ItemNodes;
 use dm_output::Item;
 use dm_read_places::place::Place;
-use dm_stream::{Error, Kind, Refusal, Seq, Span, TokenStream};
+use dm_stream::{Error, Kind, Read, Refusal, Seq, Span, TokenStream};
 use std::alloc::Global;
 
 /// A refusal of trees that no implementation has.
@@ -31,7 +31,7 @@ fn unlike(error: Error) -> Error
 
 /// What was read, or the refusal of its first token that stands too deep.
 #[tactic(auto)]
-fn within<T: Drop>(found: T, deep: Option<Span>) -> Result<T, Error>
+fn within<T: Drop>(found: T, deep: Option<Span>) -> Read<T>
     ensures { IsWithin found deep result }
 {
     match deep {
@@ -44,7 +44,7 @@ fn within<T: Drop>(found: T, deep: Option<Span>) -> Result<T, Error>
 }
 
 /// The implementations of a text's trees, whose texts are the stream's.
-fn items_of<'a>(alloc: Global, stream: &TokenStream<'a>) -> Result<ItemNodes<'a>, Error>
+fn items_of<'a>(alloc: Global, stream: &TokenStream<'a>) -> Read<ItemNodes<'a>>
     ensures items { (text : List ℕ) → IsTreesOf text stream.now.trees → IfOk result (λ all. IsFollowed text (map item_view all) None) }
     ensures unread { (text : List ℕ) → IsTreesOf text stream.now.trees → IfErr result (IsUnread text) }
 {
@@ -59,7 +59,7 @@ fn items_of<'a>(alloc: Global, stream: &TokenStream<'a>) -> Result<ItemNodes<'a>
 
 /// The trees of what was read.
 #[tactic(auto)]
-fn trees_of<'a>(read: Result<ItemNodes<'a>, Error>) -> Result<Seq<Item<'a>>, Error>
+fn trees_of<'a>(read: Result<ItemNodes<'a>, Error>) -> Read<Seq<Item<'a>>>
     ensures { result ≡ read.entry }
 {
     match read {

@@ -7,12 +7,12 @@ ghost use Rattle.dm_stream.specs.Cursors.{left, sound, trees_in, sound_piece, Sh
 ghost use Rattle.dm_stream.specs.Sizes.{size};
 ghost use Rattle.dm_expr.specs.Cuts.{after, split_at};
 ghost use Rattle.dm_ast.specs.Spelling as spelling;
-ghost use Rattle.dm_ast.specs.Tree.{ty_view, path_view, no_self};
+ghost use Rattle.dm_ast.specs.Tree.{no_self};
 ghost use Rattle.dm_reread.specs.Reading.{whole};
 ghost use Rattle.dm_reread.specs.TypeLeaves.{read_type};
 ghost use Rattle.dm_reread.specs.PathLeaves.{names_at, path_at, qualified_in};
 ghost use Rattle.dm_reread.specs.ExactLeaves.{exact_qualified};
-ghost use Rattle.dm_read_places.specs.Reads.{Reads, ReadsWhole};
+ghost use Rattle.dm_read_places.specs.Prelude.{ty_view, path_view, Reads, ReadsWhole};
 ghost use Rattle.dm_read_leaves.specs.Leaves.{is_separated, path_expr_view, unranged_type, cut_type, exact_cut};
 
 use crate::ty::front_type;
@@ -21,8 +21,8 @@ use dm_expr::pair_size;
 use dm_input::join::ended;
 use dm_output::PathExpr;
 use dm_read_exact::exact::exact;
-use dm_read_places::place::{Place, Read};
-use dm_stream::{Cursor, Piece, Punct, Spacing, Span};
+use dm_read_places::place::Place;
+use dm_stream::{Cursor, Piece, Punct, Read, Spacing, Span};
 use std::alloc::Global;
 
 fn is_joint(spacing: Spacing) -> bool

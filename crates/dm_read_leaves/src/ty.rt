@@ -1,16 +1,16 @@
 //! Types.
 #![tactic(auto, using(crate::proofs::TypeSteps::type_steps))]
 
-ghost use Rattle.dm_ast.specs.Tree.{ty_view};
 ghost use Rattle.dm_reread.specs.TypeLeaves.{read_type};
 ghost use Rattle.dm_reread.specs.ExactLeaves.{exact_type};
-ghost use Rattle.dm_read_places.specs.Reads.{Reads};
+ghost use Rattle.dm_read_places.specs.Prelude.{ty_view, Reads};
 
 use dm_ast::Ty;
 use dm_input::Input;
 use dm_read_exact::exact::exact;
-use dm_read_places::place::{Place, Read};
+use dm_read_places::place::Place;
 use dm_read_types::entry;
+use dm_stream::Read;
 
 /// The type in front, however it is spaced.
 pub fn front_type<'a>(place: &mut Place<'_, 'a>) -> Read<Ty<'a>>

@@ -2,11 +2,9 @@
 #![tactic(auto, using(crate::proofs::ItemSteps::item_steps))]
 
 ghost use Rattle.std.specs.Prelude.{◌≡◌, IfOk, map};
-ghost use Rattle.dm_output.specs.Views.{assoc_view, item_view};
-ghost use Rattle.dm_reread.specs.Next.{next};
 ghost use Rattle.dm_reread.specs.Items as plain;
 ghost use Rattle.dm_reread.specs.ReadBack.{item_leaves, read_output};
-ghost use Rattle.dm_read_places.specs.Reads.{Reads, ReadsWhole};
+ghost use Rattle.dm_read_places.specs.Prelude.{assoc_view, item_view, next, Reads, ReadsWhole};
 ghost use Rattle.dm_read_arguments.specs.ExprNests.{ExprNests};
 ghost use Rattle.dm_read_members.specs.Rows as spec;
 ghost use Rattle.dm_read_members.specs.Views.{members_view, unmarked_view};
@@ -23,9 +21,9 @@ use dm_read_heads::attr::attrs;
 use dm_read_heads::head::{Head, printed_head};
 use dm_read_places::front::Keyword;
 use dm_read_places::list::{Rule, Turn, gathered};
-use dm_read_places::place::{Place, Read};
-use dm_stream::{Delim, Seq};
-use std::alloc::{AllocError, Global};
+use dm_read_places::place::Place;
+use dm_stream::{Delim, Made, Read, Seq};
+use std::alloc::Global;
 
 type Members<'a> = (AssocTypes<'a>, MethodNodes<'a>);
 
@@ -42,7 +40,7 @@ fn item_of<'a>(
     alloc: Global,
     attrs: Seq<ItemAttr>,
     parts: (Head<'a>, Members<'a>),
-) -> Result<ItemNode<'a>, AllocError>
+) -> Made<ItemNode<'a>>
     ensures { IfOk result (λ i. item_view i ≡ spec.made_item attrs (unmarked_view parts.entry)) }
 {
     let (head, (assocs, methods)) = parts;

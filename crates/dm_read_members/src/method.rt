@@ -2,13 +2,10 @@
 #![tactic(auto, using(crate::proofs::MethodSteps::method_steps))]
 
 ghost use Rattle.std.specs.Prelude.{◌≡◌, IfOk, map};
-ghost use Rattle.dm_output.specs.Views.{block_view, method_view};
-ghost use Rattle.dm_reread.specs.Next.{next};
 ghost use Rattle.dm_reread.specs.Items as plain;
 ghost use Rattle.dm_reread.specs.ReadBack.{leaves};
 ghost use Rattle.dm_reread.specs.Whole.{read_inside};
-ghost use Rattle.dm_read_places.specs.Reads.{Reads, ReadsWhole};
-ghost use Rattle.dm_read_places.specs.Turns.{rows};
+ghost use Rattle.dm_read_places.specs.Prelude.{block_view, method_view, next, Reads, ReadsWhole, rows};
 ghost use Rattle.dm_read_arguments.specs.ExprNests.{ExprNests};
 ghost use Rattle.dm_read_members.specs.Rows as spec;
 ghost use Rattle.dm_read_members.specs.Views.{behind_view, unnamed_view};
@@ -26,9 +23,9 @@ use dm_read_heads::attr::attrs;
 use dm_read_heads::signature::{Signature, named_signature};
 use dm_read_places::front::Keyword;
 use dm_read_places::list::{Rule, Turn, gathered};
-use dm_read_places::place::{Place, Read};
-use dm_stream::{Delim, Error, Ident, Seq};
-use std::alloc::{AllocError, Global};
+use dm_read_places::place::Place;
+use dm_stream::{Delim, Error, Ident, Made, Read, Seq};
+use std::alloc::Global;
 
 /// What methods and implementations are read by.
 #[derive(Clone, Copy)]
@@ -57,7 +54,7 @@ fn method_of<'a>(
     alloc: Global,
     attrs: Seq<ItemAttr>,
     parts: (bool, Behind<'a>),
-) -> Result<MethodNode<'a>, AllocError>
+) -> Made<MethodNode<'a>>
     ensures { IfOk result (λ m. method_view m ≡ spec.made_method attrs (unnamed_view parts.entry)) }
 {
     let (is_const, ((name, signature), body)) = parts;

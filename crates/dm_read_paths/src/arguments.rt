@@ -3,13 +3,11 @@
 
 ghost use Rattle.std.specs.Prelude.{◌≡◌, map, option_map};
 ghost use Rattle.dm_read.specs.Stops.{list_view};
-ghost use Rattle.dm_input.specs.Inputs.{Reads};
 ghost use Rattle.dm_read_paths.specs.Bindings as bindings;
 ghost use Rattle.dm_read_paths.specs.Bindings.{binding_view};
 ghost use Rattle.dm_read_paths.specs.TypeReaders as types;
-ghost use Rattle.dm_read_paths.specs.TypeReaders.{read_type};
-ghost use Rattle.dm_read_paths.specs.Nests.{Nests};
-ghost use Rattle.dm_ast.specs.Tree.{ty_view, bound_view, path_view, segment_view, argument_view, segments_of, lifetime_arg, const_arg, type_arg};
+ghost use Rattle.dm_ast.specs.Tree.{segments_of, lifetime_arg, const_arg, type_arg};
+ghost use Rattle.dm_read_paths.specs.Prelude.{Reads, read_type, Nests, ty_view, bound_view, path_view, segment_view, argument_view};
 
 use crate::grammar::Grammar;
 use crate::kind::Mode;
@@ -20,7 +18,7 @@ use dm_input::join::{ended, joined};
 use dm_input::list::{Rule, listed};
 use dm_read::list::Stop;
 use dm_read::words::is_name;
-use dm_stream::{Delim, Error, Ident, Lifetime, Punctuated, Seq};
+use dm_stream::{Delim, Ident, Lifetime, Punctuated, Read, Seq};
 
 /// Whether a constant comes next.
 fn sees_constant(input: &Input<'_, '_>) -> bool
@@ -165,20 +163,20 @@ fn constraint_of<'a>(
 fn constant_binding<'a>(
     binding: (Ident<'a>, Option<Punctuated<GenericArgument<'a>>>),
     input: &mut Input<'_, 'a>,
-) -> Result<GenericArgument<'a>, Error>
+) -> Read<GenericArgument<'a>>
     ensures { Reads argument_view (types.read_constant_value (binding_view binding.entry)) input.old result input.new }
 {
     let (binding, found) = joined(binding, input.constant())?;
     Ok(constant_value(binding, found))
 }
 
-impl<'a, F: for<'t> Fn(&mut Input<'t, 'a>, usize, Mode) -> Result<Ty<'a>, Error>> Grammar<F> {
+impl<'a, F: for<'t> Fn(&mut Input<'t, 'a>, usize, Mode) -> Read<Ty<'a>>> Grammar<F> {
     /// A type that follows a name and `=`.
     fn type_binding(
         &self,
         binding: (Ident<'a>, Option<Punctuated<GenericArgument<'a>>>),
         input: &mut Input<'_, 'a>,
-    ) -> Result<GenericArgument<'a>, Error>
+    ) -> Read<GenericArgument<'a>>
         requires { Nests self.now.depth (F.pre self.now.ty) (F.post self.now.ty) }
         ensures { Reads argument_view (types.read_type_value (read_type self.now.depth) (binding_view binding.entry)) input.old result input.new }
     {
@@ -191,7 +189,7 @@ impl<'a, F: for<'t> Fn(&mut Input<'t, 'a>, usize, Mode) -> Result<Ty<'a>, Error>
         &self,
         binding: (Ident<'a>, Option<Punctuated<GenericArgument<'a>>>),
         input: &mut Input<'_, 'a>,
-    ) -> Result<GenericArgument<'a>, Error>
+    ) -> Read<GenericArgument<'a>>
         requires { Nests self.now.depth (F.pre self.now.ty) (F.post self.now.ty) }
         ensures { Reads argument_view (types.read_binding_value (read_type self.now.depth) (binding_view binding.entry)) input.old result input.new }
     {
@@ -206,7 +204,7 @@ impl<'a, F: for<'t> Fn(&mut Input<'t, 'a>, usize, Mode) -> Result<Ty<'a>, Error>
         &self,
         binding: (Ident<'a>, Option<Punctuated<GenericArgument<'a>>>),
         input: &mut Input<'_, 'a>,
-    ) -> Result<GenericArgument<'a>, Error>
+    ) -> Read<GenericArgument<'a>>
         requires { Nests self.now.depth (F.pre self.now.ty) (F.post self.now.ty) }
         ensures { Reads argument_view (types.read_behind_equals (read_type self.now.depth) (binding_view binding.entry)) input.old result input.new }
     {
@@ -215,7 +213,7 @@ impl<'a, F: for<'t> Fn(&mut Input<'t, 'a>, usize, Mode) -> Result<Ty<'a>, Error>
     }
 
     /// `:` and bounds.
-    fn behind_colon(&self, input: &mut Input<'_, 'a>) -> Result<Punctuated<Bound<'a>>, Error>
+    fn behind_colon(&self, input: &mut Input<'_, 'a>) -> Read<Punctuated<Bound<'a>>>
         requires { Nests self.now.depth (F.pre self.now.ty) (F.post self.now.ty) }
         ensures { Reads (λ v. types.bounds_pair (list_view bound_view v)) (types.read_behind_colon (read_type self.now.depth)) input.old result input.new }
     {
@@ -228,7 +226,7 @@ impl<'a, F: for<'t> Fn(&mut Input<'t, 'a>, usize, Mode) -> Result<Ty<'a>, Error>
         &self,
         binding: (Ident<'a>, Option<Punctuated<GenericArgument<'a>>>),
         input: &mut Input<'_, 'a>,
-    ) -> Result<GenericArgument<'a>, Error>
+    ) -> Read<GenericArgument<'a>>
         requires { Nests self.now.depth (F.pre self.now.ty) (F.post self.now.ty) }
         ensures { Reads argument_view (types.read_constraint (read_type self.now.depth) (binding_view binding.entry)) input.old result input.new }
     {
@@ -241,7 +239,7 @@ impl<'a, F: for<'t> Fn(&mut Input<'t, 'a>, usize, Mode) -> Result<Ty<'a>, Error>
         &self,
         binding: (Ident<'a>, Option<Punctuated<GenericArgument<'a>>>),
         input: &mut Input<'_, 'a>,
-    ) -> Result<GenericArgument<'a>, Error>
+    ) -> Read<GenericArgument<'a>>
         requires { Nests self.now.depth (F.pre self.now.ty) (F.post self.now.ty) }
         ensures { Reads argument_view (types.read_behind_name (read_type self.now.depth) (binding_view binding.entry)) input.old result input.new }
     {
@@ -256,7 +254,7 @@ impl<'a, F: for<'t> Fn(&mut Input<'t, 'a>, usize, Mode) -> Result<Ty<'a>, Error>
         &self,
         binding: Option<(Ident<'a>, Option<Punctuated<GenericArgument<'a>>>)>,
         input: &mut Input<'_, 'a>,
-    ) -> Result<GenericArgument<'a>, Error>
+    ) -> Read<GenericArgument<'a>>
         requires { Nests self.now.depth (F.pre self.now.ty) (F.post self.now.ty) }
         ensures { Reads argument_view (λ w. types.behind_name (read_type self.now.depth) w (option_map binding_view binding.entry)) input.old result input.new }
     {
@@ -267,11 +265,7 @@ impl<'a, F: for<'t> Fn(&mut Input<'t, 'a>, usize, Mode) -> Result<Ty<'a>, Error>
     }
 
     /// What follows a type.
-    fn behind_type(
-        &self,
-        found: Ty<'a>,
-        input: &mut Input<'_, 'a>,
-    ) -> Result<GenericArgument<'a>, Error>
+    fn behind_type(&self, found: Ty<'a>, input: &mut Input<'_, 'a>) -> Read<GenericArgument<'a>>
         requires { Nests self.now.depth (F.pre self.now.ty) (F.post self.now.ty) }
         ensures { Reads argument_view (λ w. types.behind_type (read_type self.now.depth) w (ty_view found.entry)) input.old result input.new }
     {
@@ -282,7 +276,7 @@ impl<'a, F: for<'t> Fn(&mut Input<'t, 'a>, usize, Mode) -> Result<Ty<'a>, Error>
     }
 
     /// A type, and what follows it.
-    fn typed_argument(&self, input: &mut Input<'_, 'a>) -> Result<GenericArgument<'a>, Error>
+    fn typed_argument(&self, input: &mut Input<'_, 'a>) -> Read<GenericArgument<'a>>
         requires { Nests self.now.depth (F.pre self.now.ty) (F.post self.now.ty) }
         ensures { Reads argument_view (types.read_typed_argument (read_type self.now.depth)) input.old result input.new }
     {
@@ -291,7 +285,7 @@ impl<'a, F: for<'t> Fn(&mut Input<'t, 'a>, usize, Mode) -> Result<Ty<'a>, Error>
     }
 
     /// An argument.
-    fn argument(&self, input: &mut Input<'_, 'a>) -> Result<GenericArgument<'a>, Error>
+    fn argument(&self, input: &mut Input<'_, 'a>) -> Read<GenericArgument<'a>>
         requires { Nests self.now.depth (F.pre self.now.ty) (F.post self.now.ty) }
         ensures { Reads argument_view (types.read_argument (read_type self.now.depth)) input.old result input.new }
     {
@@ -305,10 +299,7 @@ impl<'a, F: for<'t> Fn(&mut Input<'t, 'a>, usize, Mode) -> Result<Ty<'a>, Error>
     }
 
     /// Arguments with commas between.
-    pub fn arguments(
-        &self,
-        input: &mut Input<'_, 'a>,
-    ) -> Result<Punctuated<GenericArgument<'a>>, Error>
+    pub fn arguments(&self, input: &mut Input<'_, 'a>) -> Read<Punctuated<GenericArgument<'a>>>
         requires { Nests self.now.depth (F.pre self.now.ty) (F.post self.now.ty) }
         ensures { Reads (λ v. types.arguments_pair (list_view argument_view v)) (types.read_arguments (read_type self.now.depth)) input.old result input.new }
     {
@@ -322,7 +313,7 @@ struct ArgumentRule<'g, F> {
     grammar: &'g Grammar<F>,
 }
 
-impl<'g, 'a, F: for<'t> Fn(&mut Input<'t, 'a>, usize, Mode) -> Result<Ty<'a>, Error>> Rule<'a>
+impl<'g, 'a, F: for<'t> Fn(&mut Input<'t, 'a>, usize, Mode) -> Read<Ty<'a>>> Rule<'a>
     for ArgumentRule<'g, F> {
     ghost use Rattle.dm_ast.specs.Tree.{ArgumentTree, argument_view};
     ghost use Rattle.dm_read_paths.specs.Nests.{Nests};
@@ -339,7 +330,7 @@ impl<'g, 'a, F: for<'t> Fn(&mut Input<'t, 'a>, usize, Mode) -> Result<Ty<'a>, Er
 
     ghost reader = { λ r w. types.read_argument (read_type r.grammar.now.depth) w };
 
-    fn read(&self, input: &mut Input<'_, 'a>) -> Result<GenericArgument<'a>, Error> {
+    fn read(&self, input: &mut Input<'_, 'a>) -> Read<GenericArgument<'a>> {
         self.grammar.argument(input)
     }
 }

@@ -3,11 +3,9 @@
 
 ghost use Rattle.std.specs.Prelude.{◌≡◌, IfOk, true, false, map, [], ◌∷◌};
 ghost use Rattle.dm_read.specs.Stops.{list_view};
-ghost use Rattle.dm_input.specs.Inputs.{Reads};
 ghost use Rattle.dm_read_paths.specs.TypeReaders as types;
-ghost use Rattle.dm_read_paths.specs.TypeReaders.{read_type};
-ghost use Rattle.dm_read_paths.specs.Nests.{Nests};
-ghost use Rattle.dm_ast.specs.Tree.{ty_view, path_view, bound_view, trait_view, trait_bound, bounds_of, path_tree, no_segments, outlives, implements};
+ghost use Rattle.dm_ast.specs.Tree.{trait_view, trait_bound, bounds_of, path_tree, no_segments, outlives, implements};
+ghost use Rattle.dm_read_paths.specs.Prelude.{Reads, read_type, Nests, ty_view, path_view, bound_view};
 
 use crate::grammar::Grammar;
 use crate::kind::Mode;
@@ -17,8 +15,8 @@ use dm_input::Input;
 use dm_input::join::{ended, joined};
 use dm_input::list::{Rule, chained, listed};
 use dm_read::list::{Link, Stop};
-use dm_stream::{Delim, Error, Lifetime, Punctuated, Seq};
-use std::alloc::{AllocError, Global};
+use dm_stream::{Delim, Lifetime, Made, Punctuated, Read, Seq};
+use std::alloc::Global;
 
 /// A path without segments.
 #[tactic(auto, using(dm_ast::proofs::View::view_steps))]
@@ -77,7 +75,7 @@ fn trait_as_bound<'a>(found: TraitBound<'a>) -> Bound<'a>
 }
 
 /// One bound as a list.
-fn alone<'a>(alloc: Global, found: Bound<'a>) -> Result<Seq<Bound<'a>>, AllocError>
+fn alone<'a>(alloc: Global, found: Bound<'a>) -> Made<Seq<Bound<'a>>>
     ensures { IfOk result (λ l. l ≡ found.entry ∷ []) }
 {
     let mut all = Seq::new(alloc);
@@ -86,7 +84,7 @@ fn alone<'a>(alloc: Global, found: Bound<'a>) -> Result<Seq<Bound<'a>>, AllocErr
 }
 
 /// `?` where it comes next.
-fn question(input: &mut Input<'_, '_>) -> Result<bool, Error>
+fn question(input: &mut Input<'_, '_>) -> Read<bool>
     ensures { Reads (λ b. b) types.read_question input.old result input.new }
 {
     if !input.sees('?') {
@@ -96,9 +94,9 @@ fn question(input: &mut Input<'_, '_>) -> Result<bool, Error>
     Ok(true)
 }
 
-impl<'a, F: for<'t> Fn(&mut Input<'t, 'a>, usize, Mode) -> Result<Ty<'a>, Error>> Grammar<F> {
+impl<'a, F: for<'t> Fn(&mut Input<'t, 'a>, usize, Mode) -> Read<Ty<'a>>> Grammar<F> {
     /// A path of the next level.
-    fn inner_path(&self, input: &mut Input<'_, 'a>) -> Result<Path<'a>, Error>
+    fn inner_path(&self, input: &mut Input<'_, 'a>) -> Read<Path<'a>>
         requires { Nests self.now.depth (F.pre self.now.ty) (F.post self.now.ty) }
         ensures { Reads path_view (types.inner_path (read_type self.now.depth)) input.old result input.new }
     {
@@ -110,7 +108,7 @@ impl<'a, F: for<'t> Fn(&mut Input<'t, 'a>, usize, Mode) -> Result<Ty<'a>, Error>
     fn bound_path(
         &self,
         input: &mut Input<'_, 'a>,
-    ) -> Result<(Option<Punctuated<Lifetime<'a>>>, Path<'a>), Error>
+    ) -> Read<(Option<Punctuated<Lifetime<'a>>>, Path<'a>)>
         requires { Nests self.now.depth (F.pre self.now.ty) (F.post self.now.ty) }
         ensures { Reads (λ v. (v.0, path_view v.1)) (types.read_bound_path (read_type self.now.depth) (types.inner_path (read_type self.now.depth))) input.old result input.new }
     {
@@ -122,7 +120,7 @@ impl<'a, F: for<'t> Fn(&mut Input<'t, 'a>, usize, Mode) -> Result<Ty<'a>, Error>
     fn plain_trait(
         &self,
         input: &mut Input<'_, 'a>,
-    ) -> Result<(bool, (Option<Punctuated<Lifetime<'a>>>, Path<'a>)), Error>
+    ) -> Read<(bool, (Option<Punctuated<Lifetime<'a>>>, Path<'a>))>
         requires { Nests self.now.depth (F.pre self.now.ty) (F.post self.now.ty) }
         ensures { Reads (λ v. (v.0, (v.1.0, path_view v.1.1))) (types.read_plain_trait (read_type self.now.depth) (types.inner_path (read_type self.now.depth))) input.old result input.new }
     {
@@ -134,7 +132,7 @@ impl<'a, F: for<'t> Fn(&mut Input<'t, 'a>, usize, Mode) -> Result<Ty<'a>, Error>
     fn enclosed_trait(
         &self,
         input: &mut Input<'_, 'a>,
-    ) -> Result<(bool, (Option<Punctuated<Lifetime<'a>>>, Path<'a>)), Error>
+    ) -> Read<(bool, (Option<Punctuated<Lifetime<'a>>>, Path<'a>))>
         requires { Nests self.now.depth (F.pre self.now.ty) (F.post self.now.ty) }
         ensures { Reads (λ v. (v.0, (v.1.0, path_view v.1.1))) (types.read_enclosed_trait (read_type self.now.depth) (types.inner_path (read_type self.now.depth))) input.old result input.new }
     {
@@ -144,7 +142,7 @@ impl<'a, F: for<'t> Fn(&mut Input<'t, 'a>, usize, Mode) -> Result<Ty<'a>, Error>
     }
 
     /// A trait as a bound.
-    fn trait_bound(&self, input: &mut Input<'_, 'a>) -> Result<TraitBound<'a>, Error>
+    fn trait_bound(&self, input: &mut Input<'_, 'a>) -> Read<TraitBound<'a>>
         requires { Nests self.now.depth (F.pre self.now.ty) (F.post self.now.ty) }
         ensures { Reads trait_view (types.read_trait (read_type self.now.depth) (types.inner_path (read_type self.now.depth))) input.old result input.new }
     {
@@ -157,7 +155,7 @@ impl<'a, F: for<'t> Fn(&mut Input<'t, 'a>, usize, Mode) -> Result<Ty<'a>, Error>
     }
 
     /// A bound.
-    fn bound(&self, input: &mut Input<'_, 'a>) -> Result<Bound<'a>, Error>
+    fn bound(&self, input: &mut Input<'_, 'a>) -> Read<Bound<'a>>
         requires { Nests self.now.depth (F.pre self.now.ty) (F.post self.now.ty) }
         ensures { Reads bound_view (types.read_bound (read_type self.now.depth) (types.inner_path (read_type self.now.depth))) input.old result input.new }
     {
@@ -168,7 +166,7 @@ impl<'a, F: for<'t> Fn(&mut Input<'t, 'a>, usize, Mode) -> Result<Ty<'a>, Error>
     }
 
     /// Bounds with `+` between, as a list.
-    pub fn bound_list(&self, input: &mut Input<'_, 'a>) -> Result<Punctuated<Bound<'a>>, Error>
+    pub fn bound_list(&self, input: &mut Input<'_, 'a>) -> Read<Punctuated<Bound<'a>>>
         requires { Nests self.now.depth (F.pre self.now.ty) (F.post self.now.ty) }
         ensures { Reads (list_view bound_view) (types.read_bound_list (read_type self.now.depth) (types.inner_path (read_type self.now.depth))) input.old result input.new }
     {
@@ -176,7 +174,7 @@ impl<'a, F: for<'t> Fn(&mut Input<'t, 'a>, usize, Mode) -> Result<Ty<'a>, Error>
     }
 
     /// Bounds with `+` between.
-    pub fn bounds(&self, input: &mut Input<'_, 'a>) -> Result<Punctuated<Bound<'a>>, Error>
+    pub fn bounds(&self, input: &mut Input<'_, 'a>) -> Read<Punctuated<Bound<'a>>>
         requires { Nests self.now.depth (F.pre self.now.ty) (F.post self.now.ty) }
         ensures { Reads (λ v. types.bounds_pair (list_view bound_view v)) (types.read_bounds (read_type self.now.depth) (types.inner_path (read_type self.now.depth))) input.old result input.new }
     {
@@ -184,7 +182,7 @@ impl<'a, F: for<'t> Fn(&mut Input<'t, 'a>, usize, Mode) -> Result<Ty<'a>, Error>
     }
 
     /// One bound as a list.
-    fn one_bound(&self, input: &mut Input<'_, 'a>) -> Result<Seq<Bound<'a>>, Error>
+    fn one_bound(&self, input: &mut Input<'_, 'a>) -> Read<Seq<Bound<'a>>>
         requires { Nests self.now.depth (F.pre self.now.ty) (F.post self.now.ty) }
         ensures { Reads (λ l. bounds_of (map bound_view l)) (types.read_one_bound (read_type self.now.depth) (types.inner_path (read_type self.now.depth))) input.old result input.new }
     {
@@ -193,7 +191,7 @@ impl<'a, F: for<'t> Fn(&mut Input<'t, 'a>, usize, Mode) -> Result<Ty<'a>, Error>
     }
 
     /// One bound and each that follows `+`.
-    fn all_bounds(&self, input: &mut Input<'_, 'a>) -> Result<Seq<Bound<'a>>, Error>
+    fn all_bounds(&self, input: &mut Input<'_, 'a>) -> Read<Seq<Bound<'a>>>
         requires { Nests self.now.depth (F.pre self.now.ty) (F.post self.now.ty) }
         ensures { Reads (λ l. bounds_of (map bound_view l)) (types.read_all_bounds (read_type self.now.depth) (types.inner_path (read_type self.now.depth))) input.old result input.new }
     {
@@ -201,11 +199,7 @@ impl<'a, F: for<'t> Fn(&mut Input<'t, 'a>, usize, Mode) -> Result<Ty<'a>, Error>
     }
 
     /// The bounds of a `dyn` or an `impl`.
-    pub fn some_bounds(
-        &self,
-        single: bool,
-        input: &mut Input<'_, 'a>,
-    ) -> Result<Seq<Bound<'a>>, Error>
+    pub fn some_bounds(&self, single: bool, input: &mut Input<'_, 'a>) -> Read<Seq<Bound<'a>>>
         requires { Nests self.now.depth (F.pre self.now.ty) (F.post self.now.ty) }
         ensures { Reads (λ l. bounds_of (map bound_view l)) (types.read_some_bounds (read_type self.now.depth) (types.inner_path (read_type self.now.depth)) single) input.old result input.new }
     {
@@ -222,7 +216,7 @@ struct BoundRule<'g, F> {
     grammar: &'g Grammar<F>,
 }
 
-impl<'g, 'a, F: for<'t> Fn(&mut Input<'t, 'a>, usize, Mode) -> Result<Ty<'a>, Error>> Rule<'a>
+impl<'g, 'a, F: for<'t> Fn(&mut Input<'t, 'a>, usize, Mode) -> Read<Ty<'a>>> Rule<'a>
     for BoundRule<'g, F> {
     ghost use Rattle.dm_ast.specs.Tree.{BoundTree, bound_view};
     ghost use Rattle.dm_read_paths.specs.Nests.{Nests};
@@ -239,7 +233,7 @@ impl<'g, 'a, F: for<'t> Fn(&mut Input<'t, 'a>, usize, Mode) -> Result<Ty<'a>, Er
 
     ghost reader = { λ r w. types.read_bound (read_type r.grammar.now.depth) (types.inner_path (read_type r.grammar.now.depth)) w };
 
-    fn read(&self, input: &mut Input<'_, 'a>) -> Result<Bound<'a>, Error> {
+    fn read(&self, input: &mut Input<'_, 'a>) -> Read<Bound<'a>> {
         self.grammar.bound(input)
     }
 }

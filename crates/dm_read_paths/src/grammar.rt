@@ -2,14 +2,11 @@
 #![tactic(auto, using(dm_input::proofs::Levels::level_steps))]
 
 ghost use Rattle.std.specs.Prelude.{◌≤◌, option_map};
-ghost use Rattle.dm_ast.specs.Spelling.{deepest};
-ghost use Rattle.dm_ast.specs.Tree.{ty_view, maybe_type};
+ghost use Rattle.dm_ast.specs.Tree.{maybe_type};
 ghost use Rattle.dm_read.specs.Stops.{list_view};
-ghost use Rattle.dm_input.specs.Inputs.{Reads};
 ghost use Rattle.dm_read_paths.specs.TypeReaders as types;
-ghost use Rattle.dm_read_paths.specs.TypeReaders.{read_type};
 ghost use Rattle.dm_read_paths.specs.declared.kind.Mode.TheVariants.{Whole, Single};
-ghost use Rattle.dm_read_paths.specs.Nests.{Nests};
+ghost use Rattle.dm_read_paths.specs.Prelude.{deepest, ty_view, Reads, read_type, Nests};
 
 use crate::kind::Mode;
 use dm_ast::Ty;
@@ -17,7 +14,7 @@ use dm_input::Input;
 use dm_input::join::ended;
 use dm_input::list::{Rule, listed};
 use dm_read::list::Stop;
-use dm_stream::{Delim, Error, Punctuated};
+use dm_stream::{Delim, Punctuated, Read};
 
 /// The rules of paths and bounds, and the types in them.
 #[derive(Clone, Copy)]
@@ -28,9 +25,9 @@ pub struct Grammar<F> {
     pub ty: F,
 }
 
-impl<'a, F: for<'t> Fn(&mut Input<'t, 'a>, usize, Mode) -> Result<Ty<'a>, Error>> Grammar<F> {
+impl<'a, F: for<'t> Fn(&mut Input<'t, 'a>, usize, Mode) -> Read<Ty<'a>>> Grammar<F> {
     /// A type of the next level.
-    pub fn ty(&self, mode: Mode, input: &mut Input<'_, 'a>) -> Result<Ty<'a>, Error>
+    pub fn ty(&self, mode: Mode, input: &mut Input<'_, 'a>) -> Read<Ty<'a>>
         requires { Nests self.now.depth (F.pre self.now.ty) (F.post self.now.ty) }
         ensures { Reads ty_view (read_type self.now.depth mode) input.old result input.new }
     {
@@ -38,7 +35,7 @@ impl<'a, F: for<'t> Fn(&mut Input<'t, 'a>, usize, Mode) -> Result<Ty<'a>, Error>
     }
 
     /// A type whose tokens stand one level deeper.
-    pub fn deep_ty(&self, mode: Mode, input: &mut Input<'_, 'a>) -> Result<Ty<'a>, Error>
+    pub fn deep_ty(&self, mode: Mode, input: &mut Input<'_, 'a>) -> Read<Ty<'a>>
         requires level { input.old.at.level ≤ deepest }
         requires nests { Nests self.now.depth (F.pre self.now.ty) (F.post self.now.ty) }
         ensures { Reads ty_view (types.read_deep (read_type self.now.depth) mode) input.old result input.new }
@@ -50,7 +47,7 @@ impl<'a, F: for<'t> Fn(&mut Input<'t, 'a>, usize, Mode) -> Result<Ty<'a>, Error>
     }
 
     /// Types with commas between.
-    pub fn types(&self, input: &mut Input<'_, 'a>) -> Result<Punctuated<Ty<'a>>, Error>
+    pub fn types(&self, input: &mut Input<'_, 'a>) -> Read<Punctuated<Ty<'a>>>
         requires { Nests self.now.depth (F.pre self.now.ty) (F.post self.now.ty) }
         ensures { Reads (λ v. types.types_pair (list_view ty_view v)) (types.read_types (read_type self.now.depth)) input.old result input.new }
     {
@@ -58,7 +55,7 @@ impl<'a, F: for<'t> Fn(&mut Input<'t, 'a>, usize, Mode) -> Result<Ty<'a>, Error>
     }
 
     /// Types in parentheses, with commas between.
-    pub fn enclosed_types(&self, input: &mut Input<'_, 'a>) -> Result<Punctuated<Ty<'a>>, Error>
+    pub fn enclosed_types(&self, input: &mut Input<'_, 'a>) -> Read<Punctuated<Ty<'a>>>
         requires { Nests self.now.depth (F.pre self.now.ty) (F.post self.now.ty) }
         ensures { Reads (λ v. types.types_pair (list_view ty_view v)) (types.read_enclosed (read_type self.now.depth)) input.old result input.new }
     {
@@ -68,7 +65,7 @@ impl<'a, F: for<'t> Fn(&mut Input<'t, 'a>, usize, Mode) -> Result<Ty<'a>, Error>
     }
 
     /// `->`, and a type whose tokens stand one level deeper.
-    fn deep_behind_arrow(&self, input: &mut Input<'_, 'a>) -> Result<Ty<'a>, Error>
+    fn deep_behind_arrow(&self, input: &mut Input<'_, 'a>) -> Read<Ty<'a>>
         requires { Nests self.now.depth (F.pre self.now.ty) (F.post self.now.ty) }
         ensures { Reads ty_view (types.read_deep_behind_arrow (read_type self.now.depth)) input.old result input.new }
     {
@@ -77,7 +74,7 @@ impl<'a, F: for<'t> Fn(&mut Input<'t, 'a>, usize, Mode) -> Result<Ty<'a>, Error>
     }
 
     /// `-> T` where it comes next, with the type's tokens one level deeper.
-    pub fn deep_output(&self, input: &mut Input<'_, 'a>) -> Result<Option<Ty<'a>>, Error>
+    pub fn deep_output(&self, input: &mut Input<'_, 'a>) -> Read<Option<Ty<'a>>>
         requires { Nests self.now.depth (F.pre self.now.ty) (F.post self.now.ty) }
         ensures { Reads (λ o. maybe_type (option_map ty_view o)) (types.read_deep_output (read_type self.now.depth)) input.old result input.new }
     {
@@ -94,7 +91,7 @@ struct TypeRule<'g, F> {
     grammar: &'g Grammar<F>,
 }
 
-impl<'g, 'a, F: for<'t> Fn(&mut Input<'t, 'a>, usize, Mode) -> Result<Ty<'a>, Error>> Rule<'a>
+impl<'g, 'a, F: for<'t> Fn(&mut Input<'t, 'a>, usize, Mode) -> Read<Ty<'a>>> Rule<'a>
     for TypeRule<'g, F> {
     ghost use Rattle.dm_ast.specs.Tree.{TypeTree, ty_view};
     ghost use Rattle.dm_read_paths.specs.Nests.{Nests};
@@ -111,7 +108,7 @@ impl<'g, 'a, F: for<'t> Fn(&mut Input<'t, 'a>, usize, Mode) -> Result<Ty<'a>, Er
 
     ghost reader = { λ r w. read_type r.grammar.now.depth Whole w };
 
-    fn read(&self, input: &mut Input<'_, 'a>) -> Result<Ty<'a>, Error> {
+    fn read(&self, input: &mut Input<'_, 'a>) -> Read<Ty<'a>> {
         self.grammar.ty(Mode::Whole, input)
     }
 }

@@ -2,14 +2,11 @@
 #![tactic(auto)]
 
 ghost use Rattle.std.specs.Prelude.{◌≡◌, ◌≤◌, IfOk, map, option_map};
-ghost use Rattle.dm_ast.specs.Spelling.{deepest};
 ghost use Rattle.dm_read.specs.Stops.{list_view};
-ghost use Rattle.dm_input.specs.Inputs.{Reads};
 ghost use Rattle.dm_read_paths.specs.Bindings as bindings;
 ghost use Rattle.dm_read_paths.specs.TypeReaders as types;
-ghost use Rattle.dm_read_paths.specs.TypeReaders.{read_type};
-ghost use Rattle.dm_read_paths.specs.Nests.{Nests};
-ghost use Rattle.dm_ast.specs.Tree.{ty_view, path_view, segment_view, arguments_view, argument_view, maybe_type, no_type, some_type, types_of, arguments_of, segments_of, path_tree, segment, absent, angle, parens};
+ghost use Rattle.dm_ast.specs.Tree.{maybe_type, no_type, some_type, types_of, arguments_of, segments_of, path_tree, segment, absent, angle, parens};
+ghost use Rattle.dm_read_paths.specs.Prelude.{deepest, Reads, read_type, Nests, ty_view, path_view, segment_view, arguments_view, argument_view};
 
 use crate::grammar::Grammar;
 use crate::kind::Mode;
@@ -18,8 +15,8 @@ use dm_input::Input;
 use dm_input::join::{beside, boxed, ended, joined};
 use dm_input::list::{Rule, chained};
 use dm_read::list::Link;
-use dm_stream::{Delim, Error, Ident, Punctuated, Seq};
-use std::alloc::{AllocError, Global};
+use dm_stream::{Delim, Ident, Made, Punctuated, Read, Seq};
+use std::alloc::Global;
 
 /// Whether arguments between `<` and `>` come next.
 fn sees_angled(input: &Input<'_, '_>) -> bool
@@ -58,7 +55,7 @@ fn parens_with<'a>(
     alloc: Global,
     inputs: Punctuated<Ty<'a>>,
     output: Ty<'a>,
-) -> Result<PathArguments<'a>, AllocError>
+) -> Made<PathArguments<'a>>
     ensures { IfOk result (λ r. arguments_view r ≡ parens (types_of (map ty_view inputs.entry.items)) inputs.entry.trailing (some_type (ty_view output.entry))) }
 {
     let (inner, inputs) = beside(boxed(alloc, output), inputs)?;
@@ -70,7 +67,7 @@ fn parens_of<'a>(
     alloc: Global,
     inputs: Punctuated<Ty<'a>>,
     output: Option<Ty<'a>>,
-) -> Result<PathArguments<'a>, AllocError>
+) -> Made<PathArguments<'a>>
     ensures { IfOk result (λ r. arguments_view r ≡ parens (types_of (map ty_view inputs.entry.items)) inputs.entry.trailing (maybe_type (option_map ty_view output.entry))) }
 {
     match output {
@@ -123,12 +120,9 @@ pub fn path_alone<'a>(found: Ty<'a>) -> Option<Path<'a>>
     }
 }
 
-impl<'a, F: for<'t> Fn(&mut Input<'t, 'a>, usize, Mode) -> Result<Ty<'a>, Error>> Grammar<F> {
+impl<'a, F: for<'t> Fn(&mut Input<'t, 'a>, usize, Mode) -> Read<Ty<'a>>> Grammar<F> {
     /// Types in parentheses, and what follows `->`.
-    fn parens_parts(
-        &self,
-        input: &mut Input<'_, 'a>,
-    ) -> Result<(Punctuated<Ty<'a>>, Option<Ty<'a>>), Error>
+    fn parens_parts(&self, input: &mut Input<'_, 'a>) -> Read<(Punctuated<Ty<'a>>, Option<Ty<'a>>)>
         requires { Nests self.now.depth (F.pre self.now.ty) (F.post self.now.ty) }
         ensures { Reads (λ v. (types.types_pair (list_view ty_view v.0), maybe_type (option_map ty_view v.1))) (types.read_parens_parts (read_type self.now.depth)) input.old result input.new }
     {
@@ -137,7 +131,7 @@ impl<'a, F: for<'t> Fn(&mut Input<'t, 'a>, usize, Mode) -> Result<Ty<'a>, Error>
     }
 
     /// Types in parentheses, and what follows `->`, as arguments.
-    fn parens(&self, input: &mut Input<'_, 'a>) -> Result<PathArguments<'a>, Error>
+    fn parens(&self, input: &mut Input<'_, 'a>) -> Read<PathArguments<'a>>
         requires { Nests self.now.depth (F.pre self.now.ty) (F.post self.now.ty) }
         ensures { Reads arguments_view (types.read_parens (read_type self.now.depth)) input.old result input.new }
     {
@@ -147,10 +141,7 @@ impl<'a, F: for<'t> Fn(&mut Input<'t, 'a>, usize, Mode) -> Result<Ty<'a>, Error>
 
     /// Arguments whose tokens stand one level deeper.
     #[tactic(auto, using(dm_input::proofs::Levels::level_steps))]
-    fn deep_arguments(
-        &self,
-        input: &mut Input<'_, 'a>,
-    ) -> Result<Punctuated<GenericArgument<'a>>, Error>
+    fn deep_arguments(&self, input: &mut Input<'_, 'a>) -> Read<Punctuated<GenericArgument<'a>>>
         requires level { input.old.at.level ≤ deepest }
         requires nests { Nests self.now.depth (F.pre self.now.ty) (F.post self.now.ty) }
         ensures { Reads (λ v. types.arguments_pair (list_view argument_view v)) (types.read_deep_arguments (read_type self.now.depth)) input.old result input.new }
@@ -162,10 +153,7 @@ impl<'a, F: for<'t> Fn(&mut Input<'t, 'a>, usize, Mode) -> Result<Ty<'a>, Error>
     }
 
     /// Arguments and `>`.
-    fn till_angle(
-        &self,
-        input: &mut Input<'_, 'a>,
-    ) -> Result<Punctuated<GenericArgument<'a>>, Error>
+    fn till_angle(&self, input: &mut Input<'_, 'a>) -> Read<Punctuated<GenericArgument<'a>>>
         requires level { input.old.at.level ≤ deepest }
         requires nests { Nests self.now.depth (F.pre self.now.ty) (F.post self.now.ty) }
         ensures { Reads (λ v. types.arguments_pair (list_view argument_view v)) (types.read_till_angle (read_type self.now.depth)) input.old result input.new }
@@ -175,10 +163,7 @@ impl<'a, F: for<'t> Fn(&mut Input<'t, 'a>, usize, Mode) -> Result<Ty<'a>, Error>
     }
 
     /// Arguments between `<` and `>`.
-    fn between_angles(
-        &self,
-        input: &mut Input<'_, 'a>,
-    ) -> Result<Punctuated<GenericArgument<'a>>, Error>
+    fn between_angles(&self, input: &mut Input<'_, 'a>) -> Read<Punctuated<GenericArgument<'a>>>
         requires { Nests self.now.depth (F.pre self.now.ty) (F.post self.now.ty) }
         ensures { Reads (λ v. types.arguments_pair (list_view argument_view v)) (types.read_between_angles (read_type self.now.depth)) input.old result input.new }
     {
@@ -187,7 +172,7 @@ impl<'a, F: for<'t> Fn(&mut Input<'t, 'a>, usize, Mode) -> Result<Ty<'a>, Error>
     }
 
     /// Arguments between `<` and `>`, perhaps behind `::`.
-    pub fn angled(&self, input: &mut Input<'_, 'a>) -> Result<PathArguments<'a>, Error>
+    pub fn angled(&self, input: &mut Input<'_, 'a>) -> Read<PathArguments<'a>>
         requires { Nests self.now.depth (F.pre self.now.ty) (F.post self.now.ty) }
         ensures { Reads arguments_view (types.read_angled (read_type self.now.depth)) input.old result input.new }
     {
@@ -196,7 +181,7 @@ impl<'a, F: for<'t> Fn(&mut Input<'t, 'a>, usize, Mode) -> Result<Ty<'a>, Error>
     }
 
     /// The arguments of a segment.
-    fn segment_arguments(&self, input: &mut Input<'_, 'a>) -> Result<PathArguments<'a>, Error>
+    fn segment_arguments(&self, input: &mut Input<'_, 'a>) -> Read<PathArguments<'a>>
         requires { Nests self.now.depth (F.pre self.now.ty) (F.post self.now.ty) }
         ensures { Reads arguments_view (types.read_segment_arguments (read_type self.now.depth)) input.old result input.new }
     {
@@ -210,7 +195,7 @@ impl<'a, F: for<'t> Fn(&mut Input<'t, 'a>, usize, Mode) -> Result<Ty<'a>, Error>
     }
 
     /// The arguments of a segment where they stand between `<` and `>`.
-    fn bare_arguments(&self, input: &mut Input<'_, 'a>) -> Result<PathArguments<'a>, Error>
+    fn bare_arguments(&self, input: &mut Input<'_, 'a>) -> Read<PathArguments<'a>>
         requires { Nests self.now.depth (F.pre self.now.ty) (F.post self.now.ty) }
         ensures { Reads arguments_view (types.read_bare_arguments (read_type self.now.depth)) input.old result input.new }
     {
@@ -221,11 +206,7 @@ impl<'a, F: for<'t> Fn(&mut Input<'t, 'a>, usize, Mode) -> Result<Ty<'a>, Error>
     }
 
     /// The arguments of a segment, which has none in parentheses if it is bare.
-    fn own_arguments(
-        &self,
-        bare: bool,
-        input: &mut Input<'_, 'a>,
-    ) -> Result<PathArguments<'a>, Error>
+    fn own_arguments(&self, bare: bool, input: &mut Input<'_, 'a>) -> Read<PathArguments<'a>>
         requires { Nests self.now.depth (F.pre self.now.ty) (F.post self.now.ty) }
         ensures { Reads arguments_view (types.read_own_arguments (read_type self.now.depth) bare) input.old result input.new }
     {
@@ -240,7 +221,7 @@ impl<'a, F: for<'t> Fn(&mut Input<'t, 'a>, usize, Mode) -> Result<Ty<'a>, Error>
         &self,
         bare: bool,
         input: &mut Input<'_, 'a>,
-    ) -> Result<(Ident<'a>, PathArguments<'a>), Error>
+    ) -> Read<(Ident<'a>, PathArguments<'a>)>
         requires { Nests self.now.depth (F.pre self.now.ty) (F.post self.now.ty) }
         ensures { Reads (λ v. (v.0, arguments_view v.1)) (types.read_segment_parts (read_type self.now.depth) bare) input.old result input.new }
     {
@@ -249,7 +230,7 @@ impl<'a, F: for<'t> Fn(&mut Input<'t, 'a>, usize, Mode) -> Result<Ty<'a>, Error>
     }
 
     /// A segment.
-    fn segment(&self, bare: bool, input: &mut Input<'_, 'a>) -> Result<PathSegment<'a>, Error>
+    fn segment(&self, bare: bool, input: &mut Input<'_, 'a>) -> Read<PathSegment<'a>>
         requires { Nests self.now.depth (F.pre self.now.ty) (F.post self.now.ty) }
         ensures { Reads segment_view (types.read_segment (read_type self.now.depth) bare) input.old result input.new }
     {
@@ -258,11 +239,7 @@ impl<'a, F: for<'t> Fn(&mut Input<'t, 'a>, usize, Mode) -> Result<Ty<'a>, Error>
     }
 
     /// Segments with `::` between.
-    pub fn segments(
-        &self,
-        bare: bool,
-        input: &mut Input<'_, 'a>,
-    ) -> Result<Seq<PathSegment<'a>>, Error>
+    pub fn segments(&self, bare: bool, input: &mut Input<'_, 'a>) -> Read<Seq<PathSegment<'a>>>
         requires { Nests self.now.depth (F.pre self.now.ty) (F.post self.now.ty) }
         ensures { Reads (map segment_view) (types.read_segment_list (read_type self.now.depth) bare) input.old result input.new }
     {
@@ -277,11 +254,7 @@ impl<'a, F: for<'t> Fn(&mut Input<'t, 'a>, usize, Mode) -> Result<Ty<'a>, Error>
     }
 
     /// The segments of a path.
-    fn segment_trees(
-        &self,
-        bare: bool,
-        input: &mut Input<'_, 'a>,
-    ) -> Result<Seq<PathSegment<'a>>, Error>
+    fn segment_trees(&self, bare: bool, input: &mut Input<'_, 'a>) -> Read<Seq<PathSegment<'a>>>
         requires { Nests self.now.depth (F.pre self.now.ty) (F.post self.now.ty) }
         ensures { Reads (λ l. segments_of (map segment_view l)) (types.read_segment_trees (read_type self.now.depth) bare) input.old result input.new }
     {
@@ -289,7 +262,7 @@ impl<'a, F: for<'t> Fn(&mut Input<'t, 'a>, usize, Mode) -> Result<Ty<'a>, Error>
     }
 
     /// A path. The segments of a bare one have no list in parentheses of their own.
-    pub fn path(&self, bare: bool, input: &mut Input<'_, 'a>) -> Result<Path<'a>, Error>
+    pub fn path(&self, bare: bool, input: &mut Input<'_, 'a>) -> Read<Path<'a>>
         requires { Nests self.now.depth (F.pre self.now.ty) (F.post self.now.ty) }
         ensures { Reads path_view (types.read_path_by (read_type self.now.depth) bare) input.old result input.new }
     {
@@ -305,7 +278,7 @@ struct SegmentRule<'g, F> {
     bare: bool,
 }
 
-impl<'g, 'a, F: for<'t> Fn(&mut Input<'t, 'a>, usize, Mode) -> Result<Ty<'a>, Error>> Rule<'a>
+impl<'g, 'a, F: for<'t> Fn(&mut Input<'t, 'a>, usize, Mode) -> Read<Ty<'a>>> Rule<'a>
     for SegmentRule<'g, F> {
     ghost use Rattle.dm_ast.specs.Tree.{SegmentTree, segment_view};
     ghost use Rattle.dm_read_paths.specs.Nests.{Nests};
@@ -322,7 +295,7 @@ impl<'g, 'a, F: for<'t> Fn(&mut Input<'t, 'a>, usize, Mode) -> Result<Ty<'a>, Er
 
     ghost reader = { λ r w. types.read_segment (read_type r.grammar.now.depth) r.bare w };
 
-    fn read(&self, input: &mut Input<'_, 'a>) -> Result<PathSegment<'a>, Error> {
+    fn read(&self, input: &mut Input<'_, 'a>) -> Read<PathSegment<'a>> {
         self.grammar.segment(self.bare, input)
     }
 }

@@ -2,13 +2,10 @@
 #![tactic(auto)]
 
 ghost use Rattle.std.specs.Prelude.{◌≡◌, ◌≤◌, IfOk, map};
-ghost use Rattle.dm_ast.specs.Spelling.{deepest};
-ghost use Rattle.dm_input.specs.Inputs.{Reads};
 ghost use Rattle.dm_read_paths.specs.TypeReaders as types;
-ghost use Rattle.dm_read_paths.specs.TypeReaders.{read_type};
-ghost use Rattle.dm_read_paths.specs.Nests.{Nests};
 ghost use Rattle.dm_read_paths.specs.Bindings.{as_view};
-ghost use Rattle.dm_ast.specs.Tree.{ty_view, node_view, segment_view, segments_of, path, path_tree, some_self};
+ghost use Rattle.dm_ast.specs.Tree.{segments_of, path, path_tree, some_self};
+ghost use Rattle.dm_read_paths.specs.Prelude.{deepest, Reads, read_type, Nests, ty_view, node_view, segment_view};
 
 use crate::grammar::Grammar;
 use crate::kind::Mode;
@@ -16,8 +13,8 @@ use crate::path::path_of;
 use dm_ast::{PathSegment, QSelf, Ty, TyNode};
 use dm_input::Input;
 use dm_input::join::{beside, boxed, joined};
-use dm_stream::{Error, Seq};
-use std::alloc::{AllocError, Global};
+use dm_stream::{Error, Made, Read, Seq};
+use std::alloc::Global;
 
 /// A type, and a path that belongs to it.
 #[tactic(auto, using(crate::proofs::Built::built_steps))]
@@ -27,7 +24,7 @@ fn qualified_node<'a>(
     position: usize,
     leading: bool,
     segments: Seq<PathSegment<'a>>,
-) -> Result<TyNode<'a>, AllocError>
+) -> Made<TyNode<'a>>
     ensures { IfOk result (λ n. node_view n ≡ path (some_self (ty_view found.entry) position) (path_tree leading (segments_of (map segment_view segments.entry)))) }
 {
     let qself = QSelf {
@@ -46,7 +43,7 @@ fn qualified_of<'a>(
     found: Ty<'a>,
     behind_as: Option<(bool, Seq<PathSegment<'a>>)>,
     segments: Seq<PathSegment<'a>>,
-) -> Result<TyNode<'a>, AllocError>
+) -> Made<TyNode<'a>>
     ensures { IfOk result (λ n. node_view n ≡ types.qualified_by (ty_view found.entry) (as_view behind_as.entry) (map segment_view segments.entry)) }
 {
     match behind_as {
@@ -60,9 +57,9 @@ fn qualified_of<'a>(
     }
 }
 
-impl<'a, F: for<'t> Fn(&mut Input<'t, 'a>, usize, Mode) -> Result<Ty<'a>, Error>> Grammar<F> {
+impl<'a, F: for<'t> Fn(&mut Input<'t, 'a>, usize, Mode) -> Read<Ty<'a>>> Grammar<F> {
     /// A path behind `as`.
-    fn as_path(&self, input: &mut Input<'_, 'a>) -> Result<(bool, Seq<PathSegment<'a>>), Error>
+    fn as_path(&self, input: &mut Input<'_, 'a>) -> Read<(bool, Seq<PathSegment<'a>>)>
         requires { Nests self.now.depth (F.pre self.now.ty) (F.post self.now.ty) }
         ensures { Reads (λ v. (v.0, map segment_view v.1)) (types.read_as_path (read_type self.now.depth)) input.old result input.new }
     {
@@ -71,7 +68,7 @@ impl<'a, F: for<'t> Fn(&mut Input<'t, 'a>, usize, Mode) -> Result<Ty<'a>, Error>
     }
 
     /// `as` and a path.
-    fn some_as(&self, input: &mut Input<'_, 'a>) -> Result<(bool, Seq<PathSegment<'a>>), Error>
+    fn some_as(&self, input: &mut Input<'_, 'a>) -> Read<(bool, Seq<PathSegment<'a>>)>
         requires { Nests self.now.depth (F.pre self.now.ty) (F.post self.now.ty) }
         ensures { Reads (λ v. (v.0, map segment_view v.1)) (types.read_some_as (read_type self.now.depth)) input.old result input.new }
     {
@@ -81,7 +78,7 @@ impl<'a, F: for<'t> Fn(&mut Input<'t, 'a>, usize, Mode) -> Result<Ty<'a>, Error>
 
     /// `as` and a path, whose tokens stand one level deeper.
     #[tactic(auto, using(dm_input::proofs::Levels::level_steps))]
-    fn deep_as(&self, input: &mut Input<'_, 'a>) -> Result<(bool, Seq<PathSegment<'a>>), Error>
+    fn deep_as(&self, input: &mut Input<'_, 'a>) -> Read<(bool, Seq<PathSegment<'a>>)>
         requires level { input.old.at.level ≤ deepest }
         requires nests { Nests self.now.depth (F.pre self.now.ty) (F.post self.now.ty) }
         ensures { Reads (λ v. (v.0, map segment_view v.1)) (types.read_deep_as (read_type self.now.depth)) input.old result input.new }
@@ -93,10 +90,7 @@ impl<'a, F: for<'t> Fn(&mut Input<'t, 'a>, usize, Mode) -> Result<Ty<'a>, Error>
     }
 
     /// `as` and a path where they come next.
-    fn maybe_as(
-        &self,
-        input: &mut Input<'_, 'a>,
-    ) -> Result<Option<(bool, Seq<PathSegment<'a>>)>, Error>
+    fn maybe_as(&self, input: &mut Input<'_, 'a>) -> Read<Option<(bool, Seq<PathSegment<'a>>)>>
         requires level { input.old.at.level ≤ deepest }
         requires nests { Nests self.now.depth (F.pre self.now.ty) (F.post self.now.ty) }
         ensures { Reads as_view (types.read_as (read_type self.now.depth)) input.old result input.new }
@@ -108,7 +102,7 @@ impl<'a, F: for<'t> Fn(&mut Input<'t, 'a>, usize, Mode) -> Result<Ty<'a>, Error>
     }
 
     /// `::` and segments.
-    fn further(&self, input: &mut Input<'_, 'a>) -> Result<Seq<PathSegment<'a>>, Error>
+    fn further(&self, input: &mut Input<'_, 'a>) -> Read<Seq<PathSegment<'a>>>
         requires { Nests self.now.depth (F.pre self.now.ty) (F.post self.now.ty) }
         ensures { Reads (map segment_view) (types.read_further (read_type self.now.depth)) input.old result input.new }
     {
@@ -117,7 +111,7 @@ impl<'a, F: for<'t> Fn(&mut Input<'t, 'a>, usize, Mode) -> Result<Ty<'a>, Error>
     }
 
     /// `>`, `::` and segments.
-    fn behind_angle(&self, input: &mut Input<'_, 'a>) -> Result<Seq<PathSegment<'a>>, Error>
+    fn behind_angle(&self, input: &mut Input<'_, 'a>) -> Read<Seq<PathSegment<'a>>>
         requires { Nests self.now.depth (F.pre self.now.ty) (F.post self.now.ty) }
         ensures { Reads (map segment_view) (types.read_behind_angle (read_type self.now.depth)) input.old result input.new }
     {
@@ -129,7 +123,7 @@ impl<'a, F: for<'t> Fn(&mut Input<'t, 'a>, usize, Mode) -> Result<Ty<'a>, Error>
     fn behind_self(
         &self,
         input: &mut Input<'_, 'a>,
-    ) -> Result<(Option<(bool, Seq<PathSegment<'a>>)>, Seq<PathSegment<'a>>), Error>
+    ) -> Read<(Option<(bool, Seq<PathSegment<'a>>)>, Seq<PathSegment<'a>>)>
         requires level { input.old.at.level ≤ deepest }
         requires nests { Nests self.now.depth (F.pre self.now.ty) (F.post self.now.ty) }
         ensures { Reads (λ v. (as_view v.0, map segment_view v.1)) (types.read_behind_self (read_type self.now.depth)) input.old result input.new }
@@ -158,7 +152,7 @@ impl<'a, F: for<'t> Fn(&mut Input<'t, 'a>, usize, Mode) -> Result<Ty<'a>, Error>
     }
 
     /// A type like `<T as A::B>::C`.
-    pub fn qualified(&self, input: &mut Input<'_, 'a>) -> Result<TyNode<'a>, Error>
+    pub fn qualified(&self, input: &mut Input<'_, 'a>) -> Read<TyNode<'a>>
         requires { Nests self.now.depth (F.pre self.now.ty) (F.post self.now.ty) }
         ensures { Reads node_view (types.read_qualified (read_type self.now.depth)) input.old result input.new }
     {

@@ -1,15 +1,13 @@
 -- The rows of patterns.
-use Rattle.std.proofs.Common.{◌≡◌, ◌≢◌, ℕ, Bool, true, false, cond, List, [], ◌∷◌, map, length, get_or, Option, Some, None, refl, sym, ap, ◌∙◌}
+use Rattle.std.proofs.Common.{◌≡◌, ℕ, Bool, true, false, cond, Option, Some, None, refl, ◌∙◌}
 use Rattle.std.proofs.lemmas.Grind.{common_steps}
 use Rattle.dm_stream.specs.declared.tokens.Delim.TheVariants.{Paren, Brace}
 use Rattle.dm_stream.specs.declared.tokens.Ident.{Ident}
 use Rattle.dm_stream.specs.declared.tokens.Literal.{Literal}
 use Rattle.dm_stream.specs.Trees.{Trees, no_trees, token, group}
-use Rattle.dm_ast.specs.declared.ty.PathSegment.{PathSegment}
 use Rattle.dm_ast.specs.Keywords.{is_name}
 use Rattle.dm_ast.specs.Spelling.{at_end}
-use Rattle.dm_ast.specs.Tree.{PathTree, path_tree, segment, no_segments, segment_then, absent, angle, parens, segments_of, segment_view}
-use Rattle.dm_ast.proofs.View as syntax
+use Rattle.dm_ast.specs.Tree.{PathTree, path_tree, segment, no_segments, segment_then, absent, angle, parens}
 use Rattle.dm_output.specs.declared.pattern.Binding.{Binding}
 use Rattle.dm_output.specs.declared.pattern.Binding.TheVariants as binding
 use Rattle.dm_output.specs.Output.{PatternTree, bind, path_pattern, str_pattern, pair_pattern}
@@ -22,10 +20,10 @@ use Rattle.dm_reread.specs.Next.{k_mut, k_wild, k_ref, Next, ended, bar, dots, i
 use Rattle.dm_reread.specs.Leaves.{Answer}
 use Rattle.dm_reread.specs.Reading.{then, provided, whole, Readers, comma_after, colon_after, is_str, bind_name, ref_from, pattern_of_path, after_pattern_path, pattern_path, pair_from, read_pattern}
 use Rattle.dm_read_places.specs.Fronts.{is_sign, is_keyword, is_literal_next, is_group_next}
-use Rattle.dm_read_places.specs.Turns.{rows, declared_at, segment_name}
+use Rattle.dm_read_places.specs.Turns.{rows, declared_at}
 use Rattle.dm_read_places.proofs.Expecting.{whole_open}
 use Rattle.dm_read_patterns.specs.PatternTurns.{bar_turn_at, pattern_turn, named_pattern_part, dots_turn, one_named_pattern, named_pattern_turn_at}
-use Rattle.dm_read_patterns.specs.PatternRows.{before_comma, behind_colon, field, last, pair, text, segments_name, declared_name, name_or_path}
+use Rattle.dm_read_patterns.specs.PatternRows.{before_comma, behind_colon, field, last, pair, text, declared_name, name_or_path}
 use Rattle.dm_read_patterns.proofs.PatternLists.{bars_are, patterns_are, named_patterns_are}
 
 -- ---- turns
@@ -187,21 +185,6 @@ path_first r (literal l ts) e f g h = absurd (cc)
 path_first r _ e f g h = refl
 
 pub ruleset pattern_steps = (common_steps, pattern_end, pattern_more, bars_end, fields_end, dots_end, dots_open, field_more, bind_is, no_mut, no_group_behind, whole_open, pair_is, text_is, path_first, bars_are, patterns_are, named_patterns_are)
-
--- ---- names alone
-
-pub none_alone : (l : List PathSegment) → length l ≢ 1 → segments_name (segments_of (map segment_view l)) ≡ None
-none_alone [] n = refl
-none_alone (x ∷ []) n = absurd (n refl)
-none_alone (x ∷ y ∷ l) n = refl
-
-pub one_alone : (l : List PathSegment) (s : PathSegment) → length l ≡ 1 → s ≡ get_or l 0 s →
-    segments_name (segments_of (map segment_view l)) ≡ segment_name (segment_view s)
-one_alone [] s n e = absurd (cc)
-one_alone (x ∷ []) s n e = let f : s ≡ x = e in ap (λ y. segment_name (segment_view y)) (sym f)
-one_alone (x ∷ y ∷ l) s n e = absurd (cc)
-
-pub ruleset alone_steps = (syntax.view_steps, none_alone, one_alone)
 
 -- a name alone
 named : (i : Ident) (p : PathTree) (b : Bool) → cond b (bind binding.Plain i) (path_pattern p) ≡ name_or_path (provided b (Some i)) p

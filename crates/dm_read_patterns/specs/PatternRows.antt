@@ -1,16 +1,17 @@
 -- Parts of the plain reader's rows of patterns that functions of their own read.
-use Rattle.std.specs.Prelude.{ℕ, true, false, Option, Some, None}
+use Rattle.std.specs.Prelude.{ℕ, Option, Some, None}
 use Rattle.dm_stream.specs.declared.tokens.Ident.{Ident}
 use Rattle.dm_stream.specs.declared.tokens.Literal.{Literal}
 use Rattle.dm_stream.specs.Trees.{Trees}
-use Rattle.dm_ast.specs.Tree.{PathTree, path_tree, SegmentTrees, no_segments, segment_then}
+use Rattle.dm_ast.specs.Idents.{path_ident}
+use Rattle.dm_ast.specs.Tree.{PathTree}
 use Rattle.dm_ast.specs.Keywords.{is_name}
 use Rattle.dm_output.specs.declared.pattern.Binding.TheVariants as binding
 use Rattle.dm_output.specs.Output.{PatternTree, bind, path_pattern, str_pattern, pair_pattern}
 use Rattle.dm_reread.specs.Next.{next}
 use Rattle.dm_reread.specs.Leaves.{Answer}
 use Rattle.dm_reread.specs.Reading.{then, provided, whole, is_str, comma_after, colon_after}
-use Rattle.dm_read_places.specs.Turns.{rows, declared_at, segment_name}
+use Rattle.dm_read_places.specs.Turns.{rows, declared_at}
 
 -- a pattern and a comma
 abbrev pub before_comma : ℕ → Trees → Answer PatternTree
@@ -36,23 +37,13 @@ pair n ts = then ((rows n).pattern ts) (λ a. then (last n a.1) (λ c. Some (pai
 abbrev pub text : Literal → Option PatternTree
 text l = provided (is_str l.kind) (Some (str_pattern l))
 
--- the only segment of a path, without `::` in front and without arguments
-abbrev pub segments_name : SegmentTrees → Option Ident
-segments_name no_segments = None
-segments_name (segment_then s no_segments) = segment_name s
-segments_name (segment_then s (segment_then t ss)) = None
-
-abbrev pub path_name : PathTree → Option Ident
-path_name (path_tree true ss) = None
-path_name (path_tree false ss) = segments_name ss
-
--- it, where it may be declared
+-- an identifier, where it may be declared
 abbrev pub declared_only : Option Ident → Option Ident
 declared_only None = None
 declared_only (Some i) = provided (is_name i) (Some i)
 
 abbrev pub declared_name : PathTree → Option Ident
-declared_name p = declared_only (path_name p)
+declared_name p = declared_only (path_ident p)
 
 -- a name binds, and else a path is one
 abbrev pub name_or_path : Option Ident → PathTree → PatternTree

@@ -3,16 +3,15 @@
 
 ghost use Rattle.std.specs.Prelude.{map};
 ghost use Rattle.dm_output.specs.Output.{patterns_of};
-ghost use Rattle.dm_output.specs.Views.{pattern_view};
-ghost use Rattle.dm_read_places.specs.Reads.{Reads};
-ghost use Rattle.dm_read_places.specs.Turns.{rows};
+ghost use Rattle.dm_read_places.specs.Prelude.{pattern_view, Reads, rows};
 ghost use Rattle.dm_read_patterns.specs.ArmPatterns as spec;
 
 use crate::nested::pattern;
 use crate::pattern::Patterns;
 use dm_input::join::joined;
 use dm_pattern_nodes::node::PatternNodes;
-use dm_read_places::place::{Place, Read};
+use dm_read_places::place::Place;
+use dm_stream::Read;
 
 /// The patterns behind the first of an arm, with `|` before each.
 fn alternatives<'a>(place: &mut Place<'_, 'a>, fuel: usize, room: usize) -> Read<PatternNodes<'a>>

@@ -1,14 +1,12 @@
 //! Patterns that nest down to a depth.
 #![tactic(auto, using(crate::proofs::Nesting::nesting_steps))]
 
-ghost use Rattle.dm_output.specs.Views.{pattern_view};
-ghost use Rattle.dm_read_places.specs.Reads.{Reads};
-ghost use Rattle.dm_read_places.specs.Turns.{rows};
+ghost use Rattle.dm_read_places.specs.Prelude.{pattern_view, Reads, rows};
 
 use crate::pattern::Patterns;
 use dm_pattern_nodes::node::PatternNode;
-use dm_read_places::place::{Place, Read};
-use dm_stream::Error;
+use dm_read_places::place::Place;
+use dm_stream::{Error, Read};
 
 /// A pattern, with at most `room` patterns in one another. Deeper ones want memory: that of the stack. `fuel` is a number that no list in it
 /// exceeds, nor how deep patterns nest there: with less, what is there isn't read. Refuses where no pattern stands there.

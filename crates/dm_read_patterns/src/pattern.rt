@@ -2,15 +2,11 @@
 #![tactic(auto, using(crate::proofs::PatternSteps::pattern_steps))]
 
 ghost use Rattle.std.specs.Prelude.{◌≡◌, map};
-ghost use Rattle.dm_ast.specs.Tree.{path_view};
 ghost use Rattle.dm_output.specs.Output.{patterns_of, named_of};
-ghost use Rattle.dm_output.specs.Views.{pattern_view, named_view};
-ghost use Rattle.dm_reread.specs.Next.{next};
 ghost use Rattle.dm_reread.specs.Reading as plain;
-ghost use Rattle.dm_read_places.specs.Reads.{Reads, ReadsWhole};
 ghost use Rattle.dm_read_patterns.specs.PatternNests.{PatternNests};
 ghost use Rattle.dm_read_patterns.specs.PatternRows as spec;
-ghost use Rattle.dm_read_places.specs.Turns.{rows};
+ghost use Rattle.dm_read_places.specs.Prelude.{path_view, pattern_view, named_view, next, Reads, ReadsWhole, rows};
 
 use crate::path_pattern::path_pattern;
 use dm_ast::Path;
@@ -24,8 +20,8 @@ use dm_read_places::expect::is_str;
 use dm_read_places::front::{Keyword, Sign};
 use dm_read_places::list::{Rule, Turn, gathered};
 use dm_read_places::path::path;
-use dm_read_places::place::{Place, Read};
-use dm_stream::{Delim, Literal};
+use dm_read_places::place::Place;
+use dm_stream::{Delim, Literal, Read};
 
 /// The rules of patterns.
 #[derive(Clone, Copy)]

@@ -1,5 +1,6 @@
 pub mod Fronts
+pub mod Places
+pub mod Prelude
 pub mod Reads
 pub mod Repeating
-pub mod Places
 pub mod Turns

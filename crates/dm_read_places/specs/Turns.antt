@@ -1,5 +1,5 @@
 -- The readers with so much fuel, and the turns of paths, as the plain reader reads them.
-use Rattle.std.specs.Prelude.{ℕ, Option, Some, None}
+use Rattle.std.specs.Prelude.{ℕ, Some, None}
 use Rattle.dm_stream.specs.declared.tokens.Ident.{Ident}
 use Rattle.dm_stream.specs.Trees.{Trees}
 use Rattle.dm_ast.specs.Keywords.{is_name}
@@ -35,8 +35,3 @@ segment_turn_at ts _ = Some (End tt, ts)
 -- `::` and a segment
 abbrev pub segment_turn : ℕ → Trees → Answer (Turn SegmentTree (Unit {0}))
 segment_turn n ts = segment_turn_at ts (next ts)
-
--- the name of a segment without arguments
-abbrev pub segment_name : SegmentTree → Option Ident
-segment_name (segment i absent) = Some i
-segment_name (segment i _) = None

@@ -4,16 +4,15 @@
 ghost use Rattle.std.specs.Prelude.{◌≡◌, false, MatchResult};
 ghost use Rattle.dm_stream.specs.Trees.{no_trees};
 ghost use Rattle.dm_ast.specs.Spelling.{at_end};
-ghost use Rattle.dm_reread.specs.Next.{next};
 ghost use Rattle.dm_reread.specs.Reading as plain;
 ghost use Rattle.dm_reread.specs.Reading.{comma_after, colon_after, semicolon_after, leads_after, assigns_after, plus_after, as_after, wild_after, int_after};
-ghost use Rattle.dm_read_places.specs.Reads.{Passes, Reads};
+ghost use Rattle.dm_read_places.specs.Prelude.{next, Passes, Reads};
 ghost use Rattle.dm_read_places.specs.Turns.{declared_at};
 
 use crate::front::{Keyword, Sign};
-use crate::place::{Place, Read};
+use crate::place::Place;
 use dm_read::words::is_name;
-use dm_stream::{Ident, LitKind, Literal};
+use dm_stream::{Ident, LitKind, Literal, Read};
 
 impl<'t, 'a> Place<'t, 'a> {
     /// `,`.

@@ -9,9 +9,9 @@ ghost use Rattle.dm_read_places.specs.declared.list.Turn.TheVariants.{One};
 ghost use Rattle.dm_read_places.specs.Reads.{Reads};
 ghost use Rattle.dm_read_places.specs.Repeating.{turn_view, repeat};
 
-use crate::place::{Place, Read};
+use crate::place::Place;
 use dm_gather::Gathers;
-use dm_stream::Seq;
+use dm_stream::{Read, Seq};
 
 /// One turn of a list: a part, or what ends the list.
 #[derive(Drop)]

@@ -1,21 +1,20 @@
 //! Paths without arguments.
 #![tactic(auto, using(crate::proofs::PathSteps::path_steps))]
 
-ghost use Rattle.std.specs.Prelude.{◌≡◌, map, option_copied};
-ghost use Rattle.dm_ast.specs.Tree.{path_view, segment_view, segments_of};
-ghost use Rattle.dm_reread.specs.Next.{next};
+ghost use Rattle.std.specs.Prelude.{map};
+ghost use Rattle.dm_ast.specs.Tree.{segments_of};
 ghost use Rattle.dm_reread.specs.Reading as plain;
-ghost use Rattle.dm_read_places.specs.Reads.{Reads};
-ghost use Rattle.dm_read_places.specs.Turns.{rows, segment_at, segment_name};
+ghost use Rattle.dm_read_places.specs.Turns.{segment_at};
+ghost use Rattle.dm_read_places.specs.Prelude.{path_view, segment_view, next, Reads, rows};
 
 use crate::front::Sign;
 use crate::list::{Rule, Turn, repeated};
-use crate::place::{Place, Read};
+use crate::place::Place;
 use dm_ast::{Path, PathArguments, PathSegment};
 use dm_gather::fronted;
 use dm_input::join::joined;
 use dm_read_paths::path::{no_arguments, path_of, segment_of};
-use dm_stream::{Ident, Seq};
+use dm_stream::{Ident, Read, Seq};
 
 /// A segment.
 fn segment<'a>(place: &mut Place<'_, 'a>) -> Read<PathSegment<'a>>
@@ -79,16 +78,4 @@ pub fn path<'a>(fuel: usize, place: &mut Place<'_, 'a>) -> Read<Path<'a>>
 {
     let leading_colon = place.take(Sign::Colons);
     path_behind(leading_colon, fuel, place)
-}
-
-/// The name of a segment without arguments.
-#[tactic(auto, using(dm_ast::proofs::View::view_steps))]
-pub fn segment_alone<'p, 'a>(segment: &'p PathSegment<'a>) -> Option<&'p Ident<'a>>
-    ensures { option_copied result ≡ segment_name (segment_view segment.now) }
-{
-    match &segment.arguments {
-        PathArguments::Absent => Some(&segment.ident),
-        PathArguments::Angle(_, _) => None,
-        PathArguments::Paren(_, _) => None,
-    }
 }

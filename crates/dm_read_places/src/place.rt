@@ -10,12 +10,9 @@ ghost use Rattle.dm_read_places.specs.Reads.{Takes, RefusesFront};
 
 use crate::front::{Keyword, Sign, first_sign, kind_of};
 use dm_read::token;
-use dm_stream::{Cursor, Delim, Error, Ident, Literal};
+use dm_stream::{Cursor, Delim, Error, Ident, Literal, Read};
 use std::alloc::Global;
 use std::marker::Model;
-
-/// What reading answers: what was read, or where and why it was refused.
-pub type Read<T> = Result<T, Error>;
 
 /// A place in a list of trees, and the memory for what is read there.
 #[derive(Drop)]

@@ -2,23 +2,20 @@
 #![tactic(auto)]
 
 ghost use Rattle.std.specs.Prelude.{◌≡◌, ◌≤◌, IfOk, true, false, codes};
-ghost use Rattle.dm_ast.specs.Spelling.{deepest};
-ghost use Rattle.dm_ast.specs.Tree.{ty_view, node_view, reference, pointer};
-ghost use Rattle.dm_input.specs.Inputs.{Reads};
+ghost use Rattle.dm_ast.specs.Tree.{reference, pointer};
 ghost use Rattle.dm_read_paths.specs.TypeReaders as types;
-ghost use Rattle.dm_read_paths.specs.TypeReaders.{read_type};
-ghost use Rattle.dm_read_paths.specs.Nests.{Nests};
+ghost use Rattle.dm_read_paths.specs.Prelude.{deepest, ty_view, node_view, Reads, read_type, Nests};
 
 use dm_ast::{Ty, TyNode};
 use dm_input::Input;
 use dm_input::join::{boxed, joined};
 use dm_read_paths::grammar::Grammar;
 use dm_read_paths::kind::Mode;
-use dm_stream::{Error, Lifetime};
-use std::alloc::{AllocError, Global};
+use dm_stream::{Lifetime, Made, Read};
+use std::alloc::Global;
 
 /// A lifetime where it comes next.
-fn maybe_lifetime<'a>(input: &mut Input<'_, 'a>) -> Result<Option<Lifetime<'a>>, Error>
+fn maybe_lifetime<'a>(input: &mut Input<'_, 'a>) -> Read<Option<Lifetime<'a>>>
     ensures { Reads (λ l. l) types.read_maybe_lifetime input.old result input.new }
 {
     if !input.sees_lifetime() {
@@ -28,7 +25,7 @@ fn maybe_lifetime<'a>(input: &mut Input<'_, 'a>) -> Result<Option<Lifetime<'a>>,
 }
 
 /// A keyword where it comes next: whether it stands there.
-pub fn keyword(spelled: &str, input: &mut Input<'_, '_>) -> Result<bool, Error>
+pub fn keyword(spelled: &str, input: &mut Input<'_, '_>) -> Read<bool>
     ensures { Reads (λ b. b) (types.read_keyword spelled.now) input.old result input.new }
 {
     if !input.sees_word(spelled) {
@@ -45,7 +42,7 @@ fn reference_node<'a>(
     name: Option<Lifetime<'a>>,
     is_mut: bool,
     found: Ty<'a>,
-) -> Result<TyNode<'a>, AllocError>
+) -> Made<TyNode<'a>>
     ensures { IfOk result (λ n. node_view n ≡ reference name.entry is_mut (ty_view found.entry)) }
 {
     let inner = boxed(alloc, found)?;
@@ -54,7 +51,7 @@ fn reference_node<'a>(
 
 /// A pointer.
 #[tactic(auto, using(dm_ast::proofs::View::view_steps))]
-fn pointer_node<'a>(alloc: Global, is_mut: bool, found: Ty<'a>) -> Result<TyNode<'a>, AllocError>
+fn pointer_node<'a>(alloc: Global, is_mut: bool, found: Ty<'a>) -> Made<TyNode<'a>>
     ensures { IfOk result (λ n. node_view n ≡ pointer is_mut (ty_view found.entry)) }
 {
     let inner = boxed(alloc, found)?;
@@ -68,12 +65,9 @@ pub struct Pointers<'g, F> {
     pub grammar: &'g Grammar<F>,
 }
 
-impl<'g, 'a, F: for<'t> Fn(&mut Input<'t, 'a>, usize, Mode) -> Result<Ty<'a>, Error>> Pointers<
-    'g,
-    F,
-> {
+impl<'g, 'a, F: for<'t> Fn(&mut Input<'t, 'a>, usize, Mode) -> Read<Ty<'a>>> Pointers<'g, F> {
     /// A type, perhaps behind `mut`.
-    fn mutable(&self, input: &mut Input<'_, 'a>) -> Result<(bool, Ty<'a>), Error>
+    fn mutable(&self, input: &mut Input<'_, 'a>) -> Read<(bool, Ty<'a>)>
         requires { Nests self.now.grammar.now.depth (F.pre self.now.grammar.now.ty) (F.post self.now.grammar.now.ty) }
         ensures { Reads (λ v. (v.0, ty_view v.1)) (types.read_mutable (read_type self.now.grammar.now.depth)) input.old result input.new }
     {
@@ -82,10 +76,7 @@ impl<'g, 'a, F: for<'t> Fn(&mut Input<'t, 'a>, usize, Mode) -> Result<Ty<'a>, Er
     }
 
     /// A lifetime, `mut` and a type, the first two where they come next.
-    fn referred(
-        &self,
-        input: &mut Input<'_, 'a>,
-    ) -> Result<(Option<Lifetime<'a>>, (bool, Ty<'a>)), Error>
+    fn referred(&self, input: &mut Input<'_, 'a>) -> Read<(Option<Lifetime<'a>>, (bool, Ty<'a>))>
         requires { Nests self.now.grammar.now.depth (F.pre self.now.grammar.now.ty) (F.post self.now.grammar.now.ty) }
         ensures { Reads (λ v. (v.0, (v.1.0, ty_view v.1.1))) (types.read_referred (read_type self.now.grammar.now.depth)) input.old result input.new }
     {
@@ -98,7 +89,7 @@ impl<'g, 'a, F: for<'t> Fn(&mut Input<'t, 'a>, usize, Mode) -> Result<Ty<'a>, Er
     fn deep_referred(
         &self,
         input: &mut Input<'_, 'a>,
-    ) -> Result<(Option<Lifetime<'a>>, (bool, Ty<'a>)), Error>
+    ) -> Read<(Option<Lifetime<'a>>, (bool, Ty<'a>))>
         requires level { input.old.at.level ≤ deepest }
         requires nests { Nests self.now.grammar.now.depth (F.pre self.now.grammar.now.ty) (F.post self.now.grammar.now.ty) }
         ensures { Reads (λ v. (v.0, (v.1.0, ty_view v.1.1))) (types.read_deep_referred (read_type self.now.grammar.now.depth)) input.old result input.new }
@@ -110,10 +101,7 @@ impl<'g, 'a, F: for<'t> Fn(&mut Input<'t, 'a>, usize, Mode) -> Result<Ty<'a>, Er
     }
 
     /// `&` and what follows it.
-    fn behind_and(
-        &self,
-        input: &mut Input<'_, 'a>,
-    ) -> Result<(Option<Lifetime<'a>>, (bool, Ty<'a>)), Error>
+    fn behind_and(&self, input: &mut Input<'_, 'a>) -> Read<(Option<Lifetime<'a>>, (bool, Ty<'a>))>
         requires { Nests self.now.grammar.now.depth (F.pre self.now.grammar.now.ty) (F.post self.now.grammar.now.ty) }
         ensures { Reads (λ v. (v.0, (v.1.0, ty_view v.1.1))) (types.read_behind_and (read_type self.now.grammar.now.depth)) input.old result input.new }
     {
@@ -122,7 +110,7 @@ impl<'g, 'a, F: for<'t> Fn(&mut Input<'t, 'a>, usize, Mode) -> Result<Ty<'a>, Er
     }
 
     /// A reference.
-    pub fn reference(&self, input: &mut Input<'_, 'a>) -> Result<TyNode<'a>, Error>
+    pub fn reference(&self, input: &mut Input<'_, 'a>) -> Read<TyNode<'a>>
         requires { Nests self.now.grammar.now.depth (F.pre self.now.grammar.now.ty) (F.post self.now.grammar.now.ty) }
         ensures { Reads node_view (types.read_reference (read_type self.now.grammar.now.depth)) input.old result input.new }
     {
@@ -131,7 +119,7 @@ impl<'g, 'a, F: for<'t> Fn(&mut Input<'t, 'a>, usize, Mode) -> Result<Ty<'a>, Er
     }
 
     /// `mut` and a type.
-    fn mut_pointed(&self, input: &mut Input<'_, 'a>) -> Result<Ty<'a>, Error>
+    fn mut_pointed(&self, input: &mut Input<'_, 'a>) -> Read<Ty<'a>>
         requires { Nests self.now.grammar.now.depth (F.pre self.now.grammar.now.ty) (F.post self.now.grammar.now.ty) }
         ensures { Reads ty_view (types.pointed_at (read_type self.now.grammar.now.depth) true) input.old result input.new }
     {
@@ -140,7 +128,7 @@ impl<'g, 'a, F: for<'t> Fn(&mut Input<'t, 'a>, usize, Mode) -> Result<Ty<'a>, Er
     }
 
     /// `const` and a type.
-    fn const_pointed(&self, input: &mut Input<'_, 'a>) -> Result<Ty<'a>, Error>
+    fn const_pointed(&self, input: &mut Input<'_, 'a>) -> Read<Ty<'a>>
         requires { Nests self.now.grammar.now.depth (F.pre self.now.grammar.now.ty) (F.post self.now.grammar.now.ty) }
         ensures { Reads ty_view (types.pointed_at (read_type self.now.grammar.now.depth) false) input.old result input.new }
     {
@@ -149,7 +137,7 @@ impl<'g, 'a, F: for<'t> Fn(&mut Input<'t, 'a>, usize, Mode) -> Result<Ty<'a>, Er
     }
 
     /// A pointer by what follows its `*`, which is `mut` and a type.
-    fn mut_pointer(&self, input: &mut Input<'_, 'a>) -> Result<TyNode<'a>, Error>
+    fn mut_pointer(&self, input: &mut Input<'_, 'a>) -> Read<TyNode<'a>>
         requires { Nests self.now.grammar.now.depth (F.pre self.now.grammar.now.ty) (F.post self.now.grammar.now.ty) }
         ensures { Reads node_view (types.pointer_at (read_type self.now.grammar.now.depth) true) input.old result input.new }
     {
@@ -158,7 +146,7 @@ impl<'g, 'a, F: for<'t> Fn(&mut Input<'t, 'a>, usize, Mode) -> Result<Ty<'a>, Er
     }
 
     /// A pointer by what follows its `*`, which is `const` and a type.
-    fn const_pointer(&self, input: &mut Input<'_, 'a>) -> Result<TyNode<'a>, Error>
+    fn const_pointer(&self, input: &mut Input<'_, 'a>) -> Read<TyNode<'a>>
         requires { Nests self.now.grammar.now.depth (F.pre self.now.grammar.now.ty) (F.post self.now.grammar.now.ty) }
         ensures { Reads node_view (types.pointer_at (read_type self.now.grammar.now.depth) false) input.old result input.new }
     {
@@ -167,7 +155,7 @@ impl<'g, 'a, F: for<'t> Fn(&mut Input<'t, 'a>, usize, Mode) -> Result<Ty<'a>, Er
     }
 
     /// A pointer by what follows its `*`.
-    fn pointed(&self, input: &mut Input<'_, 'a>) -> Result<TyNode<'a>, Error>
+    fn pointed(&self, input: &mut Input<'_, 'a>) -> Read<TyNode<'a>>
         requires { Nests self.now.grammar.now.depth (F.pre self.now.grammar.now.ty) (F.post self.now.grammar.now.ty) }
         ensures { Reads node_view (types.read_pointed_at (read_type self.now.grammar.now.depth)) input.old result input.new }
     {
@@ -179,7 +167,7 @@ impl<'g, 'a, F: for<'t> Fn(&mut Input<'t, 'a>, usize, Mode) -> Result<Ty<'a>, Er
 
     /// A pointer by what follows its `*`: its tokens stand one level deeper.
     #[tactic(auto, using(dm_input::proofs::Levels::level_steps))]
-    fn deep_pointed(&self, input: &mut Input<'_, 'a>) -> Result<TyNode<'a>, Error>
+    fn deep_pointed(&self, input: &mut Input<'_, 'a>) -> Read<TyNode<'a>>
         requires level { input.old.at.level ≤ deepest }
         requires nests { Nests self.now.grammar.now.depth (F.pre self.now.grammar.now.ty) (F.post self.now.grammar.now.ty) }
         ensures { Reads node_view (types.read_pointed (read_type self.now.grammar.now.depth)) input.old result input.new }
@@ -191,7 +179,7 @@ impl<'g, 'a, F: for<'t> Fn(&mut Input<'t, 'a>, usize, Mode) -> Result<Ty<'a>, Er
     }
 
     /// A pointer.
-    pub fn pointer(&self, input: &mut Input<'_, 'a>) -> Result<TyNode<'a>, Error>
+    pub fn pointer(&self, input: &mut Input<'_, 'a>) -> Read<TyNode<'a>>
         requires { Nests self.now.grammar.now.depth (F.pre self.now.grammar.now.ty) (F.post self.now.grammar.now.ty) }
         ensures { Reads node_view (types.read_pointer (read_type self.now.grammar.now.depth)) input.old result input.new }
     {

@@ -11,8 +11,8 @@ use dm_ast::Opaque;
 use dm_nodes::expr::{ExprNode, ExprNodes};
 use dm_nodes::make_expr::{map_err_of, map_of, member_of, method_call_of, question_of};
 use dm_output::Member;
-use dm_stream::{Ident, Seq};
-use std::alloc::{AllocError, Global};
+use dm_stream::{Ident, Made, Seq};
+use std::alloc::Global;
 
 /// A member, a call of a method, or `?`.
 #[derive(Drop)]
@@ -30,11 +30,7 @@ pub enum Post<'a> {
 }
 
 /// A receiver with this behind it.
-fn behind<'a>(
-    alloc: Global,
-    receiver: ExprNode<'a>,
-    post: Post<'a>,
-) -> Result<ExprNode<'a>, AllocError>
+fn behind<'a>(alloc: Global, receiver: ExprNode<'a>, post: Post<'a>) -> Made<ExprNode<'a>>
     ensures { IfOk result (λ e. expr_view e ≡ plain.apply (expr_view receiver.entry) (post_then (post_view post.entry) no_posts)) }
 {
     match post {
@@ -52,7 +48,7 @@ pub(crate) fn applied<'a>(
     alloc: Global,
     receiver: ExprNode<'a>,
     posts: Seq<Post<'a>>,
-) -> Result<ExprNode<'a>, AllocError>
+) -> Made<ExprNode<'a>>
     ensures { IfOk result (λ e. expr_view e ≡ plain.apply (expr_view receiver.entry) (posts_of (map post_view posts.entry))) }
 {
     let mut found = receiver;

@@ -3,12 +3,9 @@
 
 ghost use Rattle.std.specs.Prelude.{◌≡◌, map};
 ghost use Rattle.dm_output.specs.Output.{exprs_of};
-ghost use Rattle.dm_output.specs.Views.{expr_view};
-ghost use Rattle.dm_reread.specs.Next.{next};
 ghost use Rattle.dm_reread.specs.Reading as plain;
-ghost use Rattle.dm_read_places.specs.Reads.{Reads, ReadsWhole};
 ghost use Rattle.dm_read_places.specs.Repeating.{turn_view};
-ghost use Rattle.dm_read_places.specs.Turns.{rows};
+ghost use Rattle.dm_read_places.specs.Prelude.{expr_view, next, Reads, ReadsWhole, rows};
 ghost use Rattle.dm_read_arguments.specs.ExprNests.{ExprNests};
 ghost use Rattle.dm_read_posts.specs.Posts.{posts_of, post_view};
 ghost use Rattle.dm_read_posts.specs.Turns as turns;
@@ -25,8 +22,8 @@ use dm_read_arguments::sort::Wanted;
 use dm_read_formats::opaque::kept;
 use dm_read_places::front::Sign;
 use dm_read_places::list::{Rule, Turn, repeated};
-use dm_read_places::place::{Place, Read};
-use dm_stream::{Delim, Ident, Seq};
+use dm_read_places::place::Place;
+use dm_stream::{Delim, Ident, Read, Seq};
 
 /// The rules of what stands behind a receiver.
 #[derive(Clone, Copy)]

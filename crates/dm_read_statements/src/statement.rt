@@ -2,11 +2,8 @@
 #![tactic(auto, using(crate::proofs::StatementSteps::statement_steps))]
 
 ghost use Rattle.std.specs.Prelude.{◌≡◌, option_map};
-ghost use Rattle.dm_ast.specs.Tree.{ty_view};
-ghost use Rattle.dm_output.specs.Views.{stmt_view, opaque_view};
-ghost use Rattle.dm_reread.specs.Next.{next};
 ghost use Rattle.dm_reread.specs.Reading as plain;
-ghost use Rattle.dm_read_places.specs.Reads.{Passes, Reads};
+ghost use Rattle.dm_read_places.specs.Prelude.{ty_view, stmt_view, opaque_view, next, Passes, Reads};
 ghost use Rattle.dm_read_statements.specs.Statements as spec;
 
 use dm_ast::{Opaque, Ty};
@@ -17,8 +14,8 @@ use dm_read_formats::opaque::kept;
 use dm_read_leaves::ty::ty;
 use dm_read_places::expect::is_int;
 use dm_read_places::path::path;
-use dm_read_places::place::{Place, Read};
-use dm_stream::{Delim, Literal};
+use dm_read_places::place::Place;
+use dm_stream::{Delim, Literal, Read};
 
 /// A type that is checked, behind `let _`. Refused where `:` and a type don't stand there.
 pub fn check<'a>(place: &mut Place<'_, 'a>) -> Read<StmtNode<'a>>

@@ -2,22 +2,20 @@
 #![tactic(auto)]
 
 ghost use Rattle.std.specs.Prelude.{◌≡◌, IfOk, map};
-ghost use Rattle.dm_ast.specs.Tree.{ty_view, node_view, types_of, paren, tuple, slice, array};
-ghost use Rattle.dm_input.specs.Inputs.{Reads};
+ghost use Rattle.dm_ast.specs.Tree.{types_of, paren, tuple, slice, array};
 ghost use Rattle.dm_read_paths.specs.TypeReaders as types;
-ghost use Rattle.dm_read_paths.specs.TypeReaders.{read_type};
-ghost use Rattle.dm_read_paths.specs.Nests.{Nests};
+ghost use Rattle.dm_read_paths.specs.Prelude.{ty_view, node_view, Reads, read_type, Nests};
 
 use crate::rules::Types;
 use dm_ast::{Opaque, Ty, TyNode};
 use dm_input::Input;
 use dm_input::join::{beside, boxed, ended, joined};
 use dm_read_paths::kind::Mode;
-use dm_stream::{Delim, Error, Punctuated};
-use std::alloc::{AllocError, Global};
+use dm_stream::{Delim, Made, Punctuated, Read};
+use std::alloc::Global;
 
 /// `; LENGTH`.
-fn some_length<'a>(input: &mut Input<'_, 'a>) -> Result<Opaque<'a>, Error>
+fn some_length<'a>(input: &mut Input<'_, 'a>) -> Read<Opaque<'a>>
     ensures { Reads (λ o. o) types.read_some_length input.old result input.new }
 {
     input.punct(';')?;
@@ -25,7 +23,7 @@ fn some_length<'a>(input: &mut Input<'_, 'a>) -> Result<Opaque<'a>, Error>
 }
 
 /// `; LENGTH` where it comes next.
-fn maybe_length<'a>(input: &mut Input<'_, 'a>) -> Result<Option<Opaque<'a>>, Error>
+fn maybe_length<'a>(input: &mut Input<'_, 'a>) -> Read<Option<Opaque<'a>>>
     ensures { Reads (λ o. o) types.read_maybe_length input.old result input.new }
 {
     if !input.sees(';') {
@@ -36,7 +34,7 @@ fn maybe_length<'a>(input: &mut Input<'_, 'a>) -> Result<Option<Opaque<'a>>, Err
 
 /// A slice.
 #[tactic(auto, using(dm_ast::proofs::View::view_steps))]
-fn slice_node<'a>(alloc: Global, found: Ty<'a>) -> Result<TyNode<'a>, AllocError>
+fn slice_node<'a>(alloc: Global, found: Ty<'a>) -> Made<TyNode<'a>>
     ensures { IfOk result (λ n. node_view n ≡ slice (ty_view found.entry)) }
 {
     let inner = boxed(alloc, found)?;
@@ -45,11 +43,7 @@ fn slice_node<'a>(alloc: Global, found: Ty<'a>) -> Result<TyNode<'a>, AllocError
 
 /// An array.
 #[tactic(auto, using(dm_ast::proofs::View::view_steps))]
-fn array_node<'a>(
-    alloc: Global,
-    found: Ty<'a>,
-    length: Opaque<'a>,
-) -> Result<TyNode<'a>, AllocError>
+fn array_node<'a>(alloc: Global, found: Ty<'a>, length: Opaque<'a>) -> Made<TyNode<'a>>
     ensures { IfOk result (λ n. node_view n ≡ array (ty_view found.entry) length.entry) }
 {
     let (inner, length) = beside(boxed(alloc, found), length)?;
@@ -57,11 +51,7 @@ fn array_node<'a>(
 }
 
 /// A slice, or an array where there is a length.
-fn square_node<'a>(
-    alloc: Global,
-    found: Ty<'a>,
-    length: Option<Opaque<'a>>,
-) -> Result<TyNode<'a>, AllocError>
+fn square_node<'a>(alloc: Global, found: Ty<'a>, length: Option<Opaque<'a>>) -> Made<TyNode<'a>>
     ensures { IfOk result (λ n. node_view n ≡ types.square_by (ty_view found.entry) length.entry) }
 {
     match length {
@@ -72,7 +62,7 @@ fn square_node<'a>(
 
 /// A type in parentheses.
 #[tactic(auto, using(dm_ast::proofs::View::view_steps))]
-fn paren_node<'a>(alloc: Global, found: Ty<'a>) -> Result<TyNode<'a>, AllocError>
+fn paren_node<'a>(alloc: Global, found: Ty<'a>) -> Made<TyNode<'a>>
     ensures { IfOk result (λ n. node_view n ≡ paren (ty_view found.entry)) }
 {
     let inner = boxed(alloc, found)?;
@@ -89,7 +79,7 @@ fn tuple_node<'a>(found: Punctuated<Ty<'a>>) -> TyNode<'a>
 
 /// One type without a comma in parentheses, or a tuple.
 #[tactic(auto, using(crate::proofs::Rounds::round_steps))]
-fn round_node<'a>(alloc: Global, found: Punctuated<Ty<'a>>) -> Result<TyNode<'a>, AllocError>
+fn round_node<'a>(alloc: Global, found: Punctuated<Ty<'a>>) -> Made<TyNode<'a>>
     ensures { IfOk result (λ n. node_view n ≡ types.round_by (types_of (map ty_view found.entry.items)) found.entry.trailing) }
 {
     if found.trailing || found.items.len() != 1 {
@@ -102,12 +92,9 @@ fn round_node<'a>(alloc: Global, found: Punctuated<Ty<'a>>) -> Result<TyNode<'a>
     }
 }
 
-impl<'a, F: for<'t> Fn(&mut Input<'t, 'a>, usize, Mode) -> Result<Ty<'a>, Error>> Types<F> {
+impl<'a, F: for<'t> Fn(&mut Input<'t, 'a>, usize, Mode) -> Read<Ty<'a>>> Types<F> {
     /// The inside of the brackets of a slice or an array.
-    fn square_inside(
-        &self,
-        input: &mut Input<'_, 'a>,
-    ) -> Result<(Ty<'a>, Option<Opaque<'a>>), Error>
+    fn square_inside(&self, input: &mut Input<'_, 'a>) -> Read<(Ty<'a>, Option<Opaque<'a>>)>
         requires { Nests self.now.grammar.depth (F.pre self.now.grammar.ty) (F.post self.now.grammar.ty) }
         ensures { Reads (λ v. (ty_view v.0, v.1)) (types.square_inside (read_type self.now.grammar.depth)) input.old result input.new }
     {
@@ -116,7 +103,7 @@ impl<'a, F: for<'t> Fn(&mut Input<'t, 'a>, usize, Mode) -> Result<Ty<'a>, Error>
     }
 
     /// Brackets and their inside.
-    fn bracketed(&self, input: &mut Input<'_, 'a>) -> Result<(Ty<'a>, Option<Opaque<'a>>), Error>
+    fn bracketed(&self, input: &mut Input<'_, 'a>) -> Read<(Ty<'a>, Option<Opaque<'a>>)>
         requires { Nests self.now.grammar.depth (F.pre self.now.grammar.ty) (F.post self.now.grammar.ty) }
         ensures { Reads (λ v. (ty_view v.0, v.1)) (types.read_bracketed (read_type self.now.grammar.depth)) input.old result input.new }
     {
@@ -126,7 +113,7 @@ impl<'a, F: for<'t> Fn(&mut Input<'t, 'a>, usize, Mode) -> Result<Ty<'a>, Error>
     }
 
     /// A slice or an array.
-    pub fn square(&self, input: &mut Input<'_, 'a>) -> Result<TyNode<'a>, Error>
+    pub fn square(&self, input: &mut Input<'_, 'a>) -> Read<TyNode<'a>>
         requires { Nests self.now.grammar.depth (F.pre self.now.grammar.ty) (F.post self.now.grammar.ty) }
         ensures { Reads node_view (types.read_square (read_type self.now.grammar.depth)) input.old result input.new }
     {
@@ -135,7 +122,7 @@ impl<'a, F: for<'t> Fn(&mut Input<'t, 'a>, usize, Mode) -> Result<Ty<'a>, Error>
     }
 
     /// A type in parentheses or a tuple.
-    pub fn round(&self, input: &mut Input<'_, 'a>) -> Result<TyNode<'a>, Error>
+    pub fn round(&self, input: &mut Input<'_, 'a>) -> Read<TyNode<'a>>
         requires { Nests self.now.grammar.depth (F.pre self.now.grammar.ty) (F.post self.now.grammar.ty) }
         ensures { Reads node_view (types.read_round (read_type self.now.grammar.depth)) input.old result input.new }
     {

@@ -2,14 +2,11 @@
 #![tactic(auto)]
 
 ghost use Rattle.std.specs.Prelude.{◌≡◌, ◌≤◌, IfOk, codes, map, option_map};
-ghost use Rattle.dm_ast.specs.Spelling.{deepest};
-ghost use Rattle.dm_ast.specs.Tree.{ty_view, node_view, input_view, input, inputs_of, maybe_type, bare_fn, fn_tree};
+ghost use Rattle.dm_ast.specs.Tree.{input_view, input, inputs_of, maybe_type, bare_fn, fn_tree};
 ghost use Rattle.dm_read.specs.Stops.{list_view};
-ghost use Rattle.dm_input.specs.Inputs.{Reads};
 ghost use Rattle.dm_read_types.specs.FunctionViews.{signature_view, abi_view, unsafe_view, function_view};
 ghost use Rattle.dm_read_paths.specs.TypeReaders as types;
-ghost use Rattle.dm_read_paths.specs.TypeReaders.{read_type};
-ghost use Rattle.dm_read_paths.specs.Nests.{Nests};
+ghost use Rattle.dm_read_paths.specs.Prelude.{deepest, ty_view, node_view, Reads, read_type, Nests};
 
 use crate::rules::Types;
 use dm_ast::{Attribute, BareFn, FnArg, Ty, TyNode};
@@ -19,8 +16,8 @@ use dm_input::list::{Rule, listed};
 use dm_read::list::Stop;
 use dm_read_paths::kind::Mode;
 use dm_read_pointers::pointers::keyword;
-use dm_stream::{Delim, Error, Ident, Lifetime, Literal, Punctuated, Seq};
-use std::alloc::{AllocError, Global};
+use dm_stream::{Delim, Ident, Lifetime, Literal, Made, Punctuated, Read, Seq};
+use std::alloc::Global;
 
 /// Parameters, and what follows `->`.
 type Signature<'a> = (Punctuated<FnArg<'a>>, Option<Ty<'a>>);
@@ -29,7 +26,7 @@ type Signature<'a> = (Punctuated<FnArg<'a>>, Option<Ty<'a>>);
 type Callable<'a> = (Option<Option<Literal<'a>>>, Signature<'a>);
 
 /// A name of a parameter and `:`.
-fn label<'a>(input: &mut Input<'_, 'a>) -> Result<Ident<'a>, Error>
+fn label<'a>(input: &mut Input<'_, 'a>) -> Read<Ident<'a>>
     ensures { Reads (λ i. i) types.read_label input.old result input.new }
 {
     let name = input.input_name()?;
@@ -37,7 +34,7 @@ fn label<'a>(input: &mut Input<'_, 'a>) -> Result<Ident<'a>, Error>
 }
 
 /// A literal where it comes next.
-fn maybe_literal<'a>(input: &mut Input<'_, 'a>) -> Result<Option<Literal<'a>>, Error>
+fn maybe_literal<'a>(input: &mut Input<'_, 'a>) -> Read<Option<Literal<'a>>>
     ensures { Reads (λ l. l) types.read_maybe_literal input.old result input.new }
 {
     if !input.sees_literal() {
@@ -47,7 +44,7 @@ fn maybe_literal<'a>(input: &mut Input<'_, 'a>) -> Result<Option<Literal<'a>>, E
 }
 
 /// `extern`, perhaps with a literal.
-fn some_abi<'a>(input: &mut Input<'_, 'a>) -> Result<Option<Literal<'a>>, Error>
+fn some_abi<'a>(input: &mut Input<'_, 'a>) -> Read<Option<Literal<'a>>>
     ensures { Reads (λ l. l) types.read_some_abi input.old result input.new }
 {
     input.word("extern")?;
@@ -55,7 +52,7 @@ fn some_abi<'a>(input: &mut Input<'_, 'a>) -> Result<Option<Literal<'a>>, Error>
 }
 
 /// `extern` where it comes next.
-fn maybe_abi<'a>(input: &mut Input<'_, 'a>) -> Result<Option<Option<Literal<'a>>>, Error>
+fn maybe_abi<'a>(input: &mut Input<'_, 'a>) -> Read<Option<Option<Literal<'a>>>>
     ensures { Reads (λ l. l) types.read_maybe_abi input.old result input.new }
 {
     if !input.sees_word("extern") {
@@ -81,7 +78,7 @@ fn function_node<'a>(
     abi: Option<Option<Literal<'a>>>,
     inputs: Punctuated<FnArg<'a>>,
     output: Option<Ty<'a>>,
-) -> Result<TyNode<'a>, AllocError>
+) -> Made<TyNode<'a>>
     ensures { IfOk result (λ n. node_view n ≡ bare_fn (fn_tree lifetimes.entry is_unsafe abi.entry (inputs_of (map input_view inputs.entry.items)) inputs.entry.trailing (maybe_type (option_map ty_view output.entry)))) }
 {
     let function = BareFn {
@@ -95,9 +92,9 @@ fn function_node<'a>(
     Ok(TyNode::BareFn(inner))
 }
 
-impl<'a, F: for<'t> Fn(&mut Input<'t, 'a>, usize, Mode) -> Result<Ty<'a>, Error>> Types<F> {
+impl<'a, F: for<'t> Fn(&mut Input<'t, 'a>, usize, Mode) -> Read<Ty<'a>>> Types<F> {
     /// A name, `:` and a type.
-    fn labelled(&self, input: &mut Input<'_, 'a>) -> Result<(Ident<'a>, Ty<'a>), Error>
+    fn labelled(&self, input: &mut Input<'_, 'a>) -> Read<(Ident<'a>, Ty<'a>)>
         requires { Nests self.now.grammar.depth (F.pre self.now.grammar.ty) (F.post self.now.grammar.ty) }
         ensures { Reads (λ v. (v.0, ty_view v.1)) (types.read_labelled (read_type self.now.grammar.depth)) input.old result input.new }
     {
@@ -106,7 +103,7 @@ impl<'a, F: for<'t> Fn(&mut Input<'t, 'a>, usize, Mode) -> Result<Ty<'a>, Error>
     }
 
     /// A type, perhaps with a name.
-    fn named_type(&self, input: &mut Input<'_, 'a>) -> Result<(Option<Ident<'a>>, Ty<'a>), Error>
+    fn named_type(&self, input: &mut Input<'_, 'a>) -> Read<(Option<Ident<'a>>, Ty<'a>)>
         requires { Nests self.now.grammar.depth (F.pre self.now.grammar.ty) (F.post self.now.grammar.ty) }
         ensures { Reads (λ v. (v.0, ty_view v.1)) (types.read_named_type (read_type self.now.grammar.depth)) input.old result input.new }
     {
@@ -121,7 +118,7 @@ impl<'a, F: for<'t> Fn(&mut Input<'t, 'a>, usize, Mode) -> Result<Ty<'a>, Error>
     fn input_parts(
         &self,
         input: &mut Input<'_, 'a>,
-    ) -> Result<(Seq<Attribute<'a>>, (Option<Ident<'a>>, Ty<'a>)), Error>
+    ) -> Read<(Seq<Attribute<'a>>, (Option<Ident<'a>>, Ty<'a>))>
         requires { Nests self.now.grammar.depth (F.pre self.now.grammar.ty) (F.post self.now.grammar.ty) }
         ensures { Reads (λ v. (v.0, (v.1.0, ty_view v.1.1))) (types.read_input_parts (read_type self.now.grammar.depth)) input.old result input.new }
     {
@@ -130,7 +127,7 @@ impl<'a, F: for<'t> Fn(&mut Input<'t, 'a>, usize, Mode) -> Result<Ty<'a>, Error>
     }
 
     /// A parameter.
-    fn input(&self, input: &mut Input<'_, 'a>) -> Result<FnArg<'a>, Error>
+    fn input(&self, input: &mut Input<'_, 'a>) -> Read<FnArg<'a>>
         requires { Nests self.now.grammar.depth (F.pre self.now.grammar.ty) (F.post self.now.grammar.ty) }
         ensures { Reads input_view (types.read_input (read_type self.now.grammar.depth)) input.old result input.new }
     {
@@ -139,7 +136,7 @@ impl<'a, F: for<'t> Fn(&mut Input<'t, 'a>, usize, Mode) -> Result<Ty<'a>, Error>
     }
 
     /// Parameters with commas between.
-    fn inputs(&self, input: &mut Input<'_, 'a>) -> Result<Punctuated<FnArg<'a>>, Error>
+    fn inputs(&self, input: &mut Input<'_, 'a>) -> Read<Punctuated<FnArg<'a>>>
         requires { Nests self.now.grammar.depth (F.pre self.now.grammar.ty) (F.post self.now.grammar.ty) }
         ensures { Reads (λ v. types.inputs_pair (list_view input_view v)) (types.read_inputs (read_type self.now.grammar.depth)) input.old result input.new }
     {
@@ -147,7 +144,7 @@ impl<'a, F: for<'t> Fn(&mut Input<'t, 'a>, usize, Mode) -> Result<Ty<'a>, Error>
     }
 
     /// Parameters in parentheses.
-    fn enclosed_inputs(&self, input: &mut Input<'_, 'a>) -> Result<Punctuated<FnArg<'a>>, Error>
+    fn enclosed_inputs(&self, input: &mut Input<'_, 'a>) -> Read<Punctuated<FnArg<'a>>>
         requires { Nests self.now.grammar.depth (F.pre self.now.grammar.ty) (F.post self.now.grammar.ty) }
         ensures { Reads (λ v. types.inputs_pair (list_view input_view v)) (types.read_enclosed_inputs (read_type self.now.grammar.depth)) input.old result input.new }
     {
@@ -157,7 +154,7 @@ impl<'a, F: for<'t> Fn(&mut Input<'t, 'a>, usize, Mode) -> Result<Ty<'a>, Error>
     }
 
     /// `->` and a type.
-    fn behind_arrow(&self, input: &mut Input<'_, 'a>) -> Result<Ty<'a>, Error>
+    fn behind_arrow(&self, input: &mut Input<'_, 'a>) -> Read<Ty<'a>>
         requires { Nests self.now.grammar.depth (F.pre self.now.grammar.ty) (F.post self.now.grammar.ty) }
         ensures { Reads ty_view (types.read_behind_arrow (read_type self.now.grammar.depth)) input.old result input.new }
     {
@@ -166,7 +163,7 @@ impl<'a, F: for<'t> Fn(&mut Input<'t, 'a>, usize, Mode) -> Result<Ty<'a>, Error>
     }
 
     /// `-> T` where it comes next.
-    fn output(&self, input: &mut Input<'_, 'a>) -> Result<Option<Ty<'a>>, Error>
+    fn output(&self, input: &mut Input<'_, 'a>) -> Read<Option<Ty<'a>>>
         requires { Nests self.now.grammar.depth (F.pre self.now.grammar.ty) (F.post self.now.grammar.ty) }
         ensures { Reads (λ o. maybe_type (option_map ty_view o)) (types.read_output_here (read_type self.now.grammar.depth)) input.old result input.new }
     {
@@ -177,7 +174,7 @@ impl<'a, F: for<'t> Fn(&mut Input<'t, 'a>, usize, Mode) -> Result<Ty<'a>, Error>
     }
 
     /// Parameters and what follows `->`.
-    fn behind_fn(&self, input: &mut Input<'_, 'a>) -> Result<Signature<'a>, Error>
+    fn behind_fn(&self, input: &mut Input<'_, 'a>) -> Read<Signature<'a>>
         requires { Nests self.now.grammar.depth (F.pre self.now.grammar.ty) (F.post self.now.grammar.ty) }
         ensures { Reads signature_view (types.read_behind_fn (read_type self.now.grammar.depth)) input.old result input.new }
     {
@@ -187,7 +184,7 @@ impl<'a, F: for<'t> Fn(&mut Input<'t, 'a>, usize, Mode) -> Result<Ty<'a>, Error>
 
     /// What follows `fn`: its tokens stand one level deeper.
     #[tactic(auto, using(dm_input::proofs::Levels::level_steps))]
-    fn deep_behind_fn(&self, input: &mut Input<'_, 'a>) -> Result<Signature<'a>, Error>
+    fn deep_behind_fn(&self, input: &mut Input<'_, 'a>) -> Read<Signature<'a>>
         requires level { input.old.at.level ≤ deepest }
         requires nests { Nests self.now.grammar.depth (F.pre self.now.grammar.ty) (F.post self.now.grammar.ty) }
         ensures { Reads signature_view (types.read_deep_behind_fn (read_type self.now.grammar.depth)) input.old result input.new }
@@ -199,7 +196,7 @@ impl<'a, F: for<'t> Fn(&mut Input<'t, 'a>, usize, Mode) -> Result<Ty<'a>, Error>
     }
 
     /// `fn` and what follows.
-    fn signature(&self, input: &mut Input<'_, 'a>) -> Result<Signature<'a>, Error>
+    fn signature(&self, input: &mut Input<'_, 'a>) -> Read<Signature<'a>>
         requires { Nests self.now.grammar.depth (F.pre self.now.grammar.ty) (F.post self.now.grammar.ty) }
         ensures { Reads signature_view (types.read_signature (read_type self.now.grammar.depth)) input.old result input.new }
     {
@@ -208,7 +205,7 @@ impl<'a, F: for<'t> Fn(&mut Input<'t, 'a>, usize, Mode) -> Result<Ty<'a>, Error>
     }
 
     /// What follows `unsafe`.
-    fn behind_unsafe(&self, input: &mut Input<'_, 'a>) -> Result<Callable<'a>, Error>
+    fn behind_unsafe(&self, input: &mut Input<'_, 'a>) -> Read<Callable<'a>>
         requires { Nests self.now.grammar.depth (F.pre self.now.grammar.ty) (F.post self.now.grammar.ty) }
         ensures { Reads abi_view (types.read_behind_unsafe (read_type self.now.grammar.depth)) input.old result input.new }
     {
@@ -217,7 +214,7 @@ impl<'a, F: for<'t> Fn(&mut Input<'t, 'a>, usize, Mode) -> Result<Ty<'a>, Error>
     }
 
     /// What follows the lifetimes of a function type.
-    fn behind_for(&self, input: &mut Input<'_, 'a>) -> Result<(bool, Callable<'a>), Error>
+    fn behind_for(&self, input: &mut Input<'_, 'a>) -> Read<(bool, Callable<'a>)>
         requires { Nests self.now.grammar.depth (F.pre self.now.grammar.ty) (F.post self.now.grammar.ty) }
         ensures { Reads unsafe_view (types.read_behind_for (read_type self.now.grammar.depth)) input.old result input.new }
     {
@@ -229,7 +226,7 @@ impl<'a, F: for<'t> Fn(&mut Input<'t, 'a>, usize, Mode) -> Result<Ty<'a>, Error>
     fn function_parts(
         &self,
         input: &mut Input<'_, 'a>,
-    ) -> Result<(Option<Punctuated<Lifetime<'a>>>, (bool, Callable<'a>)), Error>
+    ) -> Read<(Option<Punctuated<Lifetime<'a>>>, (bool, Callable<'a>))>
         requires { Nests self.now.grammar.depth (F.pre self.now.grammar.ty) (F.post self.now.grammar.ty) }
         ensures { Reads function_view (types.read_function_parts (read_type self.now.grammar.depth)) input.old result input.new }
     {
@@ -238,7 +235,7 @@ impl<'a, F: for<'t> Fn(&mut Input<'t, 'a>, usize, Mode) -> Result<Ty<'a>, Error>
     }
 
     /// A function type.
-    pub fn function(&self, input: &mut Input<'_, 'a>) -> Result<TyNode<'a>, Error>
+    pub fn function(&self, input: &mut Input<'_, 'a>) -> Read<TyNode<'a>>
         requires { Nests self.now.grammar.depth (F.pre self.now.grammar.ty) (F.post self.now.grammar.ty) }
         ensures { Reads node_view (types.read_function (read_type self.now.grammar.depth)) input.old result input.new }
     {
@@ -254,7 +251,7 @@ struct InputRule<'g, F> {
     rules: &'g Types<F>,
 }
 
-impl<'g, 'a, F: for<'t> Fn(&mut Input<'t, 'a>, usize, Mode) -> Result<Ty<'a>, Error>> Rule<'a>
+impl<'g, 'a, F: for<'t> Fn(&mut Input<'t, 'a>, usize, Mode) -> Read<Ty<'a>>> Rule<'a>
     for InputRule<'g, F> {
     ghost use Rattle.dm_ast.specs.Tree.{InputTree, input_view};
     ghost use Rattle.dm_read_paths.specs.Nests.{Nests};
@@ -271,7 +268,7 @@ impl<'g, 'a, F: for<'t> Fn(&mut Input<'t, 'a>, usize, Mode) -> Result<Ty<'a>, Er
 
     ghost reader = { λ r w. types.read_input (read_type r.rules.now.grammar.depth) w };
 
-    fn read(&self, input: &mut Input<'_, 'a>) -> Result<FnArg<'a>, Error> {
+    fn read(&self, input: &mut Input<'_, 'a>) -> Read<FnArg<'a>> {
         self.rules.input(input)
     }
 }

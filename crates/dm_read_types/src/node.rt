@@ -3,11 +3,8 @@
 
 ghost use Rattle.std.specs.Prelude.{◌≡◌};
 ghost use Rattle.dm_stream.specs.Cursors.{left, sound};
-ghost use Rattle.dm_ast.specs.Tree.{ty_view, node_view};
-ghost use Rattle.dm_input.specs.Inputs.{Reads};
 ghost use Rattle.dm_read_paths.specs.TypeReaders as types;
-ghost use Rattle.dm_read_paths.specs.TypeReaders.{read_type};
-ghost use Rattle.dm_read_paths.specs.Nests.{Nests};
+ghost use Rattle.dm_read_paths.specs.Prelude.{ty_view, node_view, Reads, read_type, Nests};
 
 use crate::rules::Types;
 use crate::small::{call_type, infer_type, never_type, path_node};
@@ -18,7 +15,7 @@ use dm_read::macro_call::sees_macro;
 use dm_read::token::is_word;
 use dm_read_paths::kind::{Mode, NodeKind};
 use dm_read_pointers::pointers::Pointers;
-use dm_stream::{Cursor, Delim, Error, Ident, Span};
+use dm_stream::{Cursor, Delim, Ident, Read, Span};
 
 fn punct_kind(ch: char) -> NodeKind
     ensures { result ≡ types.punct_kind ch }
@@ -107,9 +104,9 @@ fn type_of<'a>(node: TyNode<'a>, span: Span) -> Ty<'a>
     Ty { node, span }
 }
 
-impl<'a, F: for<'t> Fn(&mut Input<'t, 'a>, usize, Mode) -> Result<Ty<'a>, Error>> Types<F> {
+impl<'a, F: for<'t> Fn(&mut Input<'t, 'a>, usize, Mode) -> Read<Ty<'a>>> Types<F> {
     /// A reference.
-    fn reference(&self, input: &mut Input<'_, 'a>) -> Result<TyNode<'a>, Error>
+    fn reference(&self, input: &mut Input<'_, 'a>) -> Read<TyNode<'a>>
         requires { Nests self.now.grammar.depth (F.pre self.now.grammar.ty) (F.post self.now.grammar.ty) }
         ensures { Reads node_view (types.read_reference (read_type self.now.grammar.depth)) input.old result input.new }
     {
@@ -120,7 +117,7 @@ impl<'a, F: for<'t> Fn(&mut Input<'t, 'a>, usize, Mode) -> Result<Ty<'a>, Error>
     }
 
     /// A pointer.
-    fn pointer(&self, input: &mut Input<'_, 'a>) -> Result<TyNode<'a>, Error>
+    fn pointer(&self, input: &mut Input<'_, 'a>) -> Read<TyNode<'a>>
         requires { Nests self.now.grammar.depth (F.pre self.now.grammar.ty) (F.post self.now.grammar.ty) }
         ensures { Reads node_view (types.read_pointer (read_type self.now.grammar.depth)) input.old result input.new }
     {
@@ -131,7 +128,7 @@ impl<'a, F: for<'t> Fn(&mut Input<'t, 'a>, usize, Mode) -> Result<Ty<'a>, Error>
     }
 
     /// What the type that comes next is.
-    fn node(&self, single: bool, input: &mut Input<'_, 'a>) -> Result<TyNode<'a>, Error>
+    fn node(&self, single: bool, input: &mut Input<'_, 'a>) -> Read<TyNode<'a>>
         requires { Nests self.now.grammar.depth (F.pre self.now.grammar.ty) (F.post self.now.grammar.ty) }
         ensures { Reads node_view (types.read_node (read_type self.now.grammar.depth) single) input.old result input.new }
     {
@@ -152,7 +149,7 @@ impl<'a, F: for<'t> Fn(&mut Input<'t, 'a>, usize, Mode) -> Result<Ty<'a>, Error>
     }
 
     /// A type with its range.
-    fn ranged_node(&self, single: bool, input: &mut Input<'_, 'a>) -> Result<Ty<'a>, Error>
+    fn ranged_node(&self, single: bool, input: &mut Input<'_, 'a>) -> Read<Ty<'a>>
         requires { Nests self.now.grammar.depth (F.pre self.now.grammar.ty) (F.post self.now.grammar.ty) }
         ensures { Reads ty_view (types.read_ranged_node (read_type self.now.grammar.depth) single) input.old result input.new }
     {
@@ -162,7 +159,7 @@ impl<'a, F: for<'t> Fn(&mut Input<'t, 'a>, usize, Mode) -> Result<Ty<'a>, Error>
     }
 
     /// A path with its range, as a type.
-    fn ranged_path(&self, input: &mut Input<'_, 'a>) -> Result<Ty<'a>, Error>
+    fn ranged_path(&self, input: &mut Input<'_, 'a>) -> Read<Ty<'a>>
         requires { Nests self.now.grammar.depth (F.pre self.now.grammar.ty) (F.post self.now.grammar.ty) }
         ensures { Reads ty_view (types.read_ranged_path (read_type self.now.grammar.depth)) input.old result input.new }
     {
@@ -172,7 +169,7 @@ impl<'a, F: for<'t> Fn(&mut Input<'t, 'a>, usize, Mode) -> Result<Ty<'a>, Error>
     }
 
     /// What may stand where a type may.
-    pub fn level(&self, mode: Mode, input: &mut Input<'_, 'a>) -> Result<Ty<'a>, Error>
+    pub fn level(&self, mode: Mode, input: &mut Input<'_, 'a>) -> Read<Ty<'a>>
         requires { Nests self.now.grammar.depth (F.pre self.now.grammar.ty) (F.post self.now.grammar.ty) }
         ensures { Reads ty_view (types.read_level (read_type self.now.grammar.depth) mode) input.old result input.new }
     {

@@ -2,19 +2,16 @@
 #![tactic(auto)]
 
 ghost use Rattle.std.specs.Prelude.{◌≡◌, ◌≤◌, map, false};
-ghost use Rattle.dm_ast.specs.Spelling.{deepest};
-ghost use Rattle.dm_ast.specs.Tree.{node_view, path_view, bound_view, bounds_of, trait_object, impl_trait, infer, never, path, no_self, macro_type};
-ghost use Rattle.dm_input.specs.Inputs.{Reads};
+ghost use Rattle.dm_ast.specs.Tree.{bounds_of, trait_object, impl_trait, infer, never, path, no_self, macro_type};
 ghost use Rattle.dm_read_paths.specs.TypeReaders as types;
-ghost use Rattle.dm_read_paths.specs.TypeReaders.{read_type};
-ghost use Rattle.dm_read_paths.specs.Nests.{Nests};
+ghost use Rattle.dm_read_paths.specs.Prelude.{deepest, node_view, path_view, bound_view, Reads, read_type, Nests};
 
 use crate::rules::Types;
 use dm_ast::{Bound, Path, PlainPath, Ty, TyNode};
 use dm_input::Input;
 use dm_input::join::joined;
 use dm_read_paths::kind::Mode;
-use dm_stream::{Delim, Error, Punctuated, Seq, TokenStream};
+use dm_stream::{Delim, Punctuated, Read, Seq, TokenStream};
 
 /// `dyn` and bounds.
 #[tactic(auto, using(crate::proofs::Built::built_steps))]
@@ -71,7 +68,7 @@ fn call_node<'a>(path: PlainPath<'a>, delim: Delim, inside: TokenStream<'a>) -> 
 }
 
 /// `_` as a type.
-pub fn infer_type<'a>(input: &mut Input<'_, 'a>) -> Result<TyNode<'a>, Error>
+pub fn infer_type<'a>(input: &mut Input<'_, 'a>) -> Read<TyNode<'a>>
     ensures { Reads node_view types.read_infer input.old result input.new }
 {
     input.word("_")?;
@@ -79,7 +76,7 @@ pub fn infer_type<'a>(input: &mut Input<'_, 'a>) -> Result<TyNode<'a>, Error>
 }
 
 /// `!` as a type.
-pub fn never_type<'a>(input: &mut Input<'_, 'a>) -> Result<TyNode<'a>, Error>
+pub fn never_type<'a>(input: &mut Input<'_, 'a>) -> Read<TyNode<'a>>
     ensures { Reads node_view types.read_never input.old result input.new }
 {
     input.punct('!')?;
@@ -87,7 +84,7 @@ pub fn never_type<'a>(input: &mut Input<'_, 'a>) -> Result<TyNode<'a>, Error>
 }
 
 /// `!` and a group.
-fn behind_bang<'a>(input: &mut Input<'_, 'a>) -> Result<(Delim, TokenStream<'a>), Error>
+fn behind_bang<'a>(input: &mut Input<'_, 'a>) -> Read<(Delim, TokenStream<'a>)>
     ensures { Reads (λ v. v) types.read_behind_bang input.old result input.new }
 {
     input.punct('!')?;
@@ -95,9 +92,7 @@ fn behind_bang<'a>(input: &mut Input<'_, 'a>) -> Result<(Delim, TokenStream<'a>)
 }
 
 /// A macro's path, `!` and a group.
-fn call_parts<'a>(
-    input: &mut Input<'_, 'a>,
-) -> Result<(PlainPath<'a>, (Delim, TokenStream<'a>)), Error>
+fn call_parts<'a>(input: &mut Input<'_, 'a>) -> Read<(PlainPath<'a>, (Delim, TokenStream<'a>))>
     ensures { Reads (λ v. v) types.read_call_parts input.old result input.new }
 {
     let path = input.plain_path()?;
@@ -105,17 +100,17 @@ fn call_parts<'a>(
 }
 
 /// A macro call as a type.
-pub fn call_type<'a>(input: &mut Input<'_, 'a>) -> Result<TyNode<'a>, Error>
+pub fn call_type<'a>(input: &mut Input<'_, 'a>) -> Read<TyNode<'a>>
     ensures { Reads node_view types.read_macro_type input.old result input.new }
 {
     let (path, (delim, inside)) = call_parts(input)?;
     Ok(call_node(path, delim, inside))
 }
 
-impl<'a, F: for<'t> Fn(&mut Input<'t, 'a>, usize, Mode) -> Result<Ty<'a>, Error>> Types<F> {
+impl<'a, F: for<'t> Fn(&mut Input<'t, 'a>, usize, Mode) -> Read<Ty<'a>>> Types<F> {
     /// Bounds of a `dyn` or an `impl`: their tokens stand one level deeper.
     #[tactic(auto, using(dm_input::proofs::Levels::level_steps))]
-    fn deep_bounds(&self, single: bool, input: &mut Input<'_, 'a>) -> Result<Seq<Bound<'a>>, Error>
+    fn deep_bounds(&self, single: bool, input: &mut Input<'_, 'a>) -> Read<Seq<Bound<'a>>>
         requires level { input.old.at.level ≤ deepest }
         requires nests { Nests self.now.grammar.depth (F.pre self.now.grammar.ty) (F.post self.now.grammar.ty) }
         ensures { Reads (λ l. bounds_of (map bound_view l)) (types.read_deep_bounds (read_type self.now.grammar.depth) single) input.old result input.new }
@@ -127,7 +122,7 @@ impl<'a, F: for<'t> Fn(&mut Input<'t, 'a>, usize, Mode) -> Result<Ty<'a>, Error>
     }
 
     /// `dyn` and bounds.
-    pub fn object(&self, single: bool, input: &mut Input<'_, 'a>) -> Result<TyNode<'a>, Error>
+    pub fn object(&self, single: bool, input: &mut Input<'_, 'a>) -> Read<TyNode<'a>>
         requires { Nests self.now.grammar.depth (F.pre self.now.grammar.ty) (F.post self.now.grammar.ty) }
         ensures { Reads node_view (types.read_object (read_type self.now.grammar.depth) single) input.old result input.new }
     {
@@ -136,7 +131,7 @@ impl<'a, F: for<'t> Fn(&mut Input<'t, 'a>, usize, Mode) -> Result<Ty<'a>, Error>
     }
 
     /// `impl` and bounds.
-    pub fn implied(&self, single: bool, input: &mut Input<'_, 'a>) -> Result<TyNode<'a>, Error>
+    pub fn implied(&self, single: bool, input: &mut Input<'_, 'a>) -> Read<TyNode<'a>>
         requires { Nests self.now.grammar.depth (F.pre self.now.grammar.ty) (F.post self.now.grammar.ty) }
         ensures { Reads node_view (types.read_implied (read_type self.now.grammar.depth) single) input.old result input.new }
     {
@@ -145,7 +140,7 @@ impl<'a, F: for<'t> Fn(&mut Input<'t, 'a>, usize, Mode) -> Result<Ty<'a>, Error>
     }
 
     /// A path as a type.
-    pub fn path_type(&self, input: &mut Input<'_, 'a>) -> Result<TyNode<'a>, Error>
+    pub fn path_type(&self, input: &mut Input<'_, 'a>) -> Read<TyNode<'a>>
         requires { Nests self.now.grammar.depth (F.pre self.now.grammar.ty) (F.post self.now.grammar.ty) }
         ensures { Reads node_view (types.read_path_type (read_type self.now.grammar.depth)) input.old result input.new }
     {

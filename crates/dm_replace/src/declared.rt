@@ -10,21 +10,17 @@ ghost use Rattle.dm_replace.specs.Replaced.{declared_segment};
 
 use dm_ast::{DeriveInput, GenericParam};
 use dm_copy::{SelfArgument, SelfType};
-use dm_stream::{Ident, Seq};
-use std::alloc::{AllocError, Global};
+use dm_stream::{Ident, Made, Seq};
+use std::alloc::Global;
 
-fn owned_name(ident: &Ident<'_>, alloc: Global) -> Result<Ident<'static>, AllocError>
+fn owned_name(ident: &Ident<'_>, alloc: Global) -> Made<Ident<'static>>
     ensures { IfOk result (λ r. r ≡ ident.now) }
 {
     Ok(ident.clone_in(alloc)?.into_owned(alloc)?)
 }
 
 /// The argument for a lifetime parameter, added at the end.
-fn add_lifetime(
-    param: &GenericParam<'_>,
-    found: &mut Seq<SelfArgument>,
-    alloc: Global,
-) -> Result<(), AllocError>
+fn add_lifetime(param: &GenericParam<'_>, found: &mut Seq<SelfArgument>, alloc: Global) -> Made<()>
     ensures { IfOk result (λ _. map argument_of found.new ≡ map argument_of found.old ++ arguments_where is_lifetime (param_view param.now ∷ [])) }
 {
     match param {
@@ -38,11 +34,7 @@ fn add_lifetime(
 }
 
 /// The argument for a type or const parameter, added at the end.
-fn add_name(
-    param: &GenericParam<'_>,
-    found: &mut Seq<SelfArgument>,
-    alloc: Global,
-) -> Result<(), AllocError>
+fn add_name(param: &GenericParam<'_>, found: &mut Seq<SelfArgument>, alloc: Global) -> Made<()>
     ensures { IfOk result (λ _. map argument_of found.new ≡ map argument_of found.old ++ arguments_where is_other (param_view param.now ∷ [])) }
 {
     match param {
@@ -62,7 +54,7 @@ fn add_lifetimes(
     params: &[GenericParam<'_>],
     found: &mut Seq<SelfArgument>,
     alloc: Global,
-) -> Result<(), AllocError>
+) -> Made<()>
     ensures { IfOk result (λ _. map argument_of found.new ≡ map argument_of found.old ++ arguments_where is_lifetime (map param_view params.now)) }
 {
     for param in params {
@@ -71,11 +63,7 @@ fn add_lifetimes(
     Ok(())
 }
 
-fn add_names(
-    params: &[GenericParam<'_>],
-    found: &mut Seq<SelfArgument>,
-    alloc: Global,
-) -> Result<(), AllocError>
+fn add_names(params: &[GenericParam<'_>], found: &mut Seq<SelfArgument>, alloc: Global) -> Made<()>
     ensures { IfOk result (λ _. map argument_of found.new ≡ map argument_of found.old ++ arguments_where is_other (map param_view params.now)) }
 {
     for param in params {
@@ -85,7 +73,7 @@ fn add_names(
 }
 
 /// The type that is declared, with an argument for each parameter, lifetimes first.
-pub(crate) fn self_type(input: &DeriveInput<'_>, alloc: Global) -> Result<SelfType, AllocError>
+pub(crate) fn self_type(input: &DeriveInput<'_>, alloc: Global) -> Made<SelfType>
     ensures { IfOk result (λ t. segment_of t ≡ declared_segment (declaration_view input.now)) }
 {
     let ident = owned_name(&input.ident, alloc)?;

@@ -12,12 +12,12 @@ ghost use Rattle.dm_read_items.specs.Reading.{IsAnswerTo};
 use dm_expansion::print_items;
 use dm_nodes::item::ItemNodes;
 use dm_read_items::read_items;
-use dm_stream::{Error, Refusal};
+use dm_stream::{Error, Read, Refusal};
 use std::alloc::{AllocError, Global};
 use std::io;
 
 /// The text of the implementations that a text is made of.
-fn reprinted(alloc: Global, text: &str) -> Result<String, Error>
+fn reprinted(alloc: Global, text: &str) -> Read<String>
     ensures { IfOk result (λ s. (is : List ItemTree) × IsAnswerTo text.now (Some is) × (string_bytes s ≡ printed is)) }
 {
     let items = ItemNodes::new(read_items(alloc, text)?);

@@ -7,7 +7,7 @@
 mod spelling;
 mod telling;
 
-use dm_stream::Error;
+use dm_stream::{Error, Made, Read};
 pub use spelling::{add_shown, spelled};
 use std::alloc::{AllocError, Global};
 pub use telling::{Tells, made, only_read, printed, told, told_alone, told_front};
@@ -22,7 +22,7 @@ pub trait Answers {
 const UNKNOWN: &str = "no such row";
 
 /// The answer to a row whose head isn't known.
-pub fn unknown(alloc: Global) -> Result<String, Error> {
+pub fn unknown(alloc: Global) -> Read<String> {
     Ok(String::from_str(alloc, UNKNOWN)?)
 }
 
@@ -39,7 +39,7 @@ fn parts(row: &str) -> Option<(&str, &str)> {
 }
 
 /// Adds each line of an answer, behind four blanks.
-fn add_lines(out: &mut String, answer: &str) -> Result<(), AllocError> {
+fn add_lines(out: &mut String, answer: &str) -> Made<()> {
     for line in answer.lines() {
         out.push_str("    ")?;
         out.push_str(line)?;
@@ -49,7 +49,7 @@ fn add_lines(out: &mut String, answer: &str) -> Result<(), AllocError> {
 }
 
 /// Adds the line of a refusal: its kind and its range. Want of memory is no answer.
-fn add_refusal(out: &mut String, error: Error) -> Result<(), AllocError> {
+fn add_refusal(out: &mut String, error: Error) -> Made<()> {
     match error {
         Error::NoMemory => Err(AllocError),
         Error::Refused(refusal) => {
@@ -62,12 +62,7 @@ fn add_refusal(out: &mut String, error: Error) -> Result<(), AllocError> {
 }
 
 /// Adds what a row is answered by.
-fn add_answer<A: Answers>(
-    out: &mut String,
-    alloc: Global,
-    head: &str,
-    text: &str,
-) -> Result<(), AllocError> {
+fn add_answer<A: Answers>(out: &mut String, alloc: Global, head: &str, text: &str) -> Made<()> {
     let text = spelled(alloc, text)?;
     match A::answer(alloc, head, text.as_str()) {
         Ok(answer) => add_lines(out, answer.as_str()),
@@ -76,7 +71,7 @@ fn add_answer<A: Answers>(
 }
 
 /// The table, with the answer below each row.
-pub fn answered<A: Answers>(alloc: Global, table: &str) -> Result<String, AllocError> {
+pub fn answered<A: Answers>(alloc: Global, table: &str) -> Made<String> {
     let mut out = String::new(alloc);
     for row in table.lines() {
         out.push_str(row)?;

@@ -7,7 +7,7 @@ ghost use Rattle.dm_stream.specs.Cursors.{sound, SharesEnd};
 
 use dm_layout::print;
 use dm_quote::ToTokens;
-use dm_stream::{Cursor, Error, TokenStream};
+use dm_stream::{Cursor, Error, Read, TokenStream};
 use std::alloc::{AllocError, Global};
 
 /// A way to tell of a value.
@@ -16,7 +16,7 @@ pub trait Tells<T> {
 }
 
 /// The layout of a value's tokens.
-pub fn printed<'a, T: ToTokens<'a>>(value: &T, alloc: Global) -> Result<String, Error>
+pub fn printed<'a, T: ToTokens<'a>>(value: &T, alloc: Global) -> Read<String>
     requires { T.stands value.now }
 {
     let mut out = TokenStream::new(alloc);
@@ -25,11 +25,7 @@ pub fn printed<'a, T: ToTokens<'a>>(value: &T, alloc: Global) -> Result<String, 
 }
 
 /// What is told of what was read, or its refusal.
-pub fn told<T: Drop, W: Tells<T>>(
-    read: Result<T, Error>,
-    alloc: Global,
-    way: &W,
-) -> Result<String, Error> {
+pub fn told<T: Drop, W: Tells<T>>(read: Result<T, Error>, alloc: Global, way: &W) -> Read<String> {
     match read {
         Ok(value) => W::tell(&value, alloc, way),
         Err(error) => Err(error),
@@ -41,7 +37,7 @@ pub fn made<T: Drop, W: Tells<T>>(
     made: Result<T, AllocError>,
     alloc: Global,
     way: &W,
-) -> Result<String, Error> {
+) -> Read<String> {
     match made {
         Ok(value) => W::tell(&value, alloc, way),
         Err(AllocError) => Err(Error::NoMemory),
@@ -53,7 +49,7 @@ pub fn told_alone<T: Drop, U: Drop, W: Tells<T>>(
     read: Result<(T, U), Error>,
     alloc: Global,
     way: &W,
-) -> Result<String, Error> {
+) -> Read<String> {
     match read {
         Ok((value, _)) => W::tell(&value, alloc, way),
         Err(error) => Err(error),
@@ -66,7 +62,7 @@ pub fn told_front<'t, 'a, T: Drop, W: Tells<T>>(
     read: Result<(T, Cursor<'t, 'a>), Error>,
     alloc: Global,
     way: &W,
-) -> Result<String, Error>
+) -> Read<String>
     requires { IfOk read (λ r. SharesEnd c r.1) }
 {
     match read {
@@ -76,11 +72,7 @@ pub fn told_front<'t, 'a, T: Drop, W: Tells<T>>(
 }
 
 /// With a line of what is left, where that is something.
-fn with_left(
-    told: Result<String, Error>,
-    rest: Cursor<'_, '_>,
-    alloc: Global,
-) -> Result<String, Error>
+fn with_left(told: Result<String, Error>, rest: Cursor<'_, '_>, alloc: Global) -> Read<String>
     requires { sound rest }
 {
     let text = told?;
@@ -95,7 +87,7 @@ fn with_left(
 }
 
 /// Nothing but that it was read, or its refusal.
-pub fn only_read<T: Drop>(read: Result<T, Error>) -> Result<(), Error> {
+pub fn only_read<T: Drop>(read: Result<T, Error>) -> Read<()> {
     match read {
         Ok(_) => Ok(()),
         Err(error) => Err(error),

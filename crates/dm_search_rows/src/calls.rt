@@ -7,7 +7,7 @@ use crate::replaced::replaced;
 use crate::texts::{of_type, word};
 use crate::types::OfType;
 use dm_rows::{Answers, named, unknown};
-use dm_stream::Error;
+use dm_stream::{Error, Read};
 use std::alloc::Global;
 
 /// What a row asks for.
@@ -63,12 +63,7 @@ const CALLS: &[(&str, Call)] = &[
 ];
 
 /// What is asked for of the text in front of the `~`, by the text behind it.
-fn by_another<'a>(
-    alloc: Global,
-    call: Call,
-    text: &'a str,
-    other: &'a str,
-) -> Result<String, Error> {
+fn by_another<'a>(alloc: Global, call: Call, text: &'a str, other: &'a str) -> Read<String> {
     match call {
         Call::Finds(search) => of_type(alloc, other, &OfType::Finds(search, text)),
         Call::Holds => of_type(alloc, other, &OfType::Holds(text)),
@@ -77,14 +72,14 @@ fn by_another<'a>(
     }
 }
 
-fn of_two(alloc: Global, call: Call, text: &str) -> Result<String, Error> {
+fn of_two(alloc: Global, call: Call, text: &str) -> Read<String> {
     match text.split_once(" ~ ") {
         Some((text, other)) => by_another(alloc, call, text, other),
         None => word(alloc, "only one text"),
     }
 }
 
-fn answer_to(alloc: Global, call: Call, text: &str) -> Result<String, Error> {
+fn answer_to(alloc: Global, call: Call, text: &str) -> Read<String> {
     match call {
         Call::Parameters => counts(alloc, text),
         Call::Finds(_) | Call::Holds | Call::Adds(_) => of_two(alloc, call, text),

@@ -11,7 +11,9 @@ use dm_lexer::lex;
 use dm_meta::parse_predicates;
 use dm_quote::ToTokens;
 use dm_rows::{Tells, made, printed};
-use dm_stream::{Error, Ident, Punct, Punctuated, Seq, Spacing, Span, Text, Token, TokenStream};
+use dm_stream::{
+    Error, Ident, Made, Punct, Punctuated, Read, Seq, Spacing, Span, Text, Token, TokenStream,
+};
 use std::alloc::{AllocError, Global};
 
 /// What is added to the generics of a declaration.
@@ -45,7 +47,7 @@ struct Parts;
 struct TakenOver;
 
 /// Adds a comma.
-fn end(out: &mut TokenStream<'_>) -> Result<(), AllocError> {
+fn end(out: &mut TokenStream<'_>) -> Made<()> {
     let comma = Token::Punct(Punct {
         ch: ',',
         spacing: Spacing::Alone,
@@ -57,10 +59,7 @@ fn end(out: &mut TokenStream<'_>) -> Result<(), AllocError> {
     }
 }
 
-fn tell_params<'a>(
-    params: &[GenericParam<'a>],
-    out: &mut TokenStream<'a>,
-) -> Result<(), AllocError> {
+fn tell_params<'a>(params: &[GenericParam<'a>], out: &mut TokenStream<'a>) -> Made<()> {
     for param in params {
         param.to_tokens(out)?;
         end(out)?;
@@ -68,10 +67,7 @@ fn tell_params<'a>(
     Ok(())
 }
 
-fn tell_predicates<'a>(
-    predicates: &[WherePredicate<'a>],
-    out: &mut TokenStream<'a>,
-) -> Result<(), AllocError> {
+fn tell_predicates<'a>(predicates: &[WherePredicate<'a>], out: &mut TokenStream<'a>) -> Made<()> {
     for predicate in predicates {
         predicate.to_tokens(out)?;
         end(out)?;
@@ -79,7 +75,7 @@ fn tell_predicates<'a>(
     Ok(())
 }
 
-fn tell_generics<'a>(generics: &Generics<'a>, out: &mut TokenStream<'a>) -> Result<(), AllocError> {
+fn tell_generics<'a>(generics: &Generics<'a>, out: &mut TokenStream<'a>) -> Made<()> {
     tell_params(generics.params.items.as_slice(), out)?;
     match &generics.where_clause {
         None => Ok(()),
@@ -120,7 +116,7 @@ impl<'a> Tells<DeriveInput<'a>> for TakenOver {
 }
 
 /// Which parameters the implementation for a declaration takes over, and the type that it is for.
-pub(crate) fn taken_over(alloc: Global, declaration: &str) -> Result<String, Error> {
+pub(crate) fn taken_over(alloc: Global, declaration: &str) -> Read<String> {
     of_declaration(alloc, declaration, &TakenOver)
 }
 
@@ -151,12 +147,12 @@ fn only_bound<'x, 'a>(predicates: &'x Punctuated<WherePredicate<'a>>) -> Option<
     }
 }
 
-fn predicates(alloc: Global, text: &str) -> Result<Punctuated<WherePredicate<'_>>, Error> {
+fn predicates(alloc: Global, text: &str) -> Read<Punctuated<WherePredicate<'_>>> {
     let stream = lex(alloc, text)?;
     parse_predicates(alloc, stream.cursor())
 }
 
-fn with_bound<'a>(generics: &Generics<'a>, alloc: Global, text: &'a str) -> Result<String, Error> {
+fn with_bound<'a>(generics: &Generics<'a>, alloc: Global, text: &'a str) -> Read<String> {
     match predicates(alloc, text) {
         Ok(all) => match only_bound(&all) {
             Some(bound) => made(
@@ -170,11 +166,7 @@ fn with_bound<'a>(generics: &Generics<'a>, alloc: Global, text: &'a str) -> Resu
     }
 }
 
-fn with_predicates<'a>(
-    generics: &Generics<'a>,
-    alloc: Global,
-    text: &'a str,
-) -> Result<String, Error> {
+fn with_predicates<'a>(generics: &Generics<'a>, alloc: Global, text: &'a str) -> Read<String> {
     match predicates(alloc, text) {
         Ok(extra) => made(
             add_extra_where_clauses(alloc, generics, extra),
@@ -190,7 +182,7 @@ fn with_addition<'a>(
     alloc: Global,
     addition: Addition,
     text: &'a str,
-) -> Result<String, Error> {
+) -> Read<String> {
     match addition {
         Addition::OpOutput => {
             let added = add_extra_type_param_bound_op_output(alloc, generics, text);
@@ -221,11 +213,11 @@ pub(crate) fn added<'a>(
     declaration: &'a str,
     addition: Addition,
     text: &'a str,
-) -> Result<String, Error> {
+) -> Read<String> {
     of_declaration(alloc, declaration, &Adding { addition, text })
 }
 
-fn tell_names<'a>(names: &[Ident<'a>], out: &mut TokenStream<'a>) -> Result<(), AllocError> {
+fn tell_names<'a>(names: &[Ident<'a>], out: &mut TokenStream<'a>) -> Made<()> {
     for name in names {
         name.to_tokens(out)?;
         end(out)?;
@@ -242,6 +234,6 @@ impl<'a> Tells<Seq<Ident<'a>>> for Parts {
 }
 
 /// So many names that begin so.
-pub(crate) fn numbered(alloc: Global, count: usize, prefix: &str) -> Result<String, Error> {
+pub(crate) fn numbered(alloc: Global, count: usize, prefix: &str) -> Read<String> {
     made(numbered_vars(alloc, count, prefix), alloc, &Parts)
 }

@@ -4,7 +4,7 @@ use crate::texts::{of_declaration, yes};
 use dm_ast::{DeriveInput, Ty, TyNode};
 use dm_rows::Tells;
 use dm_searches::{GenericsSearch, contains_any, path_contains_any};
-use dm_stream::Error;
+use dm_stream::{Error, Read};
 use std::alloc::Global;
 
 /// A search for parameters.
@@ -42,7 +42,7 @@ fn tell_of(
     all: &GenericsSearch<'_, '_>,
     alloc: Global,
     way: &OfParameters<'_, '_>,
-) -> Result<String, Error> {
+) -> Read<String> {
     match way {
         OfParameters::Finds(ty, search) => yes(alloc, is_found(ty, all, *search)),
         OfParameters::Counts => {
@@ -66,16 +66,11 @@ impl<'x, 't, 'a> Tells<DeriveInput<'a>> for OfParameters<'x, 't> {
 }
 
 /// Whether a search for the parameters of a declaration finds one in a type.
-pub(crate) fn finds(
-    ty: &Ty<'_>,
-    alloc: Global,
-    search: Search,
-    declaration: &str,
-) -> Result<String, Error> {
+pub(crate) fn finds(ty: &Ty<'_>, alloc: Global, search: Search, declaration: &str) -> Read<String> {
     of_declaration(alloc, declaration, &OfParameters::Finds(ty, search))
 }
 
 /// How many parameters of each kind a declaration has.
-pub(crate) fn counts(alloc: Global, declaration: &str) -> Result<String, Error> {
+pub(crate) fn counts(alloc: Global, declaration: &str) -> Read<String> {
     of_declaration(alloc, declaration, &OfParameters::Counts)
 }

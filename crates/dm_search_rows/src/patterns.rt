@@ -7,14 +7,14 @@ use dm_generics::names;
 use dm_generics::names::path_of_one;
 use dm_output::{NamedPattern, Pattern};
 use dm_rows::{Tells, made};
-use dm_stream::Error;
+use dm_stream::{Error, Made, Read};
 use std::alloc::{AllocError, Global};
 
 /// The text of a pattern, without spaces and with no path.
 #[derive(Clone, Copy)]
 struct Spelled;
 
-fn add_pattern(text: &mut String, pattern: &Pattern<'_>) -> Result<(), AllocError> {
+fn add_pattern(text: &mut String, pattern: &Pattern<'_>) -> Made<()> {
     match pattern {
         Pattern::Wild => text.push_str("_,"),
         Pattern::Bind(_, name) => {
@@ -25,13 +25,13 @@ fn add_pattern(text: &mut String, pattern: &Pattern<'_>) -> Result<(), AllocErro
     }
 }
 
-fn add_named(text: &mut String, named: &NamedPattern<'_>) -> Result<(), AllocError> {
+fn add_named(text: &mut String, named: &NamedPattern<'_>) -> Made<()> {
     text.push_str(named.name.name.as_str())?;
     text.push_str(":")?;
     add_pattern(text, &named.pattern)
 }
 
-fn add_whole(text: &mut String, pattern: &Pattern<'_>) -> Result<(), AllocError> {
+fn add_whole(text: &mut String, pattern: &Pattern<'_>) -> Made<()> {
     match pattern {
         Pattern::Named(_, all, rest) => {
             text.push_str("{")?;
@@ -66,7 +66,7 @@ struct Bound<'t> {
     skipped: &'t [usize],
 }
 
-fn of_all(fields: &Fields<'_>, alloc: Global) -> Result<String, Error> {
+fn of_all(fields: &Fields<'_>, alloc: Global) -> Read<String> {
     match path_of_one(alloc, names::word("P")) {
         Ok(path) => made(
             exhaustive_arm_pattern(alloc, path, fields, "x"),
@@ -77,7 +77,7 @@ fn of_all(fields: &Fields<'_>, alloc: Global) -> Result<String, Error> {
     }
 }
 
-fn of_some(fields: &Fields<'_>, alloc: Global, skipped: &[usize]) -> Result<String, Error> {
+fn of_some(fields: &Fields<'_>, alloc: Global, skipped: &[usize]) -> Read<String> {
     match path_of_one(alloc, names::word("P")) {
         Ok(path) => made(
             non_exhaustive_arm_pattern(alloc, path, fields, "x", skipped),
@@ -88,7 +88,7 @@ fn of_some(fields: &Fields<'_>, alloc: Global, skipped: &[usize]) -> Result<Stri
     }
 }
 
-fn of_both(fields: &Fields<'_>, alloc: Global, skipped: &[usize]) -> Result<String, Error> {
+fn of_both(fields: &Fields<'_>, alloc: Global, skipped: &[usize]) -> Read<String> {
     let all = of_all(fields, alloc)?;
     let some = of_some(fields, alloc, skipped)?;
     let all = all.as_str();
@@ -106,10 +106,6 @@ impl<'a, 't> Tells<DeriveInput<'a>> for Bound<'t> {
 }
 
 /// The patterns of a struct's fields: of all, and where these are skipped.
-pub(crate) fn patterns(
-    alloc: Global,
-    declaration: &str,
-    skipped: &[usize],
-) -> Result<String, Error> {
+pub(crate) fn patterns(alloc: Global, declaration: &str, skipped: &[usize]) -> Read<String> {
     of_declaration(alloc, declaration, &Bound { skipped })
 }

@@ -4,7 +4,7 @@ use crate::texts::of_declaration;
 use dm_ast::DeriveInput;
 use dm_replace::replace_self_type;
 use dm_rows::{Tells, made, printed};
-use dm_stream::Error;
+use dm_stream::{Error, Read};
 use std::alloc::Global;
 
 /// How it is laid out.
@@ -28,6 +28,6 @@ impl<'a> Tells<DeriveInput<'a>> for OwnType {
 }
 
 /// A declaration with its own type in place of `Self`.
-pub(crate) fn replaced(alloc: Global, text: &str) -> Result<String, Error> {
+pub(crate) fn replaced(alloc: Global, text: &str) -> Read<String> {
     of_declaration(alloc, text, &OwnType)
 }

@@ -8,7 +8,7 @@ use dm_searches::{
     contains_type_structurally, get_if_type_parameter_used_in_type, get_inner, get_option_inner,
     is_option, is_type_parameter_used_in_type, validate_type,
 };
-use dm_stream::{Error, Text};
+use dm_stream::{Error, Read, Text};
 use indexmap::IndexSet;
 use std::alloc::Global;
 
@@ -49,19 +49,19 @@ impl<'x, 'a> Tells<Ty<'a>> for StandsIn<'x, 'a> {
     }
 }
 
-fn holds<'a>(ty: &Ty<'a>, alloc: Global, needle: &'a str) -> Result<String, Error> {
+fn holds<'a>(ty: &Ty<'a>, alloc: Global, needle: &'a str) -> Read<String> {
     of_type(alloc, needle, &StandsIn(ty))
 }
 
 /// The layout of a type that was found, or `none`.
-fn part(found: Option<&Ty<'_>>, alloc: Global) -> Result<String, Error> {
+fn part(found: Option<&Ty<'_>>, alloc: Global) -> Read<String> {
     match found {
         Some(found) => printed(found, alloc),
         None => word(alloc, "none"),
     }
 }
 
-fn uses_one<'a>(ty: &Ty<'a>, params: &IndexSet<Text<'a>>, alloc: Global) -> Result<String, Error> {
+fn uses_one<'a>(ty: &Ty<'a>, params: &IndexSet<Text<'a>>, alloc: Global) -> Read<String> {
     let found = get_if_type_parameter_used_in_type(params, ty);
     if is_type_parameter_used_in_type(params, ty) == found.is_some() {
         part(found, alloc)
@@ -70,7 +70,7 @@ fn uses_one<'a>(ty: &Ty<'a>, params: &IndexSet<Text<'a>>, alloc: Global) -> Resu
     }
 }
 
-fn uses(ty: &Ty<'_>, alloc: Global) -> Result<String, Error> {
+fn uses(ty: &Ty<'_>, alloc: Global) -> Read<String> {
     let mut params = IndexSet::new(alloc);
     match params.insert(Text::borrowed("T")) {
         Ok(_) => uses_one(ty, &params, alloc),
@@ -78,7 +78,7 @@ fn uses(ty: &Ty<'_>, alloc: Global) -> Result<String, Error> {
     }
 }
 
-fn wraps(ty: &Ty<'_>, alloc: Global) -> Result<String, Error> {
+fn wraps(ty: &Ty<'_>, alloc: Global) -> Read<String> {
     let wrapped = get_option_inner(ty);
     if is_option(ty) != wrapped.is_some() {
         return word(alloc, "answers differ");
@@ -90,7 +90,7 @@ fn wraps(ty: &Ty<'_>, alloc: Global) -> Result<String, Error> {
     Ok(format!(in alloc; "of an Option {wrapped}\nof any name {any}")?)
 }
 
-fn fits(ty: &Ty<'_>, alloc: Global, count: usize) -> Result<String, Error> {
+fn fits(ty: &Ty<'_>, alloc: Global, count: usize) -> Read<String> {
     match validate_type(count, ty) {
         Ok(()) => word(alloc, "fits"),
         Err(refusal) => Err(Error::Refused(refusal)),

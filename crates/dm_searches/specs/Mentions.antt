@@ -14,10 +14,11 @@ use Rattle.dm_ast.specs.declared.plain.AttrArgs.TheVariants as attr
 use Rattle.dm_ast.specs.declared.plain.Attribute.{Attribute}
 use Rattle.dm_ast.specs.declared.plain.ConstArg.{ConstArg}
 use Rattle.dm_ast.specs.declared.plain.ConstArg.TheVariants as c
+use Rattle.dm_ast.specs.Idents.{path_ident}
 use Rattle.dm_ast.specs.Tree.{Lifetimes, TypeTree, type_tree, TypeNode, paren, tuple, slice, array, reference, pointer, bare_fn, trait_object, impl_trait, infer, never, path, macro_type, TypeTrees, no_types, type_then, MaybeType, no_type, some_type, MaybeSelf, no_self, some_self, BoundTree, outlives, implements, BoundTrees, no_bounds, bound_then, TraitBoundTree, trait_bound, FnTree, fn_tree, InputTree, input, InputTrees, no_inputs, input_then, PathTree, path_tree, SegmentTree, segment, SegmentTrees, no_segments, segment_then, ArgumentsTree, absent, angle, parens, ArgumentTree, lifetime_arg, type_arg, const_arg, assoc_type, assoc_const, constraint, ArgumentTrees, no_arguments, argument_then, MaybeArguments, arguments_absent, some_arguments}
 use Rattle.dm_searches.specs.declared.names.Sort.{Sort}
 use Rattle.dm_searches.specs.declared.names.Sort.TheVariants as sort
-use Rattle.dm_searches.specs.Parameters.{Parameters, is_named, is_lifetime_named, some_named, bare_first, bare_whole}
+use Rattle.dm_searches.specs.Parameters.{Parameters, is_named, is_lifetime_named, some_named, bare_first}
 
 -- ---- one parameter: its sort and its name
 
@@ -36,7 +37,7 @@ is_lifetime sort.Const n l = false
 abbrev pub is_path : Sort → List ℕ → PathTree → Bool
 is_path sort.Ty n (path_tree leading ss) = some_named n (bare_first ss)
 is_path sort.Lifetime n r = false
-is_path sort.Const n r = some_named n (bare_whole r)
+is_path sort.Const n r = some_named n (path_ident r)
 
 -- ---- among tokens that are not read
 

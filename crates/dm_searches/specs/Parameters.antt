@@ -1,10 +1,11 @@
 -- The parameters that a search looks for. Names are compared without `r#`.
-use Rattle.std.specs.Prelude.{ℕ, Bool, true, false, List, [], ◌∷◌, map, Option, Some, None}
+use Rattle.std.specs.Prelude.{ℕ, Bool, false, List, [], ◌∷◌, map, Option, Some, None}
 use Rattle.std.specs.Borrow.{Bor}
 use Rattle.std.specs.Str.{bytes_eq}
 use Rattle.dm_stream.specs.declared.tokens.Ident.{Ident}
 use Rattle.dm_stream.specs.declared.tokens.Lifetime.{Lifetime}
-use Rattle.dm_ast.specs.Tree.{PathTree, path_tree, SegmentTree, segment, SegmentTrees, no_segments, segment_then, ArgumentsTree, absent, angle, parens}
+use Rattle.dm_ast.specs.Idents.{segment_ident}
+use Rattle.dm_ast.specs.Tree.{SegmentTrees, no_segments, segment_then}
 use Rattle.dm_ast.specs.Declarations.{ParamTree, lifetime_param, type_param, const_param, GenericsTree}
 use Rattle.dm_searches.specs.declared.search.GenericsSearch.{GenericsSearch}
 
@@ -62,27 +63,7 @@ abbrev pub some_named : List ℕ → Option Ident → Bool
 some_named n None = false
 some_named n (Some i) = is_named n i
 
--- the name of a segment, where it has no arguments
-abbrev pub bare_without : Ident → ArgumentsTree → Option Ident
-bare_without i absent = Some i
-bare_without i (angle double gs trailing) = None
-bare_without i (parens ts trailing out) = None
-
-abbrev pub bare : SegmentTree → Option Ident
-bare (segment i as') = bare_without i as'
-
 -- the first name of a path, where it has no arguments, as `T` in `T::Item`
 abbrev pub bare_first : SegmentTrees → Option Ident
 bare_first no_segments = None
-bare_first (segment_then s ss) = bare s
-
--- the name that is all segments
-abbrev pub bare_only : SegmentTrees → Option Ident
-bare_only no_segments = None
-bare_only (segment_then s no_segments) = bare s
-bare_only (segment_then s (segment_then r ss)) = None
-
--- the name that is the whole path, without `::` before it and without arguments
-abbrev pub bare_whole : PathTree → Option Ident
-bare_whole (path_tree true ss) = None
-bare_whole (path_tree false ss) = bare_only ss
+bare_first (segment_then s ss) = segment_ident s

@@ -5,7 +5,7 @@ ghost use Rattle.std.specs.Prelude.{◌≡◌, map};
 ghost use Rattle.dm_ast.specs.Tree as tree;
 ghost use Rattle.dm_searches.specs.Mentions as spec;
 
-use crate::names::{Sort, bare_first, bare_whole, some_named};
+use crate::names::{Sort, bare_first, some_named};
 use crate::opaque::{in_attributes, in_constant, in_for, in_lifetime, in_tokens, is_lifetime};
 use dm_ast::{
     BareFn, Bound, FnArg, GenericArgument, Path, PathArguments, PathSegment, QSelf, TraitBound, Ty,
@@ -19,7 +19,7 @@ fn is_path(path: &Path<'_>, name: &str, sort: Sort) -> bool
     match sort {
         Sort::Ty => some_named(bare_first(path.segments.as_slice()), name),
         Sort::Lifetime => false,
-        Sort::Const => some_named(bare_whole(path), name),
+        Sort::Const => some_named(path.get_ident(), name),
     }
 }
 

@@ -3,7 +3,7 @@
 
 ghost use Rattle.std.specs.Prelude.{◌≡◌, map};
 ghost use Rattle.std.specs.Option.{option_copied};
-ghost use Rattle.dm_ast.specs.Tree.{path_view, segment_view, segments_of};
+ghost use Rattle.dm_ast.specs.Tree.{segment_view, segments_of};
 ghost use Rattle.dm_searches.specs.Parameters as spec;
 
 use dm_ast::{Path, PathArguments, PathSegment};
@@ -27,44 +27,12 @@ pub fn some_named(ident: Option<&Ident<'_>>, name: &str) -> bool
     }
 }
 
-/// The name of a segment without arguments.
-fn bare<'x, 'a>(segment: &'x PathSegment<'a>) -> Option<&'x Ident<'a>>
-    ensures { option_copied result ≡ spec.bare (segment_view segment.now) }
-{
-    match &segment.arguments {
-        PathArguments::Absent => Some(&segment.ident),
-        PathArguments::Angle(_, _) => None,
-        PathArguments::Paren(_, _) => None,
-    }
-}
-
 /// The first name, where it has no arguments.
 pub fn bare_first<'x, 'a>(all: &'x [PathSegment<'a>]) -> Option<&'x Ident<'a>>
     ensures { option_copied result ≡ spec.bare_first (segments_of (map segment_view all.now)) }
 {
     match all {
         [] => None,
-        [first, ..] => bare(first),
+        [first, ..] => first.get_ident(),
     }
-}
-
-/// The name that is all segments.
-#[tactic(auto, using(crate::proofs::Segments::lone_steps))]
-fn bare_only<'x, 'a>(all: &'x [PathSegment<'a>]) -> Option<&'x Ident<'a>>
-    ensures { option_copied result ≡ spec.bare_only (segments_of (map segment_view all.now)) }
-{
-    if all.len() != 1 {
-        return None;
-    }
-    bare(&all[0])
-}
-
-/// The name that is the whole path.
-pub fn bare_whole<'x, 'a>(path: &'x Path<'a>) -> Option<&'x Ident<'a>>
-    ensures { option_copied result ≡ spec.bare_whole (path_view path.now) }
-{
-    if path.leading_colon {
-        return None;
-    }
-    bare_only(path.segments.as_slice())
 }

@@ -2,11 +2,9 @@
 #![tactic(auto, using(crate::proofs::Patterns::pattern_steps))]
 
 ghost use Rattle.std.specs.Prelude.{◌≡◌, OnOk};
-ghost use Rattle.dm_ast.specs.Declarations.{declaration_view};
 ghost use Rattle.dm_ast.specs.Implementors as spec;
-ghost use Rattle.dm_ast.specs.TypeTokens.{type_trees};
 ghost use Rattle.dm_output.specs.Tokens as tokens;
-ghost use Rattle.dm_print_types.specs.Laying.{lay};
+ghost use Rattle.dm_print_types.specs.Prelude.{declaration_view, type_trees, lay};
 
 use crate::made::{made_params, made_type};
 use dm_ast::DeriveInput;

@@ -4,11 +4,8 @@
 
 ghost use Rattle.std.specs.Prelude.{◌≡◌, map, OnOk, IsOkAnd};
 ghost use Rattle.dm_stream.specs.Trees.{Trees};
-ghost use Rattle.dm_ast.specs.Tree.{ty_view};
-ghost use Rattle.dm_ast.specs.Declarations.{param_view};
-ghost use Rattle.dm_ast.specs.TypeTokens.{type_trees};
 ghost use Rattle.dm_output.specs.Tokens as tokens;
-ghost use Rattle.dm_print_types.specs.Laying.{lay};
+ghost use Rattle.dm_print_types.specs.Prelude.{ty_view, param_view, type_trees, lay};
 
 use dm_ast::{GenericParam, Ty};
 use dm_layout::{Layout, Printed};

@@ -2,13 +2,13 @@
 #![tactic(auto, using(crate::proofs::ParamSteps::param_steps))]
 
 ghost use Rattle.std.specs.Prelude.{◌≡◌, [], ◌∷◌, ◌++◌, None, map, IfOk, IsOkAnd, OnOk};
-ghost use Rattle.dm_ast.specs.Declarations.{declaration_view, param_view, type_param};
+ghost use Rattle.dm_ast.specs.Declarations.{type_param};
 ghost use Rattle.dm_ast.specs.Implementors.{params_of};
 ghost use Rattle.dm_generics.specs.Additions.{bounded};
 ghost use Rattle.dm_generics.specs.Bounds.{op_output};
 ghost use Rattle.dm_generics.specs.Words as words;
 ghost use Rattle.dm_output.specs.Tokens as tokens;
-ghost use Rattle.dm_print_types.specs.Laying.{lay};
+ghost use Rattle.dm_print_types.specs.Prelude.{declaration_view, param_view, lay};
 
 use crate::made::made_params;
 use dm_ast::{DeriveInput, GenericParam, TyParam};
@@ -17,7 +17,7 @@ use dm_generics::lists::appended;
 use dm_generics::names::word;
 use dm_generics::{Split, add_extra_type_param_bound_op_output, split_for_impl};
 use dm_layout::{Layout, Printed};
-use dm_stream::Seq;
+use dm_stream::{Made, Seq};
 use std::alloc::{AllocError, Global};
 
 /// A type's parameter of this name.
@@ -37,7 +37,7 @@ fn followed<'a>(
     declared: Result<Seq<GenericParam<'a>>, AllocError>,
     name: &'a str,
     alloc: Global,
-) -> Result<Seq<GenericParam<'a>>, AllocError>
+) -> Made<Seq<GenericParam<'a>>>
     ensures { IfOk result (λ ps. IsOkAnd declared.entry (λ qs. map param_view ps ≡ map param_view qs ++ type_param [] (words.word name.now) None None ∷ [])) }
 {
     match declared {
@@ -50,7 +50,7 @@ fn with_param<'a>(
     input: &DeriveInput<'a>,
     name: &'a str,
     alloc: Global,
-) -> Result<Seq<GenericParam<'a>>, AllocError>
+) -> Made<Seq<GenericParam<'a>>>
     ensures { IfOk result (λ ps. map param_view ps ≡ params_of (declaration_view input.now) ++ type_param [] (words.word name.now) None None ∷ []) }
 {
     followed(params(alloc, input), name, alloc)
@@ -78,7 +78,7 @@ fn with_bounds<'a>(
     input: &DeriveInput<'a>,
     trait_name: &str,
     alloc: Global,
-) -> Result<Seq<GenericParam<'a>>, AllocError>
+) -> Made<Seq<GenericParam<'a>>>
     ensures { IfOk result (λ ps. map param_view ps ≡ map (bounded (op_output trait_name.now)) (params_of (declaration_view input.now))) }
 {
     let bounded = add_extra_type_param_bound_op_output(alloc, &input.generics, trait_name)?;

@@ -2,13 +2,11 @@
 #![tactic(auto, using(crate::proofs::Patterns::pattern_steps))]
 
 ghost use Rattle.std.specs.Prelude.{◌≡◌, map, OnOk};
-ghost use Rattle.dm_stream.specs.Layout.{nowhere};
 ghost use Rattle.dm_stream.specs.Trees.{join};
-ghost use Rattle.dm_ast.specs.Declarations.{declaration_view};
 ghost use Rattle.dm_ast.specs.TypeTokens as syntax;
 ghost use Rattle.dm_output.specs.Output.{patterns_of, named_of};
 ghost use Rattle.dm_output.specs.Tokens as tokens;
-ghost use Rattle.dm_print_types.specs.Laying.{lay};
+ghost use Rattle.dm_print_types.specs.Prelude.{nowhere, declaration_view, lay};
 ghost use Rattle.dm_operands.specs.Sides as spec;
 ghost use Rattle.dm_sides.specs.Fields.{fields_trees};
 ghost use Rattle.dm_operands.specs.CaseViews.{case_view, field_ref_view, naming};

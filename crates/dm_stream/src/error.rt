@@ -74,6 +74,12 @@ pub enum Error {
     Refused(Refusal),
 }
 
+/// What reading answers: what was read, or why it was not.
+pub type Read<T> = Result<T, Error>;
+
+/// What making a tree, a list or a text answers: it, or an error where there was no memory.
+pub type Made<T> = Result<T, AllocError>;
+
 impl From<AllocError> for Error {
     ghost from_gives = { λ _ e. e ≡ NoMemory };
 

@@ -12,7 +12,7 @@ mod text;
 mod tokens;
 
 pub use cursor::{Cursor, Piece, span_of};
-pub use error::{Error, Kind, Refusal};
+pub use error::{Error, Kind, Made, Read, Refusal};
 pub use levels::DEEPEST;
 pub use seq::{Punctuated, Seq};
 pub use stream::TokenStream;

@@ -77,7 +77,7 @@ impl<'a> Entry<'a> {
 pub fn own_entries<'b>(alloc: Global, all: Vec<Entry<'_>>) -> Result<Vec<Entry<'b>>, AllocError>
     ensures { IfOk result (λ r. r.items ≡ all.entry.items) }
 {
-    let mut found = Vec::new(alloc);
+    let mut found = Vec::with_capacity(alloc, all.len())?;
     for entry in all {
         let entry = entry.into_owned(alloc)?;
         found.push(entry)?;

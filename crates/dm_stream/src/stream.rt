@@ -8,6 +8,7 @@ ghost use Rattle.dm_stream.specs.Layout.{nowhere};
 
 use crate::copy::copy_entries;
 use crate::cursor::{Cursor, Piece};
+use crate::error::Made;
 use crate::owned::own_entries;
 use crate::tokens::{Delim, Entry, Punct, Spacing, Span, Token};
 use std::alloc::{AllocError, Global};
@@ -192,7 +193,7 @@ fn append_group<'a>(
     from: Span,
     mut inside: Vec<Entry<'a>>,
     upto: Span,
-) -> Result<(), AllocError>
+) -> Made<()>
     ensures ok { OnOk result (entries.new.items ≡ entries.old.items ++ (entry.Open delim from (length inside.entry.items + 1) ∷ (inside.entry.items ++ entry.Close delim upto ∷ []))) }
     ensures err { OnErr result (entries.new.items ≡ entries.old.items) }
 {
@@ -207,11 +208,7 @@ fn append_group<'a>(
 }
 
 /// Adds copies of entries, or changes nothing for want of memory.
-fn append_copies<'a>(
-    alloc: Global,
-    entries: &mut Vec<Entry<'a>>,
-    more: &[Entry<'a>],
-) -> Result<(), AllocError>
+fn append_copies<'a>(alloc: Global, entries: &mut Vec<Entry<'a>>, more: &[Entry<'a>]) -> Made<()>
     ensures ok { OnOk result (entries.new.items ≡ entries.old.items ++ more.now) }
     ensures err { OnErr result (entries.new.items ≡ entries.old.items) }
 {

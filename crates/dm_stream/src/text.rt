@@ -6,9 +6,14 @@ ghost use Rattle.std.specs.Cmp.Lexicographic.{pointwise, nat_list_eq_equiv};
 ghost use Rattle.std.specs.Cmp.Rules.{hashing};
 ghost use Rattle.std.specs.Hash as fed;
 
+use crate::error::Made;
+use arrayvec::ArrayString;
 use std::alloc::{AllocError, Global};
 use std::hash::{Hash, Hasher};
 use std::marker::Model;
+
+/// How many bytes a text may have that is held in place, without memory of its own. Names in emitted code are seldom longer.
+const SHORT: usize = 16;
 
 /// A text that is borrowed or owned, which contracts see as its bytes. Texts are equal where their characters are.
 #[derive(Debug, Drop)]
@@ -19,6 +24,7 @@ pub struct Text<'a> {
 #[derive(Debug, Drop)]
 enum Held<'a> {
     Borrowed(&'a str),
+    Short(ArrayString<SHORT>),
     Owned(String),
 }
 
@@ -51,13 +57,32 @@ impl<'a> Text<'a> {
         }
     }
 
+    fn short(text: ArrayString<SHORT>) -> Text<'a>
+        ensures { result ≡ text.bytes }
+    {
+        Text {
+            held: Held::Short(text),
+        }
+    }
+
+    /// A text that the value holds itself, in place where it is short.
+    fn kept(alloc: Global, text: &str) -> Made<Text<'a>>
+        ensures { IfOk result (λ r. r ≡ text.now) }
+    {
+        match ArrayString::from(text) {
+            Ok(short) => Ok(Text::short(short)),
+            Err(_) => Ok(Text::owned(String::from_str(alloc, text)?)),
+        }
+    }
+
     /// An equal text. A borrowed one stays borrowed.
     pub fn clone_in(&self, alloc: Global) -> Result<Text<'a>, AllocError>
         ensures { IfOk result (λ r. r ≡ self.now) }
     {
         match &self.held {
             Held::Borrowed(text) => Ok(Text::borrowed(text)),
-            Held::Owned(text) => Ok(Text::owned(String::from_str(alloc, text.as_str())?)),
+            Held::Short(text) => Ok(Text::short(*text)),
+            Held::Owned(text) => Text::kept(alloc, text.as_str()),
         }
     }
 
@@ -66,8 +91,8 @@ impl<'a> Text<'a> {
         ensures { IfOk result (λ r. r ≡ self.entry) }
     {
         match self.held {
-            Held::Borrowed(text) => Ok(Text::owned(String::from_str(alloc, text)?)),
             Held::Owned(text) => Ok(Text::owned(text)),
+            held => Text::kept(alloc, Text { held }.as_str()),
         }
     }
 
@@ -77,6 +102,7 @@ impl<'a> Text<'a> {
     {
         match &self.held {
             Held::Borrowed(text) => text,
+            Held::Short(text) => text.as_str(),
             Held::Owned(text) => text.as_str(),
         }
     }

@@ -1,5 +1,6 @@
 ghost use Rattle.dm_stream.specs.Cursors.{sound, sound_piece};
 
+use dm_stream::Made;
 use dm_tokens::{
     Cursor, Delim, Entry, Ident, Layout, Lifetime, LitKind, Literal, Piece, Punct, Punctuated, Seq,
     Spacing, Span, Text, ToTokens, Token, TokenStream, print, print_piece,
@@ -61,14 +62,14 @@ fn token(part: Part) -> Token<'static> {
     }
 }
 
-fn add_all<'a>(out: &mut TokenStream<'a>, parts: &[Part]) -> Result<(), AllocError> {
+fn add_all<'a>(out: &mut TokenStream<'a>, parts: &[Part]) -> Made<()> {
     for part in parts.iter().copied() {
         out.add(token(part))?;
     }
     Ok(())
 }
 
-fn added<'a>(alloc: Global, parts: &[Part]) -> Result<TokenStream<'a>, AllocError> {
+fn added<'a>(alloc: Global, parts: &[Part]) -> Made<TokenStream<'a>> {
     let mut out = TokenStream::new(alloc);
     add_all(&mut out, parts)?;
     Ok(out)
@@ -77,17 +78,13 @@ fn added<'a>(alloc: Global, parts: &[Part]) -> Result<TokenStream<'a>, AllocErro
 const THREE_WORDS: &[Part] = &[Part::Word("a"), Part::Word("b"), Part::Word("c")];
 
 /// Whether the stream's layout, if it could be made, is this text.
-fn is_layout(
-    alloc: Global,
-    made: Result<TokenStream<'_>, AllocError>,
-    wanted: &str,
-) -> Result<bool, AllocError> {
+fn is_layout(alloc: Global, made: Result<TokenStream<'_>, AllocError>, wanted: &str) -> Made<bool> {
     let stream = made?;
     let text = print(alloc, &stream)?;
     Ok(text.as_str() == wanted)
 }
 
-fn is_piece(alloc: Global, piece: Piece<'_, '_>, wanted: &str) -> Result<bool, AllocError>
+fn is_piece(alloc: Global, piece: Piece<'_, '_>, wanted: &str) -> Made<bool>
     requires { sound_piece piece }
 {
     let text = print_piece(alloc, piece)?;
@@ -95,7 +92,7 @@ fn is_piece(alloc: Global, piece: Piece<'_, '_>, wanted: &str) -> Result<bool, A
 }
 
 /// `a + b (c) { }`
-fn sum<'a>(alloc: Global) -> Result<TokenStream<'a>, AllocError> {
+fn sum<'a>(alloc: Global) -> Made<TokenStream<'a>> {
     let plus = Part::Punct('+', Spacing::Alone);
     let mut out = added(alloc, &[Part::Word("a"), plus, Part::Word("b")])?;
     out.push_group(Delim::Paren, added(alloc, &[Part::Word("c")])?)?;
@@ -104,14 +101,14 @@ fn sum<'a>(alloc: Global) -> Result<TokenStream<'a>, AllocError> {
 }
 
 #[test]
-fn lays_out_a_sum(rt: HostRuntime) -> Result<(), AllocError> {
+fn lays_out_a_sum(rt: HostRuntime) -> Made<()> {
     let alloc = rt.alloc();
     assert!(rt; is_layout(alloc, sum(alloc), "a + b (c) { }")?);
     Ok(())
 }
 
 /// Writes a token by the way of its kind.
-fn write_kind(out: &mut TokenStream<'static>, part: Part) -> Result<(), AllocError> {
+fn write_kind(out: &mut TokenStream<'static>, part: Part) -> Made<()> {
     match part {
         Part::Word(name) => ident(name, false).to_tokens(out),
         Part::RawWord(name) => ident(name, true).to_tokens(out),
@@ -122,7 +119,7 @@ fn write_kind(out: &mut TokenStream<'static>, part: Part) -> Result<(), AllocErr
 }
 
 /// Writes each token twice: by the way of its kind, and as a token.
-fn written_twice(alloc: Global, parts: &[Part]) -> Result<TokenStream<'static>, AllocError> {
+fn written_twice(alloc: Global, parts: &[Part]) -> Made<TokenStream<'static>> {
     let mut out = TokenStream::new(alloc);
     for part in parts.iter().copied() {
         write_kind(&mut out, part)?;
@@ -144,20 +141,20 @@ fn add_groups(
     out: &mut TokenStream<'static>,
     alloc: Global,
     inside: TokenStream<'static>,
-) -> Result<(), AllocError> {
+) -> Made<()> {
     let copy = inside.clone_in(alloc)?;
     out.push_group(Delim::Bracket, inside)?;
     out.push_group(Delim::Brace, copy)
 }
 
-fn each_kind(alloc: Global) -> Result<TokenStream<'static>, AllocError> {
+fn each_kind(alloc: Global) -> Made<TokenStream<'static>> {
     let mut out = written_twice(alloc, OUTSIDE)?;
     add_groups(&mut out, alloc, written_twice(alloc, INSIDE)?)?;
     Ok(out)
 }
 
 #[test]
-fn lays_out_each_kind(rt: HostRuntime) -> Result<(), AllocError> {
+fn lays_out_each_kind(rt: HostRuntime) -> Made<()> {
     let alloc = rt.alloc();
     let text = "'a 'a 1u8 1u8 [r#type r#type ::\"x\" \"x\"] { r#type r#type ::\"x\" \"x\" }";
     assert!(rt; is_layout(alloc, each_kind(alloc), text)?);
@@ -165,7 +162,7 @@ fn lays_out_each_kind(rt: HostRuntime) -> Result<(), AllocError> {
 }
 
 /// `x ()`, and a run behind it.
-fn extended<'a>(alloc: Global, run: Piece<'_, 'a>) -> Result<TokenStream<'a>, AllocError>
+fn extended<'a>(alloc: Global, run: Piece<'_, 'a>) -> Made<TokenStream<'a>>
     requires { sound_piece run }
 {
     let mut out = added(alloc, &[Part::Word("x")])?;
@@ -175,7 +172,7 @@ fn extended<'a>(alloc: Global, run: Piece<'_, 'a>) -> Result<TokenStream<'a>, Al
 }
 
 /// Whether `a b` is taken of three words, and `c` is left.
-fn takes_two(words: &TokenStream<'_>, alloc: Global) -> Result<bool, AllocError> {
+fn takes_two(words: &TokenStream<'_>, alloc: Global) -> Made<bool> {
     match words.cursor().take(2) {
         None => Ok(false),
         Some((front, rest)) => Ok(
@@ -187,7 +184,7 @@ fn takes_two(words: &TokenStream<'_>, alloc: Global) -> Result<bool, AllocError>
 }
 
 #[test]
-fn takes_runs(rt: HostRuntime) -> Result<(), AllocError> {
+fn takes_runs(rt: HostRuntime) -> Made<()> {
     let alloc = rt.alloc();
     let words = added(alloc, THREE_WORDS)?;
     assert!(rt; takes_two(&words, alloc)?);
@@ -196,7 +193,7 @@ fn takes_runs(rt: HostRuntime) -> Result<(), AllocError> {
 }
 
 /// `a (a b c) 'b 7 ;`
-fn walk<'a>(alloc: Global) -> Result<TokenStream<'a>, AllocError> {
+fn walk<'a>(alloc: Global) -> Made<TokenStream<'a>> {
     let mut out = added(alloc, &[Part::Word("a")])?;
     out.push_group(Delim::Paren, added(alloc, THREE_WORDS)?)?;
     let semicolon = Part::Punct(';', Spacing::Alone);
@@ -248,7 +245,7 @@ fn is_walked(start: Cursor<'_, '_>) -> Option<bool>
 }
 
 #[test]
-fn walks(rt: HostRuntime) -> Result<(), AllocError> {
+fn walks(rt: HostRuntime) -> Made<()> {
     let out = walk(rt.alloc())?;
     assert!(rt; out.entries().len() == 9);
     assert!(rt; matches!(out.entries().get(1), Some(Entry::Open(Delim::Paren, _, 4))));
@@ -261,7 +258,7 @@ fn joins(rt: HostRuntime) {
     assert!(rt; place(3, 9).join(place(1, 4)) == place(1, 9));
 }
 
-fn lay(text: &mut Layout, part: Part) -> Result<(), AllocError> {
+fn lay(text: &mut Layout, part: Part) -> Made<()> {
     match part {
         Part::Word(name) => text.ident(&ident(name, false)),
         Part::RawWord(name) => text.ident(&ident(name, true)),
@@ -272,7 +269,7 @@ fn lay(text: &mut Layout, part: Part) -> Result<(), AllocError> {
 }
 
 /// `fn f ('a) -> 1` and the end of the line.
-fn lay_line(text: &mut Layout) -> Result<(), AllocError> {
+fn lay_line(text: &mut Layout) -> Made<()> {
     text.word("fn")?;
     lay(text, Part::Word("f"))?;
     text.open(Delim::Paren)?;
@@ -285,14 +282,14 @@ fn lay_line(text: &mut Layout) -> Result<(), AllocError> {
 }
 
 /// `r#x`, and the words twice.
-fn lay_words(text: &mut Layout, words: &TokenStream<'_>) -> Result<(), AllocError> {
+fn lay_words(text: &mut Layout, words: &TokenStream<'_>) -> Made<()> {
     text.token(&token(Part::RawWord("x")))?;
     text.stream(words)?;
     text.piece(words.piece())
 }
 
 #[test]
-fn adds_to_a_layout(rt: HostRuntime) -> Result<(), AllocError> {
+fn adds_to_a_layout(rt: HostRuntime) -> Made<()> {
     let words = added(rt.alloc(), THREE_WORDS)?;
     let mut text = Layout::new(rt.alloc());
     lay_line(&mut text)?;
@@ -330,7 +327,7 @@ fn keeps_lists(rt: HostRuntime) {
 }
 
 #[test]
-fn keeps_texts(rt: HostRuntime) -> Result<(), AllocError> {
+fn keeps_texts(rt: HostRuntime) -> Made<()> {
     let owned = Text::owned(String::from_str(rt.alloc(), "name")?);
     assert!(rt; owned == Text::borrowed("name"));
     assert!(rt; owned.clone_in(rt.alloc())? != Text::borrowed("other"));

@@ -8,18 +8,18 @@ ghost use Rattle.dm_type_levels.specs.TypeLevels as spec;
 ghost use Rattle.dm_type_levels.specs.Passing.{Passes};
 
 use crate::parts::{attributes, for_lifetimes, lifetimes};
-use crate::pass::{pair, token};
+use crate::pass::{Behind, pair, token};
 use crate::ty::{constraint, equal_const, equal_type, ty};
 use dm_ast::{
     Bound, ConstArg, ConstParam, GenericParam, LifetimeParam, Ty, TyParam, WherePredicate,
 };
-use dm_stream::{Entry, Lifetime, Punctuated, Span};
+use dm_stream::{Entry, Lifetime, Punctuated};
 
 fn outlived<'t, 'a>(
     all: &Punctuated<Lifetime<'_>>,
     level: usize,
     rest: &'t [Entry<'a>],
-) -> Result<&'t [Entry<'a>], Span>
+) -> Behind<'t, 'a>
     ensures { Passes (level ∷ spec.lifetimes_levels level all.now) rest.now result }
 {
     let rest = token(level, rest)?;
@@ -30,7 +30,7 @@ fn maybe_outlived<'t, 'a>(
     found: &Option<Punctuated<Lifetime<'_>>>,
     level: usize,
     rest: &'t [Entry<'a>],
-) -> Result<&'t [Entry<'a>], Span>
+) -> Behind<'t, 'a>
     ensures { Passes (spec.maybe_lifetimes_levels level found.now) rest.now result }
 {
     match found {
@@ -43,7 +43,7 @@ fn maybe_bounds<'t, 'a>(
     found: &Option<Punctuated<Bound<'_>>>,
     level: usize,
     rest: &'t [Entry<'a>],
-) -> Result<&'t [Entry<'a>], Span>
+) -> Behind<'t, 'a>
     ensures { Passes (spec.maybe_bounds_levels level (option_map (declared.listed tree.bound_view) found.now)) rest.now result }
 {
     match found {
@@ -56,7 +56,7 @@ fn default_type<'t, 'a>(
     found: &Option<Ty<'_>>,
     level: usize,
     rest: &'t [Entry<'a>],
-) -> Result<&'t [Entry<'a>], Span>
+) -> Behind<'t, 'a>
     ensures { Passes (spec.default_type_levels level (option_map tree.ty_view found.now)) rest.now result }
 {
     match found {
@@ -69,7 +69,7 @@ fn default_const<'t, 'a>(
     found: &Option<ConstArg<'_>>,
     level: usize,
     rest: &'t [Entry<'a>],
-) -> Result<&'t [Entry<'a>], Span>
+) -> Behind<'t, 'a>
     ensures { Passes (spec.default_const_levels level found.now) rest.now result }
 {
     match found {
@@ -82,7 +82,7 @@ fn lifetime_param<'t, 'a>(
     param: &LifetimeParam<'_>,
     level: usize,
     rest: &'t [Entry<'a>],
-) -> Result<&'t [Entry<'a>], Span>
+) -> Behind<'t, 'a>
     ensures { Passes (spec.param_levels level (declared.lifetime_param param.now.attrs param.now.lifetime param.now.bounds)) rest.now result }
 {
     let rest = attributes(param.attrs.as_slice(), level, rest)?;
@@ -95,18 +95,14 @@ fn bounded<'t, 'a>(
     default: &Option<Ty<'_>>,
     level: usize,
     rest: &'t [Entry<'a>],
-) -> Result<&'t [Entry<'a>], Span>
+) -> Behind<'t, 'a>
     ensures { Passes (spec.maybe_bounds_levels level (option_map (declared.listed tree.bound_view) bounds.now) ++ spec.default_type_levels level (option_map tree.ty_view default.now)) rest.now result }
 {
     let rest = maybe_bounds(bounds, level, rest)?;
     default_type(default, level, rest)
 }
 
-fn type_param<'t, 'a>(
-    param: &TyParam<'_>,
-    level: usize,
-    rest: &'t [Entry<'a>],
-) -> Result<&'t [Entry<'a>], Span>
+fn type_param<'t, 'a>(param: &TyParam<'_>, level: usize, rest: &'t [Entry<'a>]) -> Behind<'t, 'a>
     ensures { Passes (spec.param_levels level (declared.type_param param.now.attrs param.now.ident (option_map (declared.listed tree.bound_view) param.now.bounds) (option_map tree.ty_view param.now.default_ty))) rest.now result }
 {
     let rest = attributes(param.attrs.as_slice(), level, rest)?;
@@ -119,7 +115,7 @@ fn typed<'t, 'a>(
     default: &Option<ConstArg<'_>>,
     level: usize,
     rest: &'t [Entry<'a>],
-) -> Result<&'t [Entry<'a>], Span>
+) -> Behind<'t, 'a>
     ensures { Passes (level ∷ (spec.type_levels level (tree.ty_view found.now) ++ spec.default_const_levels level default.now)) rest.now result }
 {
     let rest = token(level, rest)?;
@@ -131,7 +127,7 @@ fn const_param<'t, 'a>(
     param: &ConstParam<'_>,
     level: usize,
     rest: &'t [Entry<'a>],
-) -> Result<&'t [Entry<'a>], Span>
+) -> Behind<'t, 'a>
     ensures { Passes (spec.param_levels level (declared.const_param param.now.attrs param.now.ident (tree.ty_view param.now.ty) param.now.default_value)) rest.now result }
 {
     let rest = attributes(param.attrs.as_slice(), level, rest)?;
@@ -144,7 +140,7 @@ pub fn param<'t, 'a>(
     param: &GenericParam<'_>,
     level: usize,
     rest: &'t [Entry<'a>],
-) -> Result<&'t [Entry<'a>], Span>
+) -> Behind<'t, 'a>
     ensures { Passes (spec.param_levels level (declared.param_view param.now)) rest.now result }
 {
     match param {
@@ -159,7 +155,7 @@ pub fn predicate<'t, 'a>(
     predicate: &WherePredicate<'_>,
     level: usize,
     rest: &'t [Entry<'a>],
-) -> Result<&'t [Entry<'a>], Span>
+) -> Behind<'t, 'a>
     ensures { Passes (spec.predicate_levels level (declared.predicate_view predicate.now)) rest.now result }
 {
     match predicate {

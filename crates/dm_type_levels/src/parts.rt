@@ -6,16 +6,12 @@ ghost use Rattle.dm_ast.specs.Spelling.{deepest};
 ghost use Rattle.dm_type_levels.specs.TypeLevels as spec;
 ghost use Rattle.dm_type_levels.specs.Passing.{Passes, given};
 
-use crate::pass::{Ahead, pair, token, token_if};
+use crate::pass::{Ahead, Behind, pair, token, token_if};
 use dm_ast::{AttrArgs, Attribute, ConstArg, PlainPath};
-use dm_stream::{DEEPEST, Entry, Ident, Lifetime, Literal, Punctuated, Span, TokenStream};
+use dm_stream::{DEEPEST, Entry, Ident, Lifetime, Literal, Punctuated, TokenStream};
 
 /// The entries behind two tokens of this level, if they are there.
-pub fn pair_if<'t, 'a>(
-    there: bool,
-    level: usize,
-    rest: &'t [Entry<'a>],
-) -> Result<&'t [Entry<'a>], Span>
+pub fn pair_if<'t, 'a>(there: bool, level: usize, rest: &'t [Entry<'a>]) -> Behind<'t, 'a>
     ensures { Passes (given there (spec.two level)) rest.now result }
 {
     if !there {
@@ -25,11 +21,7 @@ pub fn pair_if<'t, 'a>(
 }
 
 /// The entries behind the separator before an item, which the first has not.
-pub fn separator<'t, 'a>(
-    first: bool,
-    level: usize,
-    rest: &'t [Entry<'a>],
-) -> Result<&'t [Entry<'a>], Span>
+pub fn separator<'t, 'a>(first: bool, level: usize, rest: &'t [Entry<'a>]) -> Behind<'t, 'a>
     ensures { Passes (cond first [] (level ∷ [])) rest.now result }
 {
     if first {
@@ -39,11 +31,7 @@ pub fn separator<'t, 'a>(
 }
 
 /// The entries behind the `::` before a segment, which the first has not.
-pub fn joiner<'t, 'a>(
-    first: bool,
-    level: usize,
-    rest: &'t [Entry<'a>],
-) -> Result<&'t [Entry<'a>], Span>
+pub fn joiner<'t, 'a>(first: bool, level: usize, rest: &'t [Entry<'a>]) -> Behind<'t, 'a>
     ensures { Passes (cond first [] (spec.two level)) rest.now result }
 {
     if first {
@@ -72,11 +60,7 @@ fn level_behind(entry: &Entry<'_>, level: usize) -> usize
 }
 
 /// The entries behind tokens that are not read, given by their flat form, whose first has this level.
-pub fn entries<'t, 'a>(
-    tokens: &[Entry<'_>],
-    level: usize,
-    rest: &'t [Entry<'a>],
-) -> Result<&'t [Entry<'a>], Span>
+pub fn entries<'t, 'a>(tokens: &[Entry<'_>], level: usize, rest: &'t [Entry<'a>]) -> Behind<'t, 'a>
     ensures { Passes (spec.entries_levels level tokens.now) rest.now result }
 {
     let mut at = Ahead { left: rest };
@@ -95,7 +79,7 @@ pub fn stream<'t, 'a>(
     tokens: &TokenStream<'_>,
     level: usize,
     rest: &'t [Entry<'a>],
-) -> Result<&'t [Entry<'a>], Span>
+) -> Behind<'t, 'a>
     ensures { Passes (spec.trees_levels level tokens.now.trees) rest.now result }
 {
     entries(tokens.entries(), level, rest)
@@ -106,7 +90,7 @@ pub fn group<'t, 'a>(
     tokens: &TokenStream<'_>,
     level: usize,
     rest: &'t [Entry<'a>],
-) -> Result<&'t [Entry<'a>], Span>
+) -> Behind<'t, 'a>
     ensures { Passes (spec.grouped_levels level (spec.trees_levels (level + 1) tokens.now.trees)) rest.now result }
 {
     let rest = token(level, rest)?;
@@ -114,11 +98,7 @@ pub fn group<'t, 'a>(
     token(level, rest)
 }
 
-fn names<'t, 'a>(
-    all: &[Ident<'_>],
-    level: usize,
-    rest: &'t [Entry<'a>],
-) -> Result<&'t [Entry<'a>], Span>
+fn names<'t, 'a>(all: &[Ident<'_>], level: usize, rest: &'t [Entry<'a>]) -> Behind<'t, 'a>
     ensures { Passes (spec.spaced_levels (spec.two level) true (spec.alone level all.now)) rest.now result }
 {
     let mut at = Ahead { left: rest };
@@ -131,11 +111,7 @@ fn names<'t, 'a>(
 }
 
 /// The entries behind a path without arguments.
-pub fn plain<'t, 'a>(
-    path: &PlainPath<'_>,
-    level: usize,
-    rest: &'t [Entry<'a>],
-) -> Result<&'t [Entry<'a>], Span>
+pub fn plain<'t, 'a>(path: &PlainPath<'_>, level: usize, rest: &'t [Entry<'a>]) -> Behind<'t, 'a>
     ensures { Passes (spec.plain_levels level path.now) rest.now result }
 {
     let rest = pair_if(path.leading_colon, level, rest)?;
@@ -146,7 +122,7 @@ fn spaced_lifetimes<'t, 'a>(
     all: &[Lifetime<'_>],
     level: usize,
     rest: &'t [Entry<'a>],
-) -> Result<&'t [Entry<'a>], Span>
+) -> Behind<'t, 'a>
     ensures { Passes (spec.spaced_levels (level ∷ []) true (spec.alone level all.now)) rest.now result }
 {
     let mut at = Ahead { left: rest };
@@ -163,7 +139,7 @@ pub fn lifetimes<'t, 'a>(
     all: &Punctuated<Lifetime<'_>>,
     level: usize,
     rest: &'t [Entry<'a>],
-) -> Result<&'t [Entry<'a>], Span>
+) -> Behind<'t, 'a>
     ensures { Passes (spec.lifetimes_levels level all.now) rest.now result }
 {
     let rest = spaced_lifetimes(all.items.as_slice(), level, rest)?;
@@ -175,7 +151,7 @@ pub fn for_lifetimes<'t, 'a>(
     found: &Option<Punctuated<Lifetime<'_>>>,
     level: usize,
     rest: &'t [Entry<'a>],
-) -> Result<&'t [Entry<'a>], Span>
+) -> Behind<'t, 'a>
     ensures { Passes (spec.for_levels level found.now) rest.now result }
 {
     match found {
@@ -189,11 +165,7 @@ pub fn for_lifetimes<'t, 'a>(
 }
 
 /// The entries behind a constant argument.
-pub fn constant<'t, 'a>(
-    value: &ConstArg<'_>,
-    level: usize,
-    rest: &'t [Entry<'a>],
-) -> Result<&'t [Entry<'a>], Span>
+pub fn constant<'t, 'a>(value: &ConstArg<'_>, level: usize, rest: &'t [Entry<'a>]) -> Behind<'t, 'a>
     ensures { Passes (spec.const_levels level value.now) rest.now result }
 {
     match value {
@@ -206,11 +178,7 @@ pub fn constant<'t, 'a>(
     }
 }
 
-fn attr_args<'t, 'a>(
-    args: &AttrArgs<'_>,
-    level: usize,
-    rest: &'t [Entry<'a>],
-) -> Result<&'t [Entry<'a>], Span>
+fn attr_args<'t, 'a>(args: &AttrArgs<'_>, level: usize, rest: &'t [Entry<'a>]) -> Behind<'t, 'a>
     ensures { Passes (spec.attr_args_levels level args.now) rest.now result }
 {
     match args {
@@ -227,7 +195,7 @@ fn attribute_inside<'t, 'a>(
     attribute: &Attribute<'_>,
     level: usize,
     rest: &'t [Entry<'a>],
-) -> Result<&'t [Entry<'a>], Span>
+) -> Behind<'t, 'a>
     ensures { Passes (spec.plain_levels level attribute.now.path ++ spec.attr_args_levels level attribute.now.args) rest.now result }
 {
     let rest = plain(&attribute.path, level, rest)?;
@@ -238,7 +206,7 @@ fn attribute_group<'t, 'a>(
     attribute: &Attribute<'_>,
     level: usize,
     rest: &'t [Entry<'a>],
-) -> Result<&'t [Entry<'a>], Span>
+) -> Behind<'t, 'a>
     ensures { Passes (spec.grouped_levels level (spec.plain_levels (level + 1) attribute.now.path ++ spec.attr_args_levels (level + 1) attribute.now.args)) rest.now result }
 {
     let rest = token(level, rest)?;
@@ -250,7 +218,7 @@ fn attribute<'t, 'a>(
     attribute: &Attribute<'_>,
     level: usize,
     rest: &'t [Entry<'a>],
-) -> Result<&'t [Entry<'a>], Span>
+) -> Behind<'t, 'a>
     ensures { Passes (spec.attribute_levels level attribute.now) rest.now result }
 {
     let rest = token(level, rest)?;
@@ -262,7 +230,7 @@ pub fn attributes<'t, 'a>(
     all: &[Attribute<'_>],
     level: usize,
     rest: &'t [Entry<'a>],
-) -> Result<&'t [Entry<'a>], Span>
+) -> Behind<'t, 'a>
     ensures { Passes (spec.attributes_levels level all.now) rest.now result }
 {
     let mut at = Ahead { left: rest };
@@ -278,7 +246,7 @@ pub fn abi<'t, 'a>(
     found: &Option<Option<Literal<'_>>>,
     level: usize,
     rest: &'t [Entry<'a>],
-) -> Result<&'t [Entry<'a>], Span>
+) -> Behind<'t, 'a>
     ensures { Passes (spec.abi_levels level found.now) rest.now result }
 {
     match found {
@@ -293,7 +261,7 @@ pub fn maybe_lifetime<'t, 'a>(
     found: &Option<Lifetime<'_>>,
     level: usize,
     rest: &'t [Entry<'a>],
-) -> Result<&'t [Entry<'a>], Span>
+) -> Behind<'t, 'a>
     ensures { Passes (spec.maybe_levels level found.now) rest.now result }
 {
     match found {
@@ -307,7 +275,7 @@ pub fn input_name<'t, 'a>(
     found: &Option<Ident<'_>>,
     level: usize,
     rest: &'t [Entry<'a>],
-) -> Result<&'t [Entry<'a>], Span>
+) -> Behind<'t, 'a>
     ensures { Passes (spec.input_name_levels level found.now) rest.now result }
 {
     match found {

@@ -8,6 +8,9 @@ ghost use Rattle.dm_type_levels.specs.Passing.{Passes, given};
 
 use dm_stream::{DEEPEST, Entry, Span, span_of};
 
+/// The entries behind what was passed, or the range of the first token that stands too deep.
+pub type Behind<'t, 'a> = Result<&'t [Entry<'a>], Span>;
+
 /// The entries that are left, as a loop keeps them.
 #[derive(Clone, Copy)]
 pub struct Ahead<'t, 'a> {
@@ -38,7 +41,7 @@ fn behind_first<'t, 'a>(rest: &'t [Entry<'a>]) -> &'t [Entry<'a>]
 }
 
 /// The entries behind a token of this level, or the token's range where it is too deep.
-pub fn token<'t, 'a>(level: usize, rest: &'t [Entry<'a>]) -> Result<&'t [Entry<'a>], Span>
+pub fn token<'t, 'a>(level: usize, rest: &'t [Entry<'a>]) -> Behind<'t, 'a>
     ensures gives { Passes (level ∷ []) rest.now result }
     ensures within { OnOk result (level ≤ deepest) }
 {
@@ -49,7 +52,7 @@ pub fn token<'t, 'a>(level: usize, rest: &'t [Entry<'a>]) -> Result<&'t [Entry<'
 }
 
 /// The entries behind two tokens of this level.
-pub fn pair<'t, 'a>(level: usize, rest: &'t [Entry<'a>]) -> Result<&'t [Entry<'a>], Span>
+pub fn pair<'t, 'a>(level: usize, rest: &'t [Entry<'a>]) -> Behind<'t, 'a>
     ensures gives { Passes (level ∷ level ∷ []) rest.now result }
     ensures within { OnOk result (level ≤ deepest) }
 {
@@ -58,11 +61,7 @@ pub fn pair<'t, 'a>(level: usize, rest: &'t [Entry<'a>]) -> Result<&'t [Entry<'a
 }
 
 /// The entries behind a token of this level, if it is there.
-pub fn token_if<'t, 'a>(
-    there: bool,
-    level: usize,
-    rest: &'t [Entry<'a>],
-) -> Result<&'t [Entry<'a>], Span>
+pub fn token_if<'t, 'a>(there: bool, level: usize, rest: &'t [Entry<'a>]) -> Behind<'t, 'a>
     ensures { Passes (given there (level ∷ [])) rest.now result }
 {
     if !there {

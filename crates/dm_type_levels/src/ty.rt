@@ -11,27 +11,23 @@ use crate::parts::{
     abi, attributes, constant, for_lifetimes, group, input_name, joiner, maybe_lifetime, pair_if,
     plain, separator, stream,
 };
-use crate::pass::{Ahead, pair, token, token_if};
+use crate::pass::{Ahead, Behind, pair, token, token_if};
 use dm_ast::{
     BareFn, Bound, ConstArg, FnArg, GenericArgument, Opaque, Path, PathArguments, PathSegment,
     PlainPath, QSelf, TraitBound, Ty, TyNode,
 };
-use dm_stream::{Entry, Lifetime, Literal, Punctuated, Span, TokenStream};
+use dm_stream::{Entry, Lifetime, Literal, Punctuated, TokenStream};
 
 /// The entries behind a type, which stands at this level.
 #[cycle(levels)]
-pub fn ty<'t, 'a>(ty: &Ty<'_>, level: usize, rest: &'t [Entry<'a>]) -> Result<&'t [Entry<'a>], Span>
+pub fn ty<'t, 'a>(ty: &Ty<'_>, level: usize, rest: &'t [Entry<'a>]) -> Behind<'t, 'a>
     ensures { Passes (spec.type_levels level (tree.ty_view ty.now)) rest.now result }
 {
     node(&ty.node, level, rest)
 }
 
 #[cycle(levels)]
-fn node<'t, 'a>(
-    node: &TyNode<'_>,
-    level: usize,
-    rest: &'t [Entry<'a>],
-) -> Result<&'t [Entry<'a>], Span>
+fn node<'t, 'a>(node: &TyNode<'_>, level: usize, rest: &'t [Entry<'a>]) -> Behind<'t, 'a>
     ensures { Passes (spec.node_levels level (tree.node_view node.now)) rest.now result }
 {
     match node {
@@ -58,11 +54,7 @@ fn node<'t, 'a>(
 }
 
 #[cycle(levels)]
-fn enclosed<'t, 'a>(
-    inner: &Ty<'_>,
-    level: usize,
-    rest: &'t [Entry<'a>],
-) -> Result<&'t [Entry<'a>], Span>
+fn enclosed<'t, 'a>(inner: &Ty<'_>, level: usize, rest: &'t [Entry<'a>]) -> Behind<'t, 'a>
     ensures { Passes (spec.grouped_levels level (spec.type_levels (level + 1) (tree.ty_view inner.now))) rest.now result }
 {
     let rest = token(level, rest)?;
@@ -76,7 +68,7 @@ fn array_inside<'t, 'a>(
     size: &Opaque<'_>,
     level: usize,
     rest: &'t [Entry<'a>],
-) -> Result<&'t [Entry<'a>], Span>
+) -> Behind<'t, 'a>
     ensures { Passes (spec.type_levels level (tree.ty_view inner.now) ++ level ∷ spec.trees_levels level size.now.tokens.trees) rest.now result }
 {
     let rest = ty(inner, level, rest)?;
@@ -90,7 +82,7 @@ fn array<'t, 'a>(
     size: &Opaque<'_>,
     level: usize,
     rest: &'t [Entry<'a>],
-) -> Result<&'t [Entry<'a>], Span>
+) -> Behind<'t, 'a>
     ensures { Passes (spec.node_levels level (tree.array (tree.ty_view inner.now) size.now)) rest.now result }
 {
     let rest = token(level, rest)?;
@@ -105,7 +97,7 @@ fn reference_inside<'t, 'a>(
     inner: &Ty<'_>,
     level: usize,
     rest: &'t [Entry<'a>],
-) -> Result<&'t [Entry<'a>], Span>
+) -> Behind<'t, 'a>
     ensures { Passes (spec.maybe_levels level name.now ++ (given is_mut (level ∷ []) ++ spec.type_levels level (tree.ty_view inner.now))) rest.now result }
 {
     let rest = maybe_lifetime(name, level, rest)?;
@@ -120,7 +112,7 @@ fn reference<'t, 'a>(
     inner: &Ty<'_>,
     level: usize,
     rest: &'t [Entry<'a>],
-) -> Result<&'t [Entry<'a>], Span>
+) -> Behind<'t, 'a>
     ensures { Passes (spec.node_levels level (tree.reference name.now is_mut (tree.ty_view inner.now))) rest.now result }
 {
     let rest = token(level, rest)?;
@@ -129,11 +121,7 @@ fn reference<'t, 'a>(
 
 /// Behind a pointer's `*` stands `const` or `mut`.
 #[cycle(levels)]
-fn pointer<'t, 'a>(
-    inner: &Ty<'_>,
-    level: usize,
-    rest: &'t [Entry<'a>],
-) -> Result<&'t [Entry<'a>], Span>
+fn pointer<'t, 'a>(inner: &Ty<'_>, level: usize, rest: &'t [Entry<'a>]) -> Behind<'t, 'a>
     ensures { Passes (level ∷ (level + 1) ∷ spec.type_levels (level + 1) (tree.ty_view inner.now)) rest.now result }
 {
     let rest = token(level, rest)?;
@@ -148,7 +136,7 @@ fn bounded<'t, 'a>(
     trailing: bool,
     level: usize,
     rest: &'t [Entry<'a>],
-) -> Result<&'t [Entry<'a>], Span>
+) -> Behind<'t, 'a>
     ensures { Passes (level ∷ spec.listed_levels (level + 1) (spec.each_bound (level + 1) (tree.bounds_of (map tree.bound_view all.now))) trailing) rest.now result }
 {
     let rest = token(level, rest)?;
@@ -160,7 +148,7 @@ fn macro_call<'t, 'a>(
     tokens: &TokenStream<'_>,
     level: usize,
     rest: &'t [Entry<'a>],
-) -> Result<&'t [Entry<'a>], Span>
+) -> Behind<'t, 'a>
     ensures { Passes (spec.plain_levels level name.now ++ level ∷ spec.grouped_levels level (spec.trees_levels (level + 1) tokens.now.trees)) rest.now result }
 {
     let rest = plain(name, level, rest)?;
@@ -174,7 +162,7 @@ fn tuple<'t, 'a>(
     trailing: bool,
     level: usize,
     rest: &'t [Entry<'a>],
-) -> Result<&'t [Entry<'a>], Span>
+) -> Behind<'t, 'a>
     ensures { Passes (spec.grouped_levels level (spec.listed_levels (level + 1) (spec.each_type (level + 1) (tree.types_of (map tree.ty_view all.now))) trailing)) rest.now result }
 {
     let rest = token(level, rest)?;
@@ -188,7 +176,7 @@ fn types<'t, 'a>(
     trailing: bool,
     level: usize,
     rest: &'t [Entry<'a>],
-) -> Result<&'t [Entry<'a>], Span>
+) -> Behind<'t, 'a>
     ensures { Passes (spec.listed_levels level (spec.each_type level (tree.types_of (map tree.ty_view all.now))) trailing) rest.now result }
 {
     let rest = spaced_types(all, level, rest)?;
@@ -196,11 +184,7 @@ fn types<'t, 'a>(
 }
 
 #[cycle(levels)]
-fn spaced_types<'t, 'a>(
-    all: &[Ty<'_>],
-    level: usize,
-    rest: &'t [Entry<'a>],
-) -> Result<&'t [Entry<'a>], Span>
+fn spaced_types<'t, 'a>(all: &[Ty<'_>], level: usize, rest: &'t [Entry<'a>]) -> Behind<'t, 'a>
     ensures { Passes (spec.spaced_levels (level ∷ []) true (spec.each_type level (tree.types_of (map tree.ty_view all.now)))) rest.now result }
 {
     let mut at = Ahead { left: rest };
@@ -219,7 +203,7 @@ pub fn bounds<'t, 'a>(
     trailing: bool,
     level: usize,
     rest: &'t [Entry<'a>],
-) -> Result<&'t [Entry<'a>], Span>
+) -> Behind<'t, 'a>
     ensures { Passes (spec.listed_levels level (spec.each_bound level (tree.bounds_of (map tree.bound_view all.now))) trailing) rest.now result }
 {
     let rest = spaced_bounds(all, level, rest)?;
@@ -227,11 +211,7 @@ pub fn bounds<'t, 'a>(
 }
 
 #[cycle(levels)]
-fn spaced_bounds<'t, 'a>(
-    all: &[Bound<'_>],
-    level: usize,
-    rest: &'t [Entry<'a>],
-) -> Result<&'t [Entry<'a>], Span>
+fn spaced_bounds<'t, 'a>(all: &[Bound<'_>], level: usize, rest: &'t [Entry<'a>]) -> Behind<'t, 'a>
     ensures { Passes (spec.spaced_levels (level ∷ []) true (spec.each_bound level (tree.bounds_of (map tree.bound_view all.now)))) rest.now result }
 {
     let mut at = Ahead { left: rest };
@@ -244,11 +224,7 @@ fn spaced_bounds<'t, 'a>(
 }
 
 #[cycle(levels)]
-fn bound<'t, 'a>(
-    bound: &Bound<'_>,
-    level: usize,
-    rest: &'t [Entry<'a>],
-) -> Result<&'t [Entry<'a>], Span>
+fn bound<'t, 'a>(bound: &Bound<'_>, level: usize, rest: &'t [Entry<'a>]) -> Behind<'t, 'a>
     ensures { Passes (spec.bound_levels level (tree.bound_view bound.now)) rest.now result }
 {
     match bound {
@@ -262,7 +238,7 @@ fn trait_bound<'t, 'a>(
     bound: &TraitBound<'_>,
     level: usize,
     rest: &'t [Entry<'a>],
-) -> Result<&'t [Entry<'a>], Span>
+) -> Behind<'t, 'a>
     ensures { Passes (spec.trait_bound_levels level (tree.trait_view bound.now)) rest.now result }
 {
     if !bound.parens {
@@ -281,7 +257,7 @@ fn bare_bound<'t, 'a>(
     path: &Path<'_>,
     level: usize,
     rest: &'t [Entry<'a>],
-) -> Result<&'t [Entry<'a>], Span>
+) -> Behind<'t, 'a>
     ensures { Passes (spec.bare_levels level maybe lifetimes.now (spec.path_levels level (tree.path_view path.now))) rest.now result }
 {
     let rest = token_if(maybe, level, rest)?;
@@ -290,11 +266,7 @@ fn bare_bound<'t, 'a>(
 }
 
 #[cycle(levels)]
-fn function<'t, 'a>(
-    found: &BareFn<'_>,
-    level: usize,
-    rest: &'t [Entry<'a>],
-) -> Result<&'t [Entry<'a>], Span>
+fn function<'t, 'a>(found: &BareFn<'_>, level: usize, rest: &'t [Entry<'a>]) -> Behind<'t, 'a>
     ensures { Passes (spec.fn_levels level (tree.fn_view found.now)) rest.now result }
 {
     let rest = fn_front(&found.lifetimes, found.is_unsafe, &found.abi, level, rest)?;
@@ -314,7 +286,7 @@ fn fn_front<'t, 'a>(
     called: &Option<Option<Literal<'_>>>,
     level: usize,
     rest: &'t [Entry<'a>],
-) -> Result<&'t [Entry<'a>], Span>
+) -> Behind<'t, 'a>
     ensures { Passes (spec.for_levels level lifetimes.now ++ (given is_unsafe (level ∷ []) ++ spec.abi_levels level called.now)) rest.now result }
 {
     let rest = for_lifetimes(lifetimes, level, rest)?;
@@ -323,11 +295,7 @@ fn fn_front<'t, 'a>(
 }
 
 #[cycle(levels)]
-fn fn_output<'t, 'a>(
-    output: &Ty<'_>,
-    level: usize,
-    rest: &'t [Entry<'a>],
-) -> Result<&'t [Entry<'a>], Span>
+fn fn_output<'t, 'a>(output: &Ty<'_>, level: usize, rest: &'t [Entry<'a>]) -> Behind<'t, 'a>
     ensures { Passes (spec.output_levels level level (tree.some_type (tree.ty_view output.now))) rest.now result }
 {
     let rest = pair(level, rest)?;
@@ -340,7 +308,7 @@ fn parameters<'t, 'a>(
     trailing: bool,
     level: usize,
     rest: &'t [Entry<'a>],
-) -> Result<&'t [Entry<'a>], Span>
+) -> Behind<'t, 'a>
     ensures { Passes (spec.grouped_levels level (spec.listed_levels (level + 1) (spec.each_input (level + 1) (tree.inputs_of (map tree.input_view all.now))) trailing)) rest.now result }
 {
     let rest = token(level, rest)?;
@@ -354,7 +322,7 @@ fn inputs<'t, 'a>(
     trailing: bool,
     level: usize,
     rest: &'t [Entry<'a>],
-) -> Result<&'t [Entry<'a>], Span>
+) -> Behind<'t, 'a>
     ensures { Passes (spec.listed_levels level (spec.each_input level (tree.inputs_of (map tree.input_view all.now))) trailing) rest.now result }
 {
     let rest = spaced_inputs(all, level, rest)?;
@@ -362,11 +330,7 @@ fn inputs<'t, 'a>(
 }
 
 #[cycle(levels)]
-fn spaced_inputs<'t, 'a>(
-    all: &[FnArg<'_>],
-    level: usize,
-    rest: &'t [Entry<'a>],
-) -> Result<&'t [Entry<'a>], Span>
+fn spaced_inputs<'t, 'a>(all: &[FnArg<'_>], level: usize, rest: &'t [Entry<'a>]) -> Behind<'t, 'a>
     ensures { Passes (spec.spaced_levels (level ∷ []) true (spec.each_input level (tree.inputs_of (map tree.input_view all.now)))) rest.now result }
 {
     let mut at = Ahead { left: rest };
@@ -379,11 +343,7 @@ fn spaced_inputs<'t, 'a>(
 }
 
 #[cycle(levels)]
-fn input<'t, 'a>(
-    input: &FnArg<'_>,
-    level: usize,
-    rest: &'t [Entry<'a>],
-) -> Result<&'t [Entry<'a>], Span>
+fn input<'t, 'a>(input: &FnArg<'_>, level: usize, rest: &'t [Entry<'a>]) -> Behind<'t, 'a>
     ensures { Passes (spec.input_levels level (tree.input_view input.now)) rest.now result }
 {
     let rest = attributes(input.attrs.as_slice(), level, rest)?;
@@ -393,11 +353,7 @@ fn input<'t, 'a>(
 
 /// The entries behind a path.
 #[cycle(levels)]
-pub fn path<'t, 'a>(
-    path: &Path<'_>,
-    level: usize,
-    rest: &'t [Entry<'a>],
-) -> Result<&'t [Entry<'a>], Span>
+pub fn path<'t, 'a>(path: &Path<'_>, level: usize, rest: &'t [Entry<'a>]) -> Behind<'t, 'a>
     ensures { Passes (spec.path_levels level (tree.path_view path.now)) rest.now result }
 {
     let rest = pair_if(path.leading_colon, level, rest)?;
@@ -406,11 +362,7 @@ pub fn path<'t, 'a>(
 
 /// The entries behind `<Self`.
 #[cycle(levels)]
-fn self_type<'t, 'a>(
-    qself: &QSelf<'_>,
-    level: usize,
-    rest: &'t [Entry<'a>],
-) -> Result<&'t [Entry<'a>], Span>
+fn self_type<'t, 'a>(qself: &QSelf<'_>, level: usize, rest: &'t [Entry<'a>]) -> Behind<'t, 'a>
     ensures gives { Passes (level ∷ spec.type_levels (level + 1) (tree.ty_view qself.now.ty)) rest.now result }
     ensures within { OnOk result (level ≤ deepest) }
 {
@@ -426,7 +378,7 @@ fn behind_self<'t, 'a>(
     leading_colon: bool,
     level: usize,
     rest: &'t [Entry<'a>],
-) -> Result<&'t [Entry<'a>], Span>
+) -> Behind<'t, 'a>
     requires { level ≤ deepest }
     ensures { Passes (spec.as_levels (level + 1) position leading_colon (spec.each_segment (level + 1) (tree.segments_of (map tree.segment_view all.now))) ++ level ∷ spec.spaced_levels (spec.two level) false (drop position (spec.each_segment level (tree.segments_of (map tree.segment_view all.now))))) rest.now result }
 {
@@ -442,7 +394,7 @@ fn as_trait<'t, 'a>(
     leading_colon: bool,
     level: usize,
     rest: &'t [Entry<'a>],
-) -> Result<&'t [Entry<'a>], Span>
+) -> Behind<'t, 'a>
     ensures { Passes (spec.as_levels level position leading_colon (spec.each_segment level (tree.segments_of (map tree.segment_view all.now)))) rest.now result }
 {
     if position == 0 {
@@ -454,11 +406,7 @@ fn as_trait<'t, 'a>(
 }
 
 #[cycle(levels)]
-fn segments<'t, 'a>(
-    all: &[PathSegment<'_>],
-    level: usize,
-    rest: &'t [Entry<'a>],
-) -> Result<&'t [Entry<'a>], Span>
+fn segments<'t, 'a>(all: &[PathSegment<'_>], level: usize, rest: &'t [Entry<'a>]) -> Behind<'t, 'a>
     ensures { Passes (spec.spaced_levels (spec.two level) true (spec.each_segment level (tree.segments_of (map tree.segment_view all.now)))) rest.now result }
 {
     let mut at = Ahead { left: rest };
@@ -477,7 +425,7 @@ fn first<'t, 'a>(
     position: usize,
     level: usize,
     rest: &'t [Entry<'a>],
-) -> Result<&'t [Entry<'a>], Span>
+) -> Behind<'t, 'a>
     ensures { Passes (spec.spaced_levels (spec.two level) true (take position (spec.each_segment level (tree.segments_of (map tree.segment_view all.now))))) rest.now result }
 {
     let mut at = Ahead { left: rest };
@@ -499,7 +447,7 @@ fn later<'t, 'a>(
     position: usize,
     level: usize,
     rest: &'t [Entry<'a>],
-) -> Result<&'t [Entry<'a>], Span>
+) -> Behind<'t, 'a>
     ensures { Passes (spec.spaced_levels (spec.two level) false (drop position (spec.each_segment level (tree.segments_of (map tree.segment_view all.now))))) rest.now result }
 {
     let mut at = Ahead { left: rest };
@@ -515,11 +463,7 @@ fn later<'t, 'a>(
 }
 
 #[cycle(levels)]
-fn segment<'t, 'a>(
-    segment: &PathSegment<'_>,
-    level: usize,
-    rest: &'t [Entry<'a>],
-) -> Result<&'t [Entry<'a>], Span>
+fn segment<'t, 'a>(segment: &PathSegment<'_>, level: usize, rest: &'t [Entry<'a>]) -> Behind<'t, 'a>
     ensures { Passes (spec.segment_levels level (tree.segment_view segment.now)) rest.now result }
 {
     let rest = token(level, rest)?;
@@ -531,7 +475,7 @@ fn arguments<'t, 'a>(
     arguments: &PathArguments<'_>,
     level: usize,
     rest: &'t [Entry<'a>],
-) -> Result<&'t [Entry<'a>], Span>
+) -> Behind<'t, 'a>
     ensures { Passes (spec.arguments_levels level (tree.arguments_view arguments.now)) rest.now result }
 {
     match arguments {
@@ -551,11 +495,7 @@ fn arguments<'t, 'a>(
 }
 
 #[cycle(levels)]
-fn path_output<'t, 'a>(
-    output: &Ty<'_>,
-    level: usize,
-    rest: &'t [Entry<'a>],
-) -> Result<&'t [Entry<'a>], Span>
+fn path_output<'t, 'a>(output: &Ty<'_>, level: usize, rest: &'t [Entry<'a>]) -> Behind<'t, 'a>
     ensures { Passes (spec.output_levels level (level + 1) (tree.some_type (tree.ty_view output.now))) rest.now result }
 {
     let rest = pair(level, rest)?;
@@ -568,7 +508,7 @@ fn angle<'t, 'a>(
     trailing: bool,
     level: usize,
     rest: &'t [Entry<'a>],
-) -> Result<&'t [Entry<'a>], Span>
+) -> Behind<'t, 'a>
     ensures { Passes (spec.angle_levels level (spec.each_argument (level + 1) (tree.arguments_of (map tree.argument_view all.now))) trailing) rest.now result }
 {
     let rest = token(level, rest)?;
@@ -582,7 +522,7 @@ fn angle_inside<'t, 'a>(
     trailing: bool,
     level: usize,
     rest: &'t [Entry<'a>],
-) -> Result<&'t [Entry<'a>], Span>
+) -> Behind<'t, 'a>
     ensures { Passes (spec.listed_levels level (spec.each_argument level (tree.arguments_of (map tree.argument_view all.now))) trailing) rest.now result }
 {
     let rest = spaced_arguments(all, level, rest)?;
@@ -594,7 +534,7 @@ fn spaced_arguments<'t, 'a>(
     all: &[GenericArgument<'_>],
     level: usize,
     rest: &'t [Entry<'a>],
-) -> Result<&'t [Entry<'a>], Span>
+) -> Behind<'t, 'a>
     ensures { Passes (spec.spaced_levels (level ∷ []) true (spec.each_argument level (tree.arguments_of (map tree.argument_view all.now)))) rest.now result }
 {
     let mut at = Ahead { left: rest };
@@ -608,11 +548,7 @@ fn spaced_arguments<'t, 'a>(
 
 /// The entries behind `= Type`.
 #[cycle(levels)]
-pub fn equal_type<'t, 'a>(
-    ty: &Ty<'_>,
-    level: usize,
-    rest: &'t [Entry<'a>],
-) -> Result<&'t [Entry<'a>], Span>
+pub fn equal_type<'t, 'a>(ty: &Ty<'_>, level: usize, rest: &'t [Entry<'a>]) -> Behind<'t, 'a>
     ensures { Passes (level ∷ spec.type_levels level (tree.ty_view ty.now)) rest.now result }
 {
     let rest = token(level, rest)?;
@@ -624,7 +560,7 @@ pub fn equal_const<'t, 'a>(
     value: &ConstArg<'_>,
     level: usize,
     rest: &'t [Entry<'a>],
-) -> Result<&'t [Entry<'a>], Span>
+) -> Behind<'t, 'a>
     ensures { Passes (level ∷ spec.const_levels level value.now) rest.now result }
 {
     let rest = token(level, rest)?;
@@ -638,7 +574,7 @@ pub fn constraint<'t, 'a>(
     trailing: bool,
     level: usize,
     rest: &'t [Entry<'a>],
-) -> Result<&'t [Entry<'a>], Span>
+) -> Behind<'t, 'a>
     ensures { Passes (level ∷ spec.listed_levels level (spec.each_bound level (tree.bounds_of (map tree.bound_view all.now))) trailing) rest.now result }
 {
     let rest = token(level, rest)?;
@@ -650,7 +586,7 @@ fn argument<'t, 'a>(
     argument: &GenericArgument<'_>,
     level: usize,
     rest: &'t [Entry<'a>],
-) -> Result<&'t [Entry<'a>], Span>
+) -> Behind<'t, 'a>
     ensures { Passes (spec.argument_levels level (tree.argument_view argument.now)) rest.now result }
 {
     match argument {
@@ -696,7 +632,7 @@ pub fn path_expr<'t, 'a>(
     qself: &Option<Box<QSelf<'_>>>,
     level: usize,
     rest: &'t [Entry<'a>],
-) -> Result<&'t [Entry<'a>], Span>
+) -> Behind<'t, 'a>
     ensures { Passes (spec.path_expr_levels level (tree.maybe_self_view qself.now) (tree.path_view path.now)) rest.now result }
 {
     match qself {

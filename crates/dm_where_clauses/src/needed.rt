@@ -2,12 +2,8 @@
 #![tactic(auto, using(crate::proofs::Needing::needing_steps))]
 
 ghost use Rattle.std.specs.Prelude.{◌≡◌, OnOk, IfOk, map, flat_map, ◌++◌};
-ghost use Rattle.dm_stream.specs.Layout.{nowhere};
-ghost use Rattle.dm_ast.specs.Tree.{ty_view};
-ghost use Rattle.dm_ast.specs.TypeTokens.{path_trees};
-ghost use Rattle.dm_ast.specs.Declarations.{predicate_view, declaration_view};
 ghost use Rattle.dm_ast.specs.Implementors.{predicates_of};
-ghost use Rattle.dm_print_types.specs.Laying.{lay};
+ghost use Rattle.dm_print_types.specs.Prelude.{nowhere, ty_view, path_trees, predicate_view, declaration_view, lay};
 ghost use Rattle.dm_operands.specs.CaseViews.{case_view, field_ref_view};
 ghost use Rattle.dm_bounds.specs.Needed as spec;
 ghost use Rattle.dm_bounds.specs.Needed.{Asking};
@@ -18,7 +14,8 @@ use dm_bounds::Sought;
 use dm_layout::{Layout, Printed};
 use dm_operands::cases::{CaseRef, FieldRef};
 use dm_operands::places::add;
-use std::alloc::{AllocError, Global};
+use dm_stream::Made;
+use std::alloc::Global;
 
 /// A predicate of an implementation, by what it is printed of.
 #[derive(Clone, Copy)]
@@ -51,10 +48,7 @@ pub fn needs(sought: &Sought<'_, '_>, ty: &Ty<'_>) -> bool
     sought.mentions(ty) && sought.is_free(ty)
 }
 
-fn listed<'x, 'a>(
-    all: &'x [WherePredicate<'a>],
-    alloc: Global,
-) -> Result<Vec<Predicate<'x, 'a>>, AllocError>
+fn listed<'x, 'a>(all: &'x [WherePredicate<'a>], alloc: Global) -> Made<Vec<Predicate<'x, 'a>>>
     ensures { IfOk result (λ ps. (a : Asking) → map (shown a) ps.items ≡ map predicate_view all.now) }
 {
     let mut out = Vec::with_capacity(alloc, all.len())?;
@@ -65,10 +59,7 @@ fn listed<'x, 'a>(
 }
 
 /// The declared predicates.
-fn declared<'x, 'a>(
-    input: &'x DeriveInput<'a>,
-    alloc: Global,
-) -> Result<Vec<Predicate<'x, 'a>>, AllocError>
+fn declared<'x, 'a>(input: &'x DeriveInput<'a>, alloc: Global) -> Made<Vec<Predicate<'x, 'a>>>
     ensures { IfOk result (λ ps. (a : Asking) → map (shown a) ps.items ≡ predicates_of (declaration_view input.now)) }
 {
     match &input.generics.where_clause {
@@ -83,7 +74,7 @@ fn add_for_field<'x, 'a, A: Asks>(
     sought: &Sought<'_, '_>,
     asks: &A,
     out: &mut Vec<Predicate<'x, 'a>>,
-) -> Result<(), AllocError>
+) -> Made<()>
     ensures { OnOk result (map (shown (A.asking asks.now)) out.new.items ≡ map (shown (A.asking asks.now)) out.old.items ++
         spec.added_by (A.asking asks.now) (spec.wanted sought.now) (field_ref_view field.now)) }
 {
@@ -99,7 +90,7 @@ fn add_for_fields<'x, 'a, A: Asks>(
     sought: &Sought<'_, '_>,
     asks: &A,
     out: &mut Vec<Predicate<'x, 'a>>,
-) -> Result<(), AllocError>
+) -> Made<()>
     ensures { OnOk result (map (shown (A.asking asks.now)) out.new.items ≡ map (shown (A.asking asks.now)) out.old.items ++
         flat_map (spec.added_by (A.asking asks.now) (spec.wanted sought.now)) (map field_ref_view fields.now)) }
 {
@@ -114,7 +105,7 @@ fn add_for_case<'x, 'a, A: Asks>(
     sought: &Sought<'_, '_>,
     asks: &A,
     out: &mut Vec<Predicate<'x, 'a>>,
-) -> Result<(), AllocError>
+) -> Made<()>
     ensures { OnOk result (map (shown (A.asking asks.now)) out.new.items ≡ map (shown (A.asking asks.now)) out.old.items ++
         spec.added_in_by (A.asking asks.now) (spec.wanted sought.now) (case_view case.now)) }
 {
@@ -129,7 +120,7 @@ fn add_for_cases<'x, 'a, A: Asks>(
     sought: &Sought<'_, '_>,
     asks: &A,
     out: &mut Vec<Predicate<'x, 'a>>,
-) -> Result<(), AllocError>
+) -> Made<()>
     ensures { OnOk result (map (shown (A.asking asks.now)) out.new.items ≡ map (shown (A.asking asks.now)) out.old.items ++
         flat_map (spec.added_in_by (A.asking asks.now) (spec.wanted sought.now)) (map case_view cases.now)) }
 {
@@ -146,7 +137,7 @@ fn add_needed<'x, 'a, A: Asks>(
     asks: &A,
     alloc: Global,
     out: &mut Vec<Predicate<'x, 'a>>,
-) -> Result<(), AllocError>
+) -> Made<()>
     ensures { OnOk result (map (shown (A.asking asks.now)) out.new.items ≡ map (shown (A.asking asks.now)) out.old.items ++
         spec.needed_by (A.asking asks.now) (declaration_view input.now) (map case_view cases.now)) }
 {
@@ -163,7 +154,7 @@ pub fn with_needed<'x, 'a, A: Asks>(
     cases: &[CaseRef<'x, 'a>],
     asks: &A,
     alloc: Global,
-) -> Result<Vec<Predicate<'x, 'a>>, AllocError>
+) -> Made<Vec<Predicate<'x, 'a>>>
     ensures { IfOk result (λ ps. map (shown (A.asking asks.now)) ps.items ≡ predicates_of (declaration_view input.now) ++
         spec.needed_by (A.asking asks.now) (declaration_view input.now) (map case_view cases.now)) }
 {

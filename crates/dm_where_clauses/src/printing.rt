@@ -2,10 +2,9 @@
 #![tactic(auto, using(crate::proofs::ClauseSteps::clause_steps))]
 
 ghost use Rattle.std.specs.Prelude.{◌≡◌, OnOk, map, true};
-ghost use Rattle.dm_ast.specs.Tree.{ty_view};
 ghost use Rattle.dm_ast.specs.TypeTokens.{spaced};
 ghost use Rattle.dm_output.specs.Tokens as tokens;
-ghost use Rattle.dm_print_types.specs.Laying.{lay};
+ghost use Rattle.dm_print_types.specs.Prelude.{ty_view, lay};
 ghost use Rattle.dm_bounds.specs.Needed.{bounded};
 ghost use Rattle.dm_bounds.specs.RightSide.{right_copies};
 ghost use Rattle.dm_where_clauses.specs.Shown.{shown};

@@ -4,10 +4,9 @@
 ghost use Rattle.std.specs.Prelude.{◌≡◌, ◌∷◌, [], cond, true, map, OnOk, IsTrue};
 ghost use Rattle.dm_stream.specs.Trees as trees;
 ghost use Rattle.dm_stream.specs.Trees.{no_trees};
-ghost use Rattle.dm_ast.specs.Declarations.{declaration_view};
 ghost use Rattle.dm_output.specs.Output.{arms_of, unsafe_expr};
 ghost use Rattle.dm_output.specs.Tokens as tokens;
-ghost use Rattle.dm_print_types.specs.Laying.{lay};
+ghost use Rattle.dm_print_types.specs.Prelude.{declaration_view, lay};
 ghost use Rattle.dm_operands.specs.Bodies as bodies;
 ghost use Rattle.dm_operands.specs.Kept as kept;
 ghost use Rattle.dm_partial_eq.specs.Emitted as spec;

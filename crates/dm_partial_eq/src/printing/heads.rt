@@ -2,9 +2,8 @@
 #![tactic(auto, using(crate::proofs::PrintLaws::printing_steps))]
 
 ghost use Rattle.std.specs.Prelude.{◌≡◌, [], Some, map, OnOk};
-ghost use Rattle.dm_ast.specs.Declarations.{declaration_view};
 ghost use Rattle.dm_output.specs.Tokens as tokens;
-ghost use Rattle.dm_print_types.specs.Laying.{lay};
+ghost use Rattle.dm_print_types.specs.Prelude.{declaration_view, lay};
 ghost use Rattle.dm_operands.specs.CaseViews.{case_view};
 ghost use Rattle.dm_partial_eq.specs.Heads.{partial_eq_path};
 ghost use Rattle.dm_partial_eq.specs.Emitted as spec;

@@ -1,11 +1,11 @@
-//! Each call once.
+//! Parts put together, and trees in boxes: each call once.
 
-use crate::{Gathers, Node, Nodes, discard, fronted};
-use dm_stream::Seq;
-use std::alloc::{AllocError, Global};
+use dm_gather::{Gathers, Node, Nodes, discard, fronted};
+use dm_stream::{Made, Seq};
+use std::alloc::Global;
 
 /// Parts gathered one after another.
-fn gathered(alloc: Global, parts: &[u8]) -> Result<Seq<u8>, AllocError> {
+fn gathered(alloc: Global, parts: &[u8]) -> Made<Seq<u8>> {
     let mut all: Seq<u8> = Gathers::none(alloc);
     for part in parts {
         all.gather(*part)?;
@@ -14,14 +14,14 @@ fn gathered(alloc: Global, parts: &[u8]) -> Result<Seq<u8>, AllocError> {
 }
 
 #[test]
-fn gathers(rt: HostRuntime) -> Result<(), AllocError> {
+fn gathers(rt: HostRuntime) -> Made<()> {
     let all = gathered(rt.alloc(), &[3, 5])?;
     assert!(rt; all.as_slice() == [3, 5].as_slice());
     Ok(())
 }
 
 #[test]
-fn puts_in_front(rt: HostRuntime) -> Result<(), AllocError> {
+fn puts_in_front(rt: HostRuntime) -> Made<()> {
     let alloc = rt.alloc();
     let all = fronted(alloc, 1, gathered(alloc, &[3, 5])?)?;
     assert!(rt; all.as_slice() == [1, 3, 5].as_slice());
@@ -29,13 +29,13 @@ fn puts_in_front(rt: HostRuntime) -> Result<(), AllocError> {
 }
 
 #[test]
-fn lets_go(rt: HostRuntime) -> Result<(), AllocError> {
+fn lets_go(rt: HostRuntime) -> Made<()> {
     discard(gathered(rt.alloc(), &[3])?);
     Ok(())
 }
 
 #[test]
-fn holds_a_tree(rt: HostRuntime) -> Result<(), AllocError> {
+fn holds_a_tree(rt: HostRuntime) -> Made<()> {
     let node = Node::new(rt.alloc(), 3)?;
     assert!(rt; *node.as_tree() == 3);
     assert!(rt; node.into_tree() == 3);
@@ -45,7 +45,7 @@ fn holds_a_tree(rt: HostRuntime) -> Result<(), AllocError> {
 }
 
 #[test]
-fn holds_trees(rt: HostRuntime) -> Result<(), AllocError> {
+fn holds_trees(rt: HostRuntime) -> Made<()> {
     let alloc = rt.alloc();
     let mut others: Nodes<u8> = Gathers::none(alloc);
     assert!(rt; others.is_empty());
@@ -59,7 +59,7 @@ fn holds_trees(rt: HostRuntime) -> Result<(), AllocError> {
 }
 
 #[test]
-fn hides_trees(rt: HostRuntime) -> Result<(), AllocError> {
+fn hides_trees(rt: HostRuntime) -> Made<()> {
     let hidden = Nodes::new(gathered(rt.alloc(), &[3, 5])?);
     assert!(rt; hidden.len() == 2);
     Ok(())

@@ -1,7 +1,7 @@
 use Rattle.std.proofs.Common.{◌≡◌, ◌++◌, length, sym, ap, ◌∙◌, arith, length-append, encode_utf8}
 use Rattle.dm_lexer.proofs.LexChars.{chars-none}
 use Rattle.std.proofs.lemmas.Str.{chars_past_char, length-encode, len_utf8_bounds}
-use Rattle.dm_lexer.proofs.lexing.first_char.Goals as goal
+use Rattle.dm_lexer.proofs.front.first_char.Goals as goal
 
 pub returns-in-Some-clause-chars : goal.returns-in-Some-clause-chars
 returns-in-Some-clause-chars c =
