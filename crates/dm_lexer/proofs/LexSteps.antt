@@ -22,8 +22,8 @@ use Rattle.dm_lexer.specs.Words.{begins_pair}
 use Rattle.dm_lexer.specs.Words as words
 use Rattle.dm_lexer.specs.declared.words.Class.TheVariants.{Line}
 use Rattle.dm_lexer.specs.Blanks.{blank_length, begins_blank_char, block, comment_closing}
-use Rattle.dm_lexer.specs.Rows.{gives, refuses, passes, row, range, Reading, reading, read_front, read_row, with_lexeme, faulty, IsGiven, IsRefusing}
-use Rattle.dm_lexer.specs.Nesting.{nest_all, found, Level, Verdict, are_trees, has_fault, IsNesting, IsNested, IsInnermost, Takes, After, Advances, IsStep, IsTreesOf, IsRefusedWithin, IsRefusalWithin, IsWholeWithin, none_deep, at_end, fault_of, first_deep}
+use Rattle.dm_lexer.specs.Rows.{gives, refuses, row, range, Reading, reading, read_front, read_row, with_lexeme, faulty, IsGiven, IsRefusing}
+use Rattle.dm_lexer.specs.Nesting.{nest_all, found, Level, Verdict, are_trees, has_fault, IsNesting, IsNestingOf, IsNested, IsInnermost, Takes, After, Advances, IsStep, IsTreesOf, IsRefusedWithin, IsRefusalWithin, IsWholeWithin, none_deep, at_end, fault_of, first_deep}
 use Rattle.dm_stream.proofs.Cuts.{drop-more}
 use Rattle.dm_lexer.proofs.LexChars.{front-length}
 use Rattle.dm_lexer.proofs.TextFronts.{behind-two}
@@ -263,11 +263,18 @@ lex-fault deepest text rest at old new p s e l r t k h =
     as-lex deepest text e s h (l.steps ∙ subst Q r (subst S k t l.levels l.here l.nested))
 
 -- at the end of the text
-at-end : (deepest : ℕ) (text : List ℕ) (at : ℕ) (n : Nesting) (s : IsLexedSoFar deepest text at n) → length text ≤ at →
-    found 0 text [] no_trees (none_deep deepest) ≡ at_end None s.levels s.here n.deep
-at-end deepest text at n s h =
+pub lex-ended : (deepest : ℕ) (text : List ℕ) (at : ℕ) (n : Nesting) → IsLexedSoFar deepest text at n → length text ≤ at → IsNestingOf deepest text n
+lex-ended deepest text at n s h =
     let e : drop at text ≡ [] = drop_of_length-le text h in
-    s.steps ∙ ap (λ l. nest_all s.levels s.here n.deep (reading at 0 l)) (ap chars e ∙ chars-nil)
+    record {
+      levels = s.levels;
+      here = s.here;
+      nested = s.nested;
+      ends = s.steps ∙ ap (λ l. nest_all s.levels s.here n.deep (reading at 0 l)) (ap chars e ∙ chars-nil);
+    }
+
+pub nesting-nested : (deepest : ℕ) (text : List ℕ) (n : Nesting) → IsNestingOf deepest text n → IsNested n
+nesting-nested deepest text n s = (s.levels, s.here, s.nested)
 
 levels-open : (n : Nesting) (ls : List Level) (here : Trees) (deep : Depth) (s : Span) → IsNesting n ls here → IsInnermost n.opened.items s →
     at_end None ls here deep ≡ has_fault s
@@ -277,40 +284,41 @@ levels-open n [] here deep s h i =
     absurd (omega (arith, l, k))
 levels-open n (l ∷ ls) here deep s h i = ap has_fault (innermost-from n ls l here i.rest i.last h i.items ∙ sym i.from)
 
-pub lex-unclosed : (deepest : ℕ) (text : List ℕ) (at : ℕ) (n : Nesting) (e : Error) (s : Span) → IsLexedSoFar deepest text at n → length text ≤ at →
-    IsInnermost n.opened.items s → e ≡ Refused record { kind = kind.Lex; span = s } → IsRefusalWithin deepest text e
-lex-unclosed deepest text at n e s l h i q = as-lex deepest text e s q (at-end deepest text at n l h ∙ levels-open n l.levels l.here n.deep s l.nested i)
+pub lex-unclosed : (deepest : ℕ) (text : List ℕ) (n : Nesting) (e : Error) (s : Span) → IsNestingOf deepest text n → IsInnermost n.opened.items s →
+    e ≡ Refused record { kind = kind.Lex; span = s } → IsRefusalWithin deepest text e
+lex-unclosed deepest text n e s l i q = as-lex deepest text e s q (l.ends ∙ levels-open n l.levels l.here n.deep s l.nested i)
 
 -- where no group is open
-closed-end : (deepest : ℕ) (text : List ℕ) (at : ℕ) (n : Nesting) (s : IsLexedSoFar deepest text at n) → length text ≤ at → n.opened.items ≡ [] →
+closed-end : (deepest : ℕ) (text : List ℕ) (n : Nesting) (s : IsNestingOf deepest text n) → n.opened.items ≡ [] →
     found 0 text [] no_trees (none_deep deepest) ≡ are_trees s.here n.deep
-closed-end deepest text at n s h k =
+closed-end deepest text n s k =
     let f = nesting-flat n s.levels s.here s.nested (ap length k) in
-    at-end deepest text at n s h ∙ ap (λ l. at_end None l s.here n.deep) f.1
+    s.ends ∙ ap (λ l. at_end None l s.here n.deep) f.1
 
-pub lex-deep : (deepest : ℕ) (text : List ℕ) (at : ℕ) (n : Nesting) (e : Error) (s : Span) → IsLexedSoFar deepest text at n → length text ≤ at → n.opened.items ≡ [] →
-    n.deep.first ≡ Some s → e ≡ Refused record { kind = kind.TooDeep; span = s } → IsRefusalWithin deepest text e
-lex-deep deepest text at n e s l h k d q =
-    let a : found 0 text [] no_trees (none_deep deepest) ≡ are_trees l.here n.deep = closed-end deepest text at n l h k in
+pub lex-deep : (deepest : ℕ) (text : List ℕ) (n : Nesting) (e : Error) (s : Span) → IsNestingOf deepest text n → n.opened.items ≡ [] → n.deep.first ≡ Some s →
+    e ≡ Refused record { kind = kind.TooDeep; span = s } → IsRefusalWithin deepest text e
+lex-deep deepest text n e s l k d q =
+    let a : found 0 text [] no_trees (none_deep deepest) ≡ are_trees l.here n.deep = closed-end deepest text n l k in
     let P : Error → Type 0 = λ v. IsRefusalWithin deepest text v in
     subst P (sym q) (whole-fault deepest text _ a, whole-deep deepest text l.here n.deep a ∙ d)
 
-pub lex-whole : (deepest : ℕ) (text : List ℕ) (at : ℕ) (n : Nesting) → IsLexedSoFar deepest text at n → length text ≤ at → n.opened.items ≡ [] → n.deep.first ≡ None →
+pub lex-whole : (deepest : ℕ) (text : List ℕ) (n : Nesting) → IsNestingOf deepest text n → n.opened.items ≡ [] → n.deep.first ≡ None →
     IsWholeWithin deepest text
-lex-whole deepest text at n l h k d =
-    let a : found 0 text [] no_trees (none_deep deepest) ≡ are_trees l.here n.deep = closed-end deepest text at n l h k in
+lex-whole deepest text n l k d =
+    let a : found 0 text [] no_trees (none_deep deepest) ≡ are_trees l.here n.deep = closed-end deepest text n l k in
     record { no_fault = whole-fault deepest text _ a; shallow = whole-deep deepest text l.here n.deep a ∙ d }
 
-pub lex-flat : (deepest : ℕ) (text : List ℕ) (at : ℕ) (n : Nesting) → IsLexedSoFar deepest text at n → n.opened.items ≡ [] →
-    flatten (unflatten n.entries.items) ≡ n.entries.items
-lex-flat deepest text at n s k =
-    let f : n.entries.items ≡ flatten s.here = (nesting-flat n s.levels s.here s.nested (ap length k)).0 in
-    rw f (ap flatten (unflatten-flatten s.here))
+pub lex-flat : (n : Nesting) → IsNested n → n.opened.items ≡ [] → flatten (unflatten n.entries.items) ≡ n.entries.items
+lex-flat n (ls, here, h) k =
+    let f : n.entries.items ≡ flatten here = (nesting-flat n ls here h (ap length k)).0 in
+    rw f (ap flatten (unflatten-flatten here))
 
-pub lex-trees : (deepest : ℕ) (text : List ℕ) (at : ℕ) (n : Nesting) (ts : Trees) → IsLexedSoFar deepest text at n → length text ≤ at → n.opened.items ≡ [] →
-    ts ≡ unflatten n.entries.items → IsTreesOf text ts
-lex-trees deepest text at n ts s h k e =
+pub lex-trees : (deepest : ℕ) (text : List ℕ) (n : Nesting) (ts : Trees) → IsNestingOf deepest text n → n.opened.items ≡ [] → ts ≡ unflatten n.entries.items →
+    IsTreesOf text ts
+lex-trees deepest text n ts s k e =
     let f : (n.entries.items ≡ flatten s.here) × (s.levels ≡ []) = nesting-flat n s.levels s.here s.nested (ap length k) in
     let same : ts ≡ s.here = e ∙ ap unflatten f.0 ∙ unflatten-flatten s.here in
     let P : Trees → Type 0 = λ t. IsTreesOf text t in
-    subst P (sym same) (nest_all-sound (none_deep deepest) (reading 0 0 (chars text)) s.here n.deep (closed-end deepest text at n s h k))
+    subst P (sym same) (nest_all-sound (none_deep deepest) (reading 0 0 (chars text)) s.here n.deep (closed-end deepest text n s k))
+
+pub ruleset lex_steps = (lex-nested)

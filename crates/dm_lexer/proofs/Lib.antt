@@ -8,6 +8,7 @@ pub mod KeptNumbers
 pub mod KeptRows
 pub mod LexChars
 pub mod LexSteps
+pub mod Lexed
 pub mod LexedBack
 pub mod MarkRows
 pub mod Meanings

@@ -1,5 +1,6 @@
 pub mod Blanks
 pub mod Characters
+pub mod Lexed
 pub mod Lexemes
 pub mod Nesting
 pub mod Numbers

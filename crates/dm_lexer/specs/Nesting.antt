@@ -188,3 +188,10 @@ pub record Advances (old new : Nesting) (at : ℕ) (text : List ℕ) (n : ℕ) (
 abbrev pub IsStep : Progress → Nesting → Nesting → ℕ → List ℕ → Type 0
 IsStep (progress.Fault s) old new at text = (ls : List Level) (here : Trees) → IsNesting old ls here → found at text ls here old.deep ≡ has_fault s
 IsStep (progress.Reads n) old new at text = (ls : List Level) (here : Trees) → IsNesting old ls here → Advances old new at text n ls here
+
+-- these are the lexemes of the whole text, as they are nested: what becomes of them is what becomes of their end
+pub record IsNestingOf (deepest : ℕ) (text : List ℕ) (n : Nesting) : Type 0 where
+  pub levels : List Level
+  pub here : Trees
+  pub nested : IsNesting n levels here
+  pub ends : found 0 text [] no_trees (none_deep deepest) ≡ at_end None levels here n.deep

@@ -14,6 +14,6 @@ mod values;
 mod words;
 
 pub use laws::{layout_lexes_back, lines_lex_back, strings_have_values};
-pub use lexing::{lex, lex_within};
+pub use lexing::{lex, lex_owned, lex_within};
 pub use numbers::int_value;
 pub use values::str_value;

@@ -5,6 +5,7 @@ ghost use Rattle.std.specs.Vec.{vec_len};
 ghost use Rattle.dm_lexer.specs.Nesting.{IsInnermost, IsNested, IsNesting, Takes, deeper, none_deep};
 ghost use Rattle.dm_stream.specs.Trees.{no_trees};
 ghost use Rattle.dm_lexer.specs.declared.lexing.Lexeme.TheVariants as lexeme;
+ghost use Rattle.dm_lexer.specs.declared.nesting.Nesting.{Nesting};
 
 use crate::lexing::Lexeme;
 use dm_stream::{Delim, Entry, Made, Span, Token, span_of};
@@ -33,21 +34,23 @@ pub struct Nesting<'a> {
     pub deep: Depth,
 }
 
-impl<'a> Nesting<'a> {
-    pub fn new(alloc: Global, deepest: usize) -> Nesting<'a>
-        ensures nested { IsNesting result [] no_trees }
-        ensures deep { result.deep ≡ none_deep deepest }
-    {
-        Nesting {
-            entries: Vec::new(alloc),
-            opened: Vec::new(alloc),
-            deep: Depth {
-                deepest,
-                first: None,
-            },
-        }
-    }
+/// What takes the lexemes of a text one after another.
+pub trait TakesLexemes<'a>: Drop {
+    /// How they are nested.
+    ghost nesting: { Self → Nesting };
 
+    /// None of them yet. A token or delimiter may stand in `deepest` groups.
+    fn none(alloc: Global, deepest: usize) -> Self
+        ensures nested { IsNesting (nesting result) [] no_trees }
+        ensures deep { (nesting result).deep ≡ none_deep deepest };
+
+    /// Takes the next lexeme, or gives its range where it closes no open group.
+    fn take(&mut self, next: Lexeme<'a>) -> Result<Option<Span>, AllocError>
+        requires { IsNested (nesting self.old) }
+        ensures { IfOk result (λ s. Takes s (nesting self.old) (nesting self.new) next.entry) };
+}
+
+impl<'a> Nesting<'a> {
     /// The range of the innermost opener that is open.
     pub fn innermost(&self) -> Option<Span>
         ensures { MatchOption result (self.now.opened.items ≡ []) (λ s. IsInnermost self.now.opened.items s) }
@@ -55,24 +58,6 @@ impl<'a> Nesting<'a> {
         match self.opened.last() {
             Some(open) => Some(open.from),
             None => None,
-        }
-    }
-
-    /// Takes the next lexeme, or gives its range where it closes no open group.
-    pub fn take(&mut self, next: Lexeme<'a>) -> Result<Option<Span>, AllocError>
-        requires { IsNested self.old }
-        ensures { IfOk result (λ s. Takes s self.old self.new next.entry) }
-    {
-        match next {
-            Lexeme::Token(token) => {
-                self.add(token)?;
-                Ok(None)
-            }
-            Lexeme::Open(delim, from) => {
-                self.open(delim, from)?;
-                Ok(None)
-            }
-            Lexeme::Close(delim, upto) => self.close(delim, upto),
         }
     }
 
@@ -110,6 +95,58 @@ impl<'a> Nesting<'a> {
         put(&mut self.entries, innermost.place, opener);
         self.entries.push(Entry::Close(delim, upto))?;
         Ok(None)
+    }
+}
+
+impl<'a> TakesLexemes<'a> for Nesting<'a> {
+    ghost nesting = { λ n. n };
+
+    fn none(alloc: Global, deepest: usize) -> Nesting<'a> {
+        Nesting {
+            entries: Vec::new(alloc),
+            opened: Vec::new(alloc),
+            deep: Depth {
+                deepest,
+                first: None,
+            },
+        }
+    }
+
+    fn take(&mut self, next: Lexeme<'a>) -> Result<Option<Span>, AllocError> {
+        match next {
+            Lexeme::Token(token) => {
+                self.add(token)?;
+                Ok(None)
+            }
+            Lexeme::Open(delim, from) => {
+                self.open(delim, from)?;
+                Ok(None)
+            }
+            Lexeme::Close(delim, upto) => self.close(delim, upto),
+        }
+    }
+}
+
+/// What takes lexemes of any text, whose characters it copies.
+#[derive(Drop)]
+pub struct Owning<'b> {
+    pub alloc: Global,
+    pub nesting: Nesting<'b>,
+}
+
+impl<'a, 'b> TakesLexemes<'a> for Owning<'b> {
+    ghost nesting = { λ o. o.nesting };
+
+    fn none(alloc: Global, deepest: usize) -> Owning<'b> {
+        Owning {
+            alloc,
+            nesting: TakesLexemes::none(alloc, deepest),
+        }
+    }
+
+    fn take(&mut self, next: Lexeme<'a>) -> Result<Option<Span>, AllocError> {
+        let next = next.into_owned(self.alloc)?;
+        self.nesting.take(next)
     }
 }
 

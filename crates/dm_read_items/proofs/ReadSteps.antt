@@ -52,10 +52,6 @@ pub lexed_unread : (text : List ℕ) (e : Error) (r : Result (List Item) Error) 
 lexed_unread text e (Ok xs) h i = tt
 lexed_unread text e (Err d) h i = subst (IsUnread text) (sym i) (lexed e h)
 
-pub memory_unread : (text : List ℕ) (r : Result (List Item) Error) → IsErrAnd r (λ d. d ≡ NoMemory) → IfErr r (IsUnread text)
-memory_unread text (Ok xs) h = tt
-memory_unread text (Err d) h = subst (IsUnread text) (sym h) no_memory
-
 pub unlike_unread : (text : List ℕ) (ts us : Trees) (e f : Error) → IsTreesOf text ts → us ≡ ts →
     ReadsWhole {X = List Item} (map item_view) read_output us (Err e) → Becomes e f → IsUnread text f
 unlike_unread text ts us NoMemory f t i h b = subst (IsUnread text) (sym b) no_memory

@@ -9,7 +9,7 @@ ghost use Rattle.dm_read_items.specs.Reading.{IsFollowed, Becomes, IsWithin, IsU
 
 use crate::items::items;
 use dm_levels::first_deep;
-use dm_lexer::lex;
+use dm_lexer::{lex, lex_owned};
 use dm_nodes::item::ItemNodes;
 use dm_output::Item;
 use dm_read_places::place::Place;
@@ -87,7 +87,6 @@ pub fn read_owned_items<'a>(alloc: Global, text: &str) -> Result<Seq<Item<'a>>, 
     ensures items { IfOk result (λ all. IsFollowed text.now (map item_view all) None) }
     ensures unread { IfErr result (IsUnread text.now) }
 {
-    let stream = lex(alloc, text)?;
-    let owned = stream.into_owned(alloc)?;
-    trees_of(items_of(alloc, &owned))
+    let stream = lex_owned(alloc, text)?;
+    trees_of(items_of(alloc, &stream))
 }

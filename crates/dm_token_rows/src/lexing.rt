@@ -1,7 +1,7 @@
 //! Texts and their layouts.
 
 use crate::outlines::outline;
-use dm_tokens::{Error, TokenStream, lex, print};
+use dm_tokens::{Error, TokenStream, lex, lex_owned, print};
 use std::alloc::Global;
 
 /// `read`, or the refusal.
@@ -28,6 +28,19 @@ fn owned_layout_of(alloc: Global, text: &str) -> Result<String, Error> {
     owned_layout(alloc, stream)
 }
 
+/// The layout of a text's trees, which borrow nothing of it.
+fn layout_of_owned(alloc: Global, text: &str) -> Result<String, Error> {
+    let stream = lex_owned(alloc, text)?;
+    Ok(print(alloc, &stream)?)
+}
+
+/// Whether an owned copy of a text's trees, and the trees that are read as owned, have this layout.
+fn keeps_layout(alloc: Global, text: &str, layout: &str) -> Result<bool, Error> {
+    let copied = owned_layout_of(alloc, text)?;
+    let read = layout_of_owned(alloc, text)?;
+    Ok(copied.as_str() == layout && read.as_str() == layout)
+}
+
 /// Whether the trees of two texts are alike, spacing included.
 fn are_alike(alloc: Global, text: &str, other: &str) -> Result<bool, Error> {
     let one = outline(alloc, text)?;
@@ -35,11 +48,11 @@ fn are_alike(alloc: Global, text: &str, other: &str) -> Result<bool, Error> {
     Ok(one.as_str() == other.as_str())
 }
 
-/// Whether the layout of a text's trees has these trees, spacing included, and their owned copy the same layout.
+/// Whether the layout of a text's trees has these trees, spacing included, and those that are owned have the same layout.
 pub(crate) fn comes_back(alloc: Global, text: &str) -> Result<String, Error> {
     let layout = layout_of(alloc, text)?;
-    let owned = owned_layout_of(alloc, text)?;
-    let is_back = are_alike(alloc, text, layout.as_str())? && owned.as_str() == layout.as_str();
+    let is_kept = keeps_layout(alloc, text, layout.as_str())?;
+    let is_back = are_alike(alloc, text, layout.as_str())? && is_kept;
     let told = if is_back { "comes back" } else { "is lost" };
     Ok(String::from_str(alloc, told)?)
 }

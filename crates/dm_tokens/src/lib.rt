@@ -3,7 +3,8 @@
 
 pub use dm_layout::{Layout, print, print_piece};
 pub use dm_lexer::{
-    int_value, layout_lexes_back, lex, lex_within, lines_lex_back, str_value, strings_have_values,
+    int_value, layout_lexes_back, lex, lex_owned, lex_within, lines_lex_back, str_value,
+    strings_have_values,
 };
 pub use dm_quote::ToTokens;
 pub use dm_stream::{
