@@ -1,20 +1,21 @@
 #!/usr/bin/env bash
-# Times the program on texts of growing size, and `dm_reprint` on what the program writes, one process each, and prints bytes, seconds and
-# the ratio to the size before.
+# Times the program on texts of growing size, `dm_reprint` on what the program writes, and `dm_speed`, which derives twenty times with
+# items, one process each, and prints bytes, seconds and the ratio to the size before.
 # It asserts nothing, and the gate doesn't run it. It times the programs that the gate left in this checkout; where there is none it proves
 # and builds them first, which takes about as long as the gate. Needs `rt` and python3.
 set -eu
 cd "$(dirname "$0")/.."
-program=crates/dm_prog/out/dm_prog reprint=crates/dm_reprint/out/dm_reprint
+program=crates/dm_prog/out/dm_prog reprint=crates/dm_reprint/out/dm_reprint calls=crates/dm_speed/out/dm_speed
 [ -x "$program" ] || (cd crates/dm_prog && rt run < stdin > /dev/null)
 [ -x "$reprint" ] || (cd crates/dm_reprint && rt run < stdin > /dev/null)
+[ -x "$calls" ] || (cd crates/dm_speed && rt run)
 work=$(mktemp -d)
 trap 'rm -rf "$work"' EXIT
 
 cat > "$work/speed.py" <<'PY'
-import subprocess, sys, time
+import os, subprocess, sys, time
 
-program, reprint, work = sys.argv[1:]
+program, reprint, calls, work = sys.argv[1:]
 SIZES = (16 << 10, 64 << 10, 256 << 10, 1 << 20)
 
 
@@ -120,6 +121,9 @@ start = time.perf_counter()
 subprocess.run([program, "sample", "2000"], stdout=subprocess.DEVNULL)
 print(f"sample 2000: {time.perf_counter() - start:.4f}")
 
+# One call of `derive_text`, of the twenty of a process, with its items.
+print(f"derive_text, PartialEq of 2000, a call: {best_of(os.devnull, 10, calls)[0] / 20:.4f}")
+
 # Implementations, which `dm_reprint` reads by `read_items` and prints again by `print_items`. What `derive_text` does beside printing is to
 # read its text so.
 path = f"{work}/input"
@@ -157,4 +161,4 @@ for name, text in TEXTS.items():
         print(f"{size:10d}{took:10.4f} {ratio:>8}  {answer}")
         before = took
 PY
-python3 "$work/speed.py" "$program" "$reprint" "$work"
+python3 "$work/speed.py" "$program" "$reprint" "$calls" "$work"

@@ -1,15 +1,16 @@
 -- Blanks.
-use Rattle.std.specs.Prelude.{◌≡◌, ℕ, zero, suc, ◌+◌, ◌-◌, ◌<◌, ◌≤◌, true, false, Option, Some, None, List, ◌∷◌, ◌++◌, encode_utf8, refl}
+use Rattle.std.specs.Prelude.{◌≡◌, ℕ, zero, suc, ◌+◌, ◌-◌, ◌<◌, ◌≤◌, true, false, ◌&&◌, nat_eq, Option, Some, None, List, [], ◌∷◌, ◌++◌, encode_utf8, refl}
 use Rattle.std.proofs.Common.{ap, ◌∙◌, sym, subst, arith}
 use Rattle.std.specs.Char.{len_utf8}
 use Rattle.std.proofs.lemmas.Str.{len_utf8_bounds, IsUtf8-past_char}
 use Rattle.std.specs.Str.{chars, IsUtf8}
-use Rattle.dm_lexer.specs.declared.blanks.Blank.TheVariants.{Size, Unclosed}
+use Rattle.dm_lexer.specs.declared.blanks.Blank.TheVariants.{Absent, Size, Unclosed}
 use Rattle.dm_lexer.specs.declared.blanks.Mark.{Mark}
 use Rattle.dm_lexer.specs.declared.blanks.Mark.TheVariants.{Opens, Closes, Other}
 use Rattle.dm_lexer.specs.declared.words.Class.TheVariants.{Line}
 use Rattle.dm_lexer.specs.TextFronts.{IsFront, IsBehind, IsSized, run}
 use Rattle.dm_lexer.specs.Words.{begins_pair, passes}
+use Rattle.dm_lexer.specs.Quotes.{begins}
 use Rattle.dm_lexer.specs.Blanks.{begins_blank_char, is_blank_char, IsBlankChar, mark, more, after_mark, comment_closing, block, blank_length, IsBlank}
 use Rattle.dm_lexer.proofs.LexChars.{front-one}
 use Rattle.dm_lexer.proofs.TextFronts.{behind-none, behind-next, behind-chars, front-behind, cond_true, cond_false}
@@ -172,4 +173,14 @@ blank-block text rest size h l p b s = (
   (2 + s.0, blank-block_is text rest h l p b ∙ ap block s.1, front-behind text rest 2 size 2 s.0 b s.2),
 )
 
-pub ruleset blanks = (blank_char, blank-one, blank-line, blank-block, blank-unclosed)
+-- what doesn't begin with a character doesn't begin with a pair that has it first
+pair-unbegun : (a b : ℕ) (cs : List ℕ) → begins a cs ≡ false → begins_pair a b cs ≡ false
+pair-unbegun a b [] h = refl
+pair-unbegun a b (c ∷ []) h = refl
+pair-unbegun a b (c ∷ d ∷ cs) h = ap (λ x. x && nat_eq d b) h
+
+pub blank-none : (text : List ℕ) → begins_blank_char (chars text) ≡ false → begins 47 (chars text) ≡ false → IsBlank text Absent (blank_length (chars text))
+blank-none text h b =
+    cond_false _ _ _ h ∙ cond_false _ _ _ (pair-unbegun 47 47 (chars text) b) ∙ cond_false _ _ _ (pair-unbegun 47 42 (chars text) b)
+
+pub ruleset blanks = (blank_char, blank-none, blank-one, blank-line, blank-block, blank-unclosed)

@@ -7,6 +7,7 @@ ghost use Rattle.dm_lexer.specs.TextFronts.{IsSized};
 ghost use Rattle.dm_lexer.specs.Blanks as spec;
 
 use crate::front::first_char;
+use crate::quotes::begins_with;
 use crate::words::{Class, behind_pair, run_size};
 
 const NEXT_LINE: char = '\u{85}';
@@ -43,6 +44,9 @@ pub fn blank_size(text: &str) -> Blank
 {
     if let Some(size) = blank_char_size(text) {
         return Blank::Size(size);
+    }
+    if !begins_with(text, '/') {
+        return Blank::Absent;
     }
     if let Some(rest) = behind_pair(text, '/', '/') {
         return Blank::Size(2 + run_size(rest, Class::Line));
