@@ -11,22 +11,20 @@ use Rattle.dm_read_paths.specs.declared.kind.NodeKind.TheVariants as kind
 use Rattle.dm_read_paths.specs.declared.kind.Mode.{Mode}
 use Rattle.dm_read_paths.specs.declared.kind.Mode.TheVariants.{Whole}
 use Rattle.dm_ast.specs.Keywords.{is_name}
-use Rattle.dm_ast.specs.Spelling.{Where, Marks, Spelling, Nothing, ◌then◌, Provided, Before, is_joint, sees, sees_one, sees_group, sees_literal, sees_lifetime, sees_colons, sees_colon, sees_equals, is_word, ident, lifetime, punct, colons, colon, equals, flag, chain, items, range_of}
+use Rattle.dm_ast.specs.Spelling.{Where, Marks, Spelling, Nothing, ◌then◌, Provided, Before, is_joint, sees, sees_one, sees_group, sees_literal, sees_lifetime, sees_colons, sees_colon, sees_equals, is_word, ident, lifetime, punct, colons, colon, equals, flag, chain, range_of}
 use Rattle.dm_ast.specs.TypeGrammar.{name, is_path_word, is_truth, sees_macro, is_call, behind_idents, behind_colons, sees_arguments, constant_spelled, constant_argument, not_named, is_macro, node, type_spelled, segments, segment_spelled, argument, arguments, maybe_angled, bounds, between_angles}
 use Rattle.dm_ast.specs.Tree.{TypeTree, type_tree, TypeNode, path, macro_type, no_self, some_self, path_tree, no_segments, segment_then, segment, ArgumentsTree, absent, angle, parens, ArgumentTree, lifetime_arg, type_arg, const_arg, assoc_type, assoc_const, constraint, MaybeArguments, arguments_absent, some_arguments}
-use Rattle.dm_ast.specs.Readers.{Parser, and_then, mapped, ◌next◌, read_lifetime, read_colon, read_equals, read_list}
+use Rattle.dm_ast.specs.Readers.{Parser, and_then, mapped, ◌next◌, read_lifetime, read_colon, read_equals}
 use Rattle.dm_ast.specs.PlainReaders.{read_constant, sees_truth}
-use Rattle.dm_read_paths.specs.TypeReaders.{front_kind, sees_constant, named_by, binding_of, type_value, constant_value, constraint_of, lifetime_of, constant_of, arguments_pair, inner_path, read_bounds, read_binding_value, behind_name, behind_type, read_argument, read_arguments}
+use Rattle.dm_read_paths.specs.TypeReaders.{front_kind, sees_constant, named_by, binding_of, type_value, constant_value, constraint_of, lifetime_of, constant_of, inner_path, read_bounds, read_binding_value, behind_name, behind_type, read_argument, read_arguments}
 use Rattle.dm_read.proofs.Deciding.{Same, Decides, Reader, Image, Bound, pair, decides_bind, decides_by, decides_iff, decides_test, covers_none, reads_next}
 use Rattle.dm_read.proofs.Tokens.{reads_lifetime, lifetime_seen, punct_seen}
 use Rattle.dm_read.proofs.Groups.{reads_lone, lone_seen}
-use Rattle.dm_read_paths.proofs.Listing.{reads_list}
-use Rattle.dm_read_paths.proofs.PlainParts.{reads_by}
 use Rattle.dm_read_paths.proofs.Constants.{reads_constant, truth_no_name}
 use Rattle.dm_read_paths.proofs.NodeKinds.{kind_of, node_first}
 use Rattle.dm_read_paths.proofs.TypeEnds.{constant_front, type_no_angle, type_no_constant}
 use Rattle.dm_read_paths.proofs.Sequences.{then_right, then_left, then_map, then_nothing, then_with}
-use Rattle.dm_read_paths.proofs.TypeLists.{argument_list, arguments_again, arguments_to, arguments_back}
+use Rattle.dm_read_paths.proofs.TypeLists.{reads_lists, argument_lists}
 use Rattle.dm_read_paths.proofs.TypeRules.{ReadsDeeper}
 use Rattle.dm_read_paths.proofs.Paths.{or_first, or_second}
 use Rattle.dm_read_paths.proofs.BoundRules.{path_no_lifetime, reads_bounds, paths_deeper}
@@ -551,11 +549,7 @@ argument_no_angle w (constraint i gs bs u) ts o m s = ap (sees 62) s.first.part.
 
 module _ (inner : Mode → Where → Parser TypeTree) where
   pub reads_arguments_by : (v : Where) → Reader (λ y. argument y v) (read_argument inner v) → Reader (λ r. arguments r.0 r.1 v) (read_arguments inner v)
-  reads_arguments_by v h =
-      reads_by arguments_pair (λ r. items v 44 (sees 62) (λ g. argument g v) r.0 r.1) (λ r. arguments r.0 r.1 v) (read_list v 44 (sees 62) (read_argument inner v))
-      (λ r ts o m s. arguments_to v r.1 r.0 ts o m s)
-      (λ y ts o m s. record { value = pair (argument_list y.0) y.1; is_it = sym (ap (λ x. pair x y.1) (arguments_again y.0)); spelled = arguments_back v y.1 y.0 ts o m s })
-      (reads_list v 44 (sees 62) (λ g. argument g v) (read_argument inner v) (λ g ts o m s. argument_no_angle v g ts o m s) h)
+  reads_arguments_by v h = reads_lists (argument_lists v) (read_argument inner v) (λ g ts o m s. argument_no_angle v g ts o m s) h
 
   pub reads_arguments : (n : ℕ) (v : Where) → n < v.level → ReadsDeeper inner n → Reader (λ r. arguments r.0 r.1 v) (read_arguments inner v)
   reads_arguments n v h deep =

@@ -1,22 +1,22 @@
 -- Bounds: what their readers decide, where the readers of the paths in them decide those.
-use Rattle.std.proofs.Common.{◌≡◌, ℕ, ◌+◌, ◌<◌, ◌≤◌, Bool, true, false, not, ◌||◌, List, [], ◌∷◌, ◌++◌, length, codes, Some, None, refl, sym, ap, ◌∙◌, subst, append-nil, arith}
+use Rattle.std.proofs.Common.{◌≡◌, ℕ, ◌<◌, ◌≤◌, Bool, true, false, not, ◌||◌, List, [], ◌∷◌, ◌++◌, length, codes, Some, None, refl, sym, ap, ◌∙◌, subst, append-nil, arith}
 use Rattle.dm_stream.specs.declared.tokens.Delim.TheVariants.{Paren}
 use Rattle.dm_stream.specs.Trees.{Trees}
 use Rattle.dm_read_paths.specs.declared.kind.Mode.{Mode}
 use Rattle.dm_read_paths.specs.declared.kind.Mode.TheVariants.{PathOnly}
-use Rattle.dm_ast.specs.Spelling.{Where, Marks, Spelling, ◌then◌, GroupAt, sees, sees_group, sees_word, sees_lifetime, sees_colons, lifetime, punct, flag, repeated, chain, items, range_of}
-use Rattle.dm_ast.specs.TypeGrammar.{sees_bound, sees_path_word, ends_bounds, for_lifetimes, path_spelled, segments, bound, trait_bound_spelled, bounds, some_bounds, more_bounds}
+use Rattle.dm_ast.specs.Spelling.{Where, Marks, Spelling, ◌then◌, GroupAt, sees, sees_group, sees_word, sees_lifetime, sees_colons, lifetime, punct, flag, repeated, chain, range_of}
+use Rattle.dm_ast.specs.TypeGrammar.{sees_bound, sees_path_word, for_lifetimes, path_spelled, segments, bound, trait_bound_spelled, bounds, some_bounds, more_bounds}
 use Rattle.dm_ast.specs.Tree.{Lifetimes, TypeTree, type_tree, path, no_self, some_self, BoundTree, outlives, implements, TraitBoundTree, trait_bound, BoundTrees, no_bounds, bound_then, bounds_of, PathTree, path_tree, SegmentTrees, no_segments, segment_then, segment}
-use Rattle.dm_ast.specs.Readers.{Parser, mapped, ◌and◌, read_flag, read_punct, read_lifetime, read_group, inside_at, read_list, read_chain}
+use Rattle.dm_ast.specs.Readers.{Parser, mapped, ◌and◌, read_flag, read_punct, read_lifetime, read_group, inside_at, read_chain}
 use Rattle.dm_ast.specs.PlainReaders.{read_for}
-use Rattle.dm_read_paths.specs.TypeReaders.{bounds_pair, outlives_of, implements_of, trait_of, one_bound, as_path, inner_path, read_plain_trait, read_trait, read_bound, read_bounds, read_some_bounds}
+use Rattle.dm_read_paths.specs.TypeReaders.{outlives_of, implements_of, trait_of, one_bound, as_path, inner_path, read_plain_trait, read_trait, read_bound, read_bounds, read_some_bounds}
 use Rattle.dm_read.proofs.Deciding.{Reader, Image, pair, decides_by, decides_test, reads_and, reads_flag}
 use Rattle.dm_read.proofs.Tokens.{reads_lifetime, lifetime_seen, reads_punct, punct_seen, word_seen}
 use Rattle.dm_read.proofs.Groups.{pair_seen, reads_group, group_seen}
-use Rattle.dm_read_paths.proofs.Listing.{reads_list, reads_chain}
+use Rattle.dm_read_paths.proofs.Listing.{reads_chain}
 use Rattle.dm_read_paths.proofs.PlainParts.{reads_by, reads_for}
 use Rattle.dm_read_paths.proofs.Sequences.{then_right, then_left, then_map, then_nothing}
-use Rattle.dm_read_paths.proofs.TypeLists.{bound_list, bounds_again, bounds_to, bounds_back}
+use Rattle.dm_read_paths.proofs.TypeLists.{reads_lists, bounds_listed, bound_lists}
 use Rattle.dm_read_paths.proofs.Paths.{or_first, or_second}
 use Rattle.dm_read_paths.proofs.TypeRules.{path_only, ReadsDeeper}
 
@@ -159,11 +159,7 @@ module _ (inner : Mode → Where → Parser TypeTree) (bound_path : Where → Pa
   -- ---- lists of bounds
 
   pub reads_bounds : Reader (λ r. bounds r.0 r.1 w) (read_bounds inner bound_path w)
-  reads_bounds =
-      reads_by bounds_pair (λ r. items w 43 ends_bounds (λ b. bound b w) r.0 r.1) (λ r. bounds r.0 r.1 w) (read_list w 43 ends_bounds (read_bound inner bound_path w))
-      (λ r ts o m s. bounds_to w r.1 r.0 ts o m s)
-      (λ y ts o m s. record { value = pair (bound_list y.0) y.1; is_it = sym (ap (λ x. pair x y.1) (bounds_again y.0)); spelled = bounds_back w y.1 y.0 ts o m s })
-      (reads_list w 43 ends_bounds (λ b. bound b w) (read_bound inner bound_path w) (λ b ts o m s. ap not (bound_seen w b ts o m s)) reads_bound)
+  reads_bounds = reads_lists (bound_lists w) (read_bound inner bound_path w) (λ b ts o m s. ap not (bound_seen w b ts o m s)) reads_bound
 
 -- ---- the bounds of a `dyn` or an `impl`
 
@@ -195,12 +191,12 @@ module _ (w : Where) where
   some_to [] ts o m s = s
   some_to (x ∷ xs) ts o m s = then_map (λ a b q. more_to xs a o b q) s
 
-  more_back : (xs : BoundTrees) (ts o : Trees) (m : Marks) → more_bounds xs false w ts o m → repeated (sees 43) BoundApart (bound_list xs) ts o m
+  more_back : (xs : BoundTrees) (ts o : Trees) (m : Marks) → more_bounds xs false w ts o m → repeated (sees 43) BoundApart (bounds_listed xs).list ts o m
   more_back no_bounds ts o m s = s
   more_back (bound_then x xs) ts o m s =
-      then_left (punct w 43) (bound x w) (repeated (sees 43) BoundApart (bound_list xs)) ts o m (then_map (λ mid k r. then_map (λ a b q. more_back xs a o b q) r) s.part)
+      then_left (punct w 43) (bound x w) (repeated (sees 43) BoundApart (bounds_listed xs).list) ts o m (then_map (λ mid k r. then_map (λ a b q. more_back xs a o b q) r) s.part)
 
-  some_back : (xs : BoundTrees) (ts o : Trees) (m : Marks) → some_bounds xs false w ts o m → chain (punct w 43) (sees 43) (λ b. bound b w) (bound_list xs) ts o m
+  some_back : (xs : BoundTrees) (ts o : Trees) (m : Marks) → some_bounds xs false w ts o m → chain (punct w 43) (sees 43) (λ b. bound b w) (bounds_listed xs).list ts o m
   some_back no_bounds ts o m s = s
   some_back (bound_then x xs) ts o m s = then_map (λ a b q. more_back xs a o b q) s
 
@@ -210,7 +206,7 @@ module _ (inner : Mode → Where → Parser TypeTree) (bound_path : Where → Pa
       reads_by one_bound (λ b. bound b w) (λ bs. some_bounds bs true w) (read_bound inner bound_path w) (one_to w) (one_back w) (reads_bound inner bound_path w paths)
   reads_some_bounds false =
       reads_by bounds_of (chain (punct w 43) (sees 43) (λ b. bound b w)) (λ bs. some_bounds bs false w) (read_chain w (read_punct 43 w) (sees 43) (read_bound inner bound_path w))
-      (some_to w) (λ y ts o m s. record { value = bound_list y; is_it = sym (bounds_again y); spelled = some_back w y ts o m s })
+      (some_to w) (λ y ts o m s. record { value = (bounds_listed y).list; is_it = sym (bounds_listed y).again; spelled = some_back w y ts o m s })
       (reads_chain w (punct w 43) (read_punct 43 w) (sees 43) (λ b. bound b w) (read_bound inner bound_path w) (punct_seen 43 w)
       (λ ts o m s. omega (arith, ap length s.there.marks)) (reads_punct 43 w) (reads_bound inner bound_path w paths))
 

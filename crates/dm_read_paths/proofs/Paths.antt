@@ -16,7 +16,7 @@ use Rattle.dm_read.proofs.Tokens.{reads_ident, punct_seen, both_true}
 use Rattle.dm_read.proofs.Groups.{reads_pair, pair_seen, reads_group, group_seen}
 use Rattle.dm_read_paths.proofs.Listing.{reads_chain}
 use Rattle.dm_read_paths.proofs.PlainParts.{decides_nothing, reads_by, reads_leading, reads_angles, leading_behind, colons_some}
-use Rattle.dm_read_paths.proofs.TypeLists.{chained_to, chained_back, segment_list, segments_again}
+use Rattle.dm_read_paths.proofs.TypeLists.{chained_to, chained_back, segments_listed}
 use Rattle.dm_read_paths.proofs.TypeRules.{ReadsDeeper, reads_types, reads_output}
 
 -- ---- arguments of a segment
@@ -98,12 +98,12 @@ module _ (inner : Mode → Where → Parser TypeTree) (bare : Bool) (w : Where) 
   reads_segment_trees : Reader Segments (read_segment_trees inner bare w)
   reads_segment_trees =
       reads_by segments_of (chain (colons w) sees_colons Segment) Segments (read_segment_list inner bare w)
-      (chained_to segments_of segment_list segments_again (colons w) sees_colons Segment Left Segments left_none (λ x xs. left_one x (segments_of xs)) none (λ x xs. one x (segments_of xs)))
+      (chained_to segments_of segments_listed (colons w) sees_colons Segment Left Segments left_none (λ x xs. left_one x (segments_of xs)) none (λ x xs. one x (segments_of xs)))
       (λ y ts o m s. record {
-        value = segment_list y;
-        is_it = sym (segments_again y);
+        value = (segments_listed y).list;
+        is_it = sym (segments_listed y).again;
         spelled =
-            chained_back segments_of segment_list segments_again (colons w) sees_colons Segment Left Segments left_none (λ x xs. left_one x (segments_of xs)) none
+            chained_back segments_of segments_listed (colons w) sees_colons Segment Left Segments left_none (λ x xs. left_one x (segments_of xs)) none
             (λ x xs. one x (segments_of xs)) y ts o m s;
       })
       reads_segment_list

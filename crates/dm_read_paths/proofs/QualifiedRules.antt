@@ -16,7 +16,7 @@ use Rattle.dm_read.proofs.Groups.{reads_pair}
 use Rattle.dm_read_paths.proofs.PlainParts.{reads_leading}
 use Rattle.dm_read_paths.proofs.NodeKinds.{kind_of}
 use Rattle.dm_read_paths.proofs.Sequences.{then_right, then_left, then_map, then_with}
-use Rattle.dm_read_paths.proofs.TypeLists.{segment_list, segments_again, segments_left_to, segments_left_back}
+use Rattle.dm_read_paths.proofs.TypeLists.{segments_listed, segments_left_to, segments_left_back}
 use Rattle.dm_read_paths.proofs.TypeRules.{ReadsDeeper, NodeAt, rule_by}
 use Rattle.dm_read_paths.proofs.Paths.{reads_segments}
 
@@ -54,7 +54,7 @@ closed_to : (w : Where) (ss : List SegmentTree) (ts o : Trees) (m : Marks) → C
 closed_to w [] ts o m s = absurd s.rest.rest.fact
 closed_to w (x ∷ xs) ts o m s = then_map (λ a b r. then_map (λ c d q. then_map (λ e f p. segments_left_to w xs e o f p) q) r) s
 
-closed_back : (w : Where) (ss : SegmentTrees) (ts o : Trees) (m : Marks) → ClosedTrees w ss ts o m → Closed w (segment_list ss) ts o m
+closed_back : (w : Where) (ss : SegmentTrees) (ts o : Trees) (m : Marks) → ClosedTrees w ss ts o m → Closed w (segments_listed ss).list ts o m
 closed_back w no_segments ts o m s = absurd s.rest.fact
 closed_back w (segment_then x xs) ts o m s = then_map (λ a b r. then_map (λ c d q. then_map (λ e f p. segments_left_back w xs e o f p) q) r) s
 
@@ -104,12 +104,12 @@ module _ (w : Where) where
   split zero (segment_then x ss) ts o m s =
       record {
         front = x ∷ [];
-        others = segment_list ss;
+        others = (segments_listed ss).list;
         count = refl;
-        again = ap (segment_then x) (segments_again ss);
+        again = ap (segment_then x) (segments_listed ss).again;
         there =
-            then_left (Item x) (More []) (Closed w (segment_list ss)) ts o m
-            (then_map (λ a b r. missing (λ others. sees_colons others ≡ false) (Closed w (segment_list ss)) a o b (angle_no_colons w a r.middle r.first_marks r.first) (closed_back w ss a o b r)) s);
+            then_left (Item x) (More []) (Closed w (segments_listed ss).list) ts o m
+            (then_map (λ a b r. missing (λ others. sees_colons others ≡ false) (Closed w (segments_listed ss).list) a o b (angle_no_colons w a r.middle r.first_marks r.first) (closed_back w ss a o b r)) s);
       }
   split (suc n) (segment_then x ss) ts o m s =
       let r : Split n ss s.rest.middle o s.rest.rest_marks = split n ss s.rest.middle o s.rest.rest_marks s.rest.rest in
@@ -169,10 +169,10 @@ module _ (w : Where) where
   zero_back t false ss ts o m s = let f = s.rest.rest.fact in absurd (cc)
   zero_back t true ss ts o m s =
       record {
-        value = pair t (pair None (segment_list ss));
-        is_it = sym (ap (λ x. path (some_self t zero) (path_tree true x)) (segments_again ss));
+        value = pair t (pair None (segments_listed ss).list);
+        is_it = sym (ap (λ x. path (some_self t zero) (path_tree true x)) (segments_listed ss).again);
         spelled = then_map (λ a b r.
-            then_map (λ c d q. missing (λ others. sees_word (codes "as") others ≡ false) (Closed w (segment_list ss)) c o d (angle_no_word w c q.part.middle q.part.first_marks q.part.first) (closed_back w ss c o d q.part)) r) s;
+            then_map (λ c d q. missing (λ others. sees_word (codes "as") others ≡ false) (Closed w (segments_listed ss).list) c o d (angle_no_word w c q.part.middle q.part.first_marks q.part.first) (closed_back w ss c o d q.part)) r) s;
       }
 
   suc_back : (t : TypeTree) (n : ℕ) (b : Bool) (ss : SegmentTrees) (ts o : Trees) (m : Marks) →

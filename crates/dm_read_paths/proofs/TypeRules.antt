@@ -1,20 +1,19 @@
 -- The rules of types: what their readers decide, where the readers of the types in them decide those.
-use Rattle.std.proofs.Common.{◌≡◌, ℕ, ◌<◌, Bool, true, false, Option, Some, None, refl, sym, ap, ◌∙◌}
+use Rattle.std.proofs.Common.{◌≡◌, ℕ, ◌<◌, Bool, true, false, Option, Some, None, refl, sym, ◌∙◌}
 use Rattle.dm_stream.specs.Trees.{Trees}
 use Rattle.dm_read_paths.specs.declared.kind.NodeKind.{NodeKind}
 use Rattle.dm_read_paths.specs.declared.kind.Mode.{Mode}
 use Rattle.dm_read_paths.specs.declared.kind.Mode.TheVariants.{Whole, Single, PathOnly}
-use Rattle.dm_ast.specs.Spelling.{Where, Marks, Spelling, Nothing, ◌then◌, Provided, Facing, RangedAt, at_end, sees_arrow, arrow, perhaps, items}
+use Rattle.dm_ast.specs.Spelling.{Where, Marks, Spelling, Nothing, ◌then◌, Provided, Facing, RangedAt, sees_arrow, arrow, perhaps}
 use Rattle.dm_ast.specs.TypeGrammar.{type_spelled, node, types, output, is_macro, sees_macro, path_spelled}
 use Rattle.dm_ast.specs.Tree.{TypeTree, type_tree, TypeNode, path, no_self, MaybeType, no_type, some_type, maybe_type}
-use Rattle.dm_ast.specs.Readers.{Parser, mapped, ◌next◌, read_perhaps, read_arrow, read_list}
-use Rattle.dm_read_paths.specs.TypeReaders.{node_kind, types_pair, read_types, read_output}
-use Rattle.dm_read.proofs.Deciding.{Decides, Reader, Image, pair, decides_by, reads_next, reads_perhaps}
+use Rattle.dm_ast.specs.Readers.{Parser, mapped, ◌next◌, read_perhaps, read_arrow}
+use Rattle.dm_read_paths.specs.TypeReaders.{node_kind, read_types, read_output}
+use Rattle.dm_read.proofs.Deciding.{Decides, Reader, Image, decides_by, reads_next, reads_perhaps}
 use Rattle.dm_read.proofs.Groups.{reads_pair, pair_seen}
-use Rattle.dm_read_paths.proofs.Listing.{reads_list}
 use Rattle.dm_read_paths.proofs.PlainParts.{reads_by}
 use Rattle.dm_read_paths.proofs.NodeKinds.{kind_of, kind_is}
-use Rattle.dm_read_paths.proofs.TypeLists.{type_list, types_again, types_to, types_back}
+use Rattle.dm_read_paths.proofs.TypeLists.{reads_lists, type_lists}
 use Rattle.dm_read_paths.proofs.TypeEnds.{type_goes_on}
 
 -- ---- what the readers of the types in a rule have to decide
@@ -40,11 +39,7 @@ module _ (inner : Mode → Where → Parser TypeTree) where
   -- ---- lists of types
 
   pub reads_types : (v : Where) → Reader (λ t. type_spelled t false v) (inner Whole v) → Reader (λ r. types r.0 r.1 v) (read_types inner v)
-  reads_types v h =
-      reads_by types_pair (λ r. items v 44 at_end (λ t. type_spelled t false v) r.0 r.1) (λ r. types r.0 r.1 v) (read_list v 44 at_end (inner Whole v))
-      (λ r ts o m s. types_to v r.1 r.0 ts o m s)
-      (λ y ts o m s. record { value = pair (type_list y.0) y.1; is_it = sym (ap (λ x. pair x y.1) (types_again y.0)); spelled = types_back v y.1 y.0 ts o m s })
-      (reads_list v 44 at_end (λ t. type_spelled t false v) (inner Whole v) (λ t ts o m s. type_goes_on t false v ts o m s) h)
+  reads_types v h = reads_lists (type_lists v) (inner Whole v) (λ t ts o m s. type_goes_on t false v ts o m s) h
 
   -- ---- `-> T`
 
