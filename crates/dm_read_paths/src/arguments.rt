@@ -20,6 +20,9 @@ use dm_read::list::Stop;
 use dm_read::words::is_name;
 use dm_stream::{Delim, Ident, Lifetime, Punctuated, Read, Seq};
 
+/// A name, and the arguments that may stand behind it.
+type Binding<'a> = (Ident<'a>, Option<Punctuated<GenericArgument<'a>>>);
+
 /// Whether a constant comes next.
 fn sees_constant(input: &Input<'_, '_>) -> bool
     ensures { result ≡ types.sees_constant input.now.trees }
@@ -31,9 +34,7 @@ fn sees_constant(input: &Input<'_, '_>) -> bool
 
 /// The name and the arguments of a segment.
 #[tactic(auto, using(crate::proofs::Bindings::binding_steps))]
-fn segment_binding<'a>(
-    found: PathSegment<'a>,
-) -> Option<(Ident<'a>, Option<Punctuated<GenericArgument<'a>>>)>
+fn segment_binding<'a>(found: PathSegment<'a>) -> Option<Binding<'a>>
     ensures { option_map binding_view result ≡ bindings.segment_binding (segment_view found.entry) }
 {
     let (ident, arguments) = found.into_parts();
@@ -58,9 +59,7 @@ fn segment_binding<'a>(
 
 /// The name and the arguments of one segment alone.
 #[tactic(auto, using(crate::proofs::Bindings::binding_steps))]
-fn segments_binding<'a>(
-    segments: Seq<PathSegment<'a>>,
-) -> Option<(Ident<'a>, Option<Punctuated<GenericArgument<'a>>>)>
+fn segments_binding<'a>(segments: Seq<PathSegment<'a>>) -> Option<Binding<'a>>
     ensures { option_map binding_view result ≡ bindings.segments_binding (segments_of (map segment_view segments.entry)) }
 {
     let mut all = segments;
@@ -75,7 +74,7 @@ fn segments_binding<'a>(
 
 /// The name and the arguments that a path is.
 #[tactic(auto, using(crate::proofs::Bindings::binding_steps))]
-fn path_binding<'a>(found: Path<'a>) -> Option<(Ident<'a>, Option<Punctuated<GenericArgument<'a>>>)>
+fn path_binding<'a>(found: Path<'a>) -> Option<Binding<'a>>
     ensures { option_map binding_view result ≡ bindings.path_binding (path_view found.entry) }
 {
     let Path {
@@ -90,7 +89,7 @@ fn path_binding<'a>(found: Path<'a>) -> Option<(Ident<'a>, Option<Punctuated<Gen
 
 /// The name and the arguments that a type is.
 #[tactic(auto, using(crate::proofs::Bindings::alone_steps))]
-fn binding_of<'a>(found: Ty<'a>) -> Option<(Ident<'a>, Option<Punctuated<GenericArgument<'a>>>)>
+fn binding_of<'a>(found: Ty<'a>) -> Option<Binding<'a>>
     ensures { option_map binding_view result ≡ types.binding_of (ty_view found.entry) }
 {
     match path_alone(found) {
@@ -125,10 +124,7 @@ fn constant_argument<'a>(found: ConstArg<'a>) -> GenericArgument<'a>
 
 /// A name, `=` and a type.
 #[tactic(auto, using(dm_ast::proofs::View::view_steps))]
-fn type_value<'a>(
-    binding: (Ident<'a>, Option<Punctuated<GenericArgument<'a>>>),
-    found: Ty<'a>,
-) -> GenericArgument<'a>
+fn type_value<'a>(binding: Binding<'a>, found: Ty<'a>) -> GenericArgument<'a>
     ensures { argument_view result ≡ types.type_value (binding_view binding.entry) (ty_view found.entry) }
 {
     let (name, arguments) = binding;
@@ -137,10 +133,7 @@ fn type_value<'a>(
 
 /// A name, `=` and a constant.
 #[tactic(auto, using(dm_ast::proofs::View::view_steps))]
-fn constant_value<'a>(
-    binding: (Ident<'a>, Option<Punctuated<GenericArgument<'a>>>),
-    found: ConstArg<'a>,
-) -> GenericArgument<'a>
+fn constant_value<'a>(binding: Binding<'a>, found: ConstArg<'a>) -> GenericArgument<'a>
     ensures { argument_view result ≡ types.constant_value (binding_view binding.entry) found.entry }
 {
     let (name, arguments) = binding;
@@ -149,10 +142,7 @@ fn constant_value<'a>(
 
 /// A name, `:` and bounds.
 #[tactic(auto, using(dm_ast::proofs::View::view_steps))]
-fn constraint_of<'a>(
-    binding: (Ident<'a>, Option<Punctuated<GenericArgument<'a>>>),
-    found: Punctuated<Bound<'a>>,
-) -> GenericArgument<'a>
+fn constraint_of<'a>(binding: Binding<'a>, found: Punctuated<Bound<'a>>) -> GenericArgument<'a>
     ensures { argument_view result ≡ types.constraint_of (binding_view binding.entry) (types.bounds_pair (list_view bound_view found.entry)) }
 {
     let (name, arguments) = binding;
@@ -161,7 +151,7 @@ fn constraint_of<'a>(
 
 /// A constant that follows a name and `=`.
 fn constant_binding<'a>(
-    binding: (Ident<'a>, Option<Punctuated<GenericArgument<'a>>>),
+    binding: Binding<'a>,
     input: &mut Input<'_, 'a>,
 ) -> Read<GenericArgument<'a>>
     ensures { Reads argument_view (types.read_constant_value (binding_view binding.entry)) input.old result input.new }
@@ -174,7 +164,7 @@ impl<'a, F: for<'t> Fn(&mut Input<'t, 'a>, usize, Mode) -> Read<Ty<'a>>> Grammar
     /// A type that follows a name and `=`.
     fn type_binding(
         &self,
-        binding: (Ident<'a>, Option<Punctuated<GenericArgument<'a>>>),
+        binding: Binding<'a>,
         input: &mut Input<'_, 'a>,
     ) -> Read<GenericArgument<'a>>
         requires { Nests self.now.depth (F.pre self.now.ty) (F.post self.now.ty) }
@@ -187,7 +177,7 @@ impl<'a, F: for<'t> Fn(&mut Input<'t, 'a>, usize, Mode) -> Read<Ty<'a>>> Grammar
     /// What follows a name and `=`.
     fn binding_value(
         &self,
-        binding: (Ident<'a>, Option<Punctuated<GenericArgument<'a>>>),
+        binding: Binding<'a>,
         input: &mut Input<'_, 'a>,
     ) -> Read<GenericArgument<'a>>
         requires { Nests self.now.depth (F.pre self.now.ty) (F.post self.now.ty) }
@@ -202,7 +192,7 @@ impl<'a, F: for<'t> Fn(&mut Input<'t, 'a>, usize, Mode) -> Read<Ty<'a>>> Grammar
     /// `=` and a value.
     fn behind_equals(
         &self,
-        binding: (Ident<'a>, Option<Punctuated<GenericArgument<'a>>>),
+        binding: Binding<'a>,
         input: &mut Input<'_, 'a>,
     ) -> Read<GenericArgument<'a>>
         requires { Nests self.now.depth (F.pre self.now.ty) (F.post self.now.ty) }
@@ -224,7 +214,7 @@ impl<'a, F: for<'t> Fn(&mut Input<'t, 'a>, usize, Mode) -> Read<Ty<'a>>> Grammar
     /// A name, `:` and bounds.
     fn constraint(
         &self,
-        binding: (Ident<'a>, Option<Punctuated<GenericArgument<'a>>>),
+        binding: Binding<'a>,
         input: &mut Input<'_, 'a>,
     ) -> Read<GenericArgument<'a>>
         requires { Nests self.now.depth (F.pre self.now.ty) (F.post self.now.ty) }
@@ -237,7 +227,7 @@ impl<'a, F: for<'t> Fn(&mut Input<'t, 'a>, usize, Mode) -> Read<Ty<'a>>> Grammar
     /// What follows a name.
     fn behind_name(
         &self,
-        binding: (Ident<'a>, Option<Punctuated<GenericArgument<'a>>>),
+        binding: Binding<'a>,
         input: &mut Input<'_, 'a>,
     ) -> Read<GenericArgument<'a>>
         requires { Nests self.now.depth (F.pre self.now.ty) (F.post self.now.ty) }
@@ -252,7 +242,7 @@ impl<'a, F: for<'t> Fn(&mut Input<'t, 'a>, usize, Mode) -> Read<Ty<'a>>> Grammar
     /// What follows a type that may be a name.
     fn behind_binding(
         &self,
-        binding: Option<(Ident<'a>, Option<Punctuated<GenericArgument<'a>>>)>,
+        binding: Option<Binding<'a>>,
         input: &mut Input<'_, 'a>,
     ) -> Read<GenericArgument<'a>>
         requires { Nests self.now.depth (F.pre self.now.ty) (F.post self.now.ty) }

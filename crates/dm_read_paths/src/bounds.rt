@@ -18,6 +18,9 @@ use dm_read::list::{Link, Stop};
 use dm_stream::{Delim, Lifetime, Made, Punctuated, Read, Seq};
 use std::alloc::Global;
 
+/// Lifetimes of a `for`, and a path.
+type BoundPath<'a> = (Option<Punctuated<Lifetime<'a>>>, Path<'a>);
+
 /// A path without segments.
 #[tactic(auto, using(dm_ast::proofs::View::view_steps))]
 fn no_path<'a>(alloc: Global) -> Path<'a>
@@ -105,10 +108,7 @@ impl<'a, F: for<'t> Fn(&mut Input<'t, 'a>, usize, Mode) -> Read<Ty<'a>>> Grammar
     }
 
     /// Lifetimes of a `for`, and a path.
-    fn bound_path(
-        &self,
-        input: &mut Input<'_, 'a>,
-    ) -> Read<(Option<Punctuated<Lifetime<'a>>>, Path<'a>)>
+    fn bound_path(&self, input: &mut Input<'_, 'a>) -> Read<BoundPath<'a>>
         requires { Nests self.now.depth (F.pre self.now.ty) (F.post self.now.ty) }
         ensures { Reads (λ v. (v.0, path_view v.1)) (types.read_bound_path (read_type self.now.depth) (types.inner_path (read_type self.now.depth))) input.old result input.new }
     {
@@ -117,10 +117,7 @@ impl<'a, F: for<'t> Fn(&mut Input<'t, 'a>, usize, Mode) -> Read<Ty<'a>>> Grammar
     }
 
     /// A trait as a bound, without parentheses.
-    fn plain_trait(
-        &self,
-        input: &mut Input<'_, 'a>,
-    ) -> Read<(bool, (Option<Punctuated<Lifetime<'a>>>, Path<'a>))>
+    fn plain_trait(&self, input: &mut Input<'_, 'a>) -> Read<(bool, BoundPath<'a>)>
         requires { Nests self.now.depth (F.pre self.now.ty) (F.post self.now.ty) }
         ensures { Reads (λ v. (v.0, (v.1.0, path_view v.1.1))) (types.read_plain_trait (read_type self.now.depth) (types.inner_path (read_type self.now.depth))) input.old result input.new }
     {
@@ -129,10 +126,7 @@ impl<'a, F: for<'t> Fn(&mut Input<'t, 'a>, usize, Mode) -> Read<Ty<'a>>> Grammar
     }
 
     /// A trait in parentheses.
-    fn enclosed_trait(
-        &self,
-        input: &mut Input<'_, 'a>,
-    ) -> Read<(bool, (Option<Punctuated<Lifetime<'a>>>, Path<'a>))>
+    fn enclosed_trait(&self, input: &mut Input<'_, 'a>) -> Read<(bool, BoundPath<'a>)>
         requires { Nests self.now.depth (F.pre self.now.ty) (F.post self.now.ty) }
         ensures { Reads (λ v. (v.0, (v.1.0, path_view v.1.1))) (types.read_enclosed_trait (read_type self.now.depth) (types.inner_path (read_type self.now.depth))) input.old result input.new }
     {
