@@ -17,7 +17,16 @@ use dm_input::join::{ended, joined};
 use dm_input::list::Rule;
 use dm_read::list::Stop;
 use dm_read_types::entry::ty;
-use dm_stream::{Error, Lifetime, Punctuated, Read};
+use dm_stream::{Lifetime, Punctuated, Read};
+
+/// Whether `<` and `>` stand there, and the parameters.
+pub type AngledParams<'a> = (bool, Punctuated<GenericParam<'a>>);
+
+/// The predicates of a `where` clause, where one stands.
+pub type Clause<'a> = Option<Punctuated<WherePredicate<'a>>>;
+
+/// A type and its bounds.
+type BoundedType<'a> = (Ty<'a>, Punctuated<Bound<'a>>);
 
 /// Parameters with commas between, up to `>`.
 fn params<'a>(input: &mut Input<'_, 'a>) -> Read<Punctuated<GenericParam<'a>>>
@@ -56,7 +65,7 @@ fn angled<'a>(input: &mut Input<'_, 'a>) -> Read<Punctuated<GenericParam<'a>>>
 }
 
 /// Whether `<` comes next, and the parameters.
-pub fn generics<'a>(input: &mut Input<'_, 'a>) -> Read<(bool, Punctuated<GenericParam<'a>>)>
+pub fn generics<'a>(input: &mut Input<'_, 'a>) -> Read<AngledParams<'a>>
     ensures { Reads angled_view (spec.read_generics parts) input.old result input.new }
 {
     if !input.sees('<') {
@@ -82,7 +91,7 @@ fn lifetime_predicate<'a>(input: &mut Input<'_, 'a>) -> Read<WherePredicate<'a>>
 }
 
 /// A type, `:` and bounds.
-fn bounded<'a>(input: &mut Input<'_, 'a>) -> Read<(Ty<'a>, Punctuated<Bound<'a>>)>
+fn bounded<'a>(input: &mut Input<'_, 'a>) -> Read<BoundedType<'a>>
     ensures { Reads (both_views ty_view (tree.listed bound_view)) rules.read_bounded input.old result input.new }
 {
     let found = ty(input)?;
@@ -92,13 +101,7 @@ fn bounded<'a>(input: &mut Input<'_, 'a>) -> Read<(Ty<'a>, Punctuated<Bound<'a>>
 /// `for<..>` where it comes next, a type and bounds.
 fn predicate_parts<'a>(
     input: &mut Input<'_, 'a>,
-) -> Result<
-    (
-        Option<Punctuated<Lifetime<'a>>>,
-        (Ty<'a>, Punctuated<Bound<'a>>),
-    ),
-    Error,
->
+) -> Read<(Option<Punctuated<Lifetime<'a>>>, BoundedType<'a>)>
     ensures { Reads (second_view (both_views ty_view (tree.listed bound_view))) rules.read_predicate_parts input.old result input.new }
 {
     let lifetimes = input.for_lifetimes()?;
@@ -163,7 +166,7 @@ fn some_where<'a>(input: &mut Input<'_, 'a>) -> Read<Punctuated<WherePredicate<'
 }
 
 /// The `where` clause where one comes next.
-pub fn where_clause<'a>(input: &mut Input<'_, 'a>) -> Read<Option<Punctuated<WherePredicate<'a>>>>
+pub fn where_clause<'a>(input: &mut Input<'_, 'a>) -> Read<Clause<'a>>
     ensures { Reads clause_view (spec.read_where parts) input.old result input.new }
 {
     if !input.sees_word("where") {

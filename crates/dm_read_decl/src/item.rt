@@ -12,16 +12,16 @@ ghost use Rattle.dm_input.specs.Inputs.{Reads};
 
 use crate::field::{FieldRule, fields, slots};
 use crate::forms::enclosed;
-use crate::generics::{generics, where_clause};
+use crate::generics::{AngledParams, Clause, generics, where_clause};
 use crate::variant::VariantRule;
-use dm_ast::{
-    Data, DataEnum, DataStruct, DataUnion, Field, Fields, GenericParam, Generics, Variant,
-    WherePredicate,
-};
+use dm_ast::{Data, DataEnum, DataStruct, DataUnion, Field, Fields, Generics, Variant};
 use dm_input::Input;
 use dm_input::join::{ended, joined};
 use dm_input::list::Rule;
-use dm_stream::{Delim, Error, Ident, Punctuated, Read, Span};
+use dm_stream::{Delim, Ident, Punctuated, Read, Span};
+
+/// A shape, its name and its generics.
+type NamedShape<'a> = (Data<'a>, (Ident<'a>, Generics<'a>));
 
 /// The range of a word.
 #[tactic(auto, using(crate::proofs::WordRanges::word_range))]
@@ -37,7 +37,7 @@ fn word_at<'a>(word: &str, input: &mut Input<'_, 'a>) -> Read<Span>
 fn behind_name<'a, R: Rule<'a>>(
     rule: &R,
     input: &mut Input<'_, 'a>,
-) -> Read<((bool, Punctuated<GenericParam<'a>>), R::Part)>
+) -> Read<(AngledParams<'a>, R::Part)>
     requires { R.usable rule.now }
     ensures { Reads (both_views views.angled_view R.view) (rules.behind_name (R.reader rule.now)) input.old result input.new }
 {
@@ -49,7 +49,7 @@ fn behind_name<'a, R: Rule<'a>>(
 fn behind_word<'a, R: Rule<'a>>(
     rule: &R,
     input: &mut Input<'_, 'a>,
-) -> Read<(Ident<'a>, ((bool, Punctuated<GenericParam<'a>>), R::Part))>
+) -> Read<(Ident<'a>, (AngledParams<'a>, R::Part))>
     requires { R.usable rule.now }
     ensures { Reads (second_view (both_views views.angled_view R.view)) (rules.behind_word (R.reader rule.now)) input.old result input.new }
 {
@@ -62,13 +62,7 @@ fn headed<'a, R: Rule<'a>>(
     rule: &R,
     word: &str,
     input: &mut Input<'_, 'a>,
-) -> Result<
-    (
-        Span,
-        (Ident<'a>, ((bool, Punctuated<GenericParam<'a>>), R::Part)),
-    ),
-    Error,
->
+) -> Read<(Span, (Ident<'a>, (AngledParams<'a>, R::Part)))>
     requires { R.usable rule.now }
     ensures { Reads (second_view (second_view (both_views views.angled_view R.view))) (rules.headed word.now (R.reader rule.now)) input.old result input.new }
 {
@@ -80,7 +74,7 @@ fn headed<'a, R: Rule<'a>>(
 fn braces<'a, R: Rule<'a>>(
     item: &R,
     input: &mut Input<'_, 'a>,
-) -> Read<(Option<Punctuated<WherePredicate<'a>>>, Punctuated<R::Part>)>
+) -> Read<(Clause<'a>, Punctuated<R::Part>)>
     requires { R.usable item.now }
     ensures { Reads (both_views views.clause_view (tree.listed R.view)) (rules.read_braces (R.reader item.now)) input.old result input.new }
 {
@@ -101,7 +95,7 @@ impl<'a, R: Rule<'a>> Rule<'a> for BracesRule<R> {
     ghost use Rattle.dm_read_decl.specs.Rules as rules;
     ghost use Rattle.dm_read_decl.specs.ShapeViews.{both_views, clause_view};
 
-    type Part = (Option<Punctuated<WherePredicate<'a>>>, Punctuated<R::Part>);
+    type Part = (Clause<'a>, Punctuated<R::Part>);
 
     ghost Tree = { Option (Listed PredicateTree) × Listed R.Tree };
 
@@ -111,16 +105,13 @@ impl<'a, R: Rule<'a>> Rule<'a> for BracesRule<R> {
 
     ghost reader = { λ r w. rules.read_braces (R.reader r.item) w };
 
-    fn read(
-        &self,
-        input: &mut Input<'_, 'a>,
-    ) -> Read<(Option<Punctuated<WherePredicate<'a>>>, Punctuated<R::Part>)> {
+    fn read(&self, input: &mut Input<'_, 'a>) -> Read<(Clause<'a>, Punctuated<R::Part>)> {
         braces(&self.item, input)
     }
 }
 
 /// An enum, its name and its generics.
-fn enum_item<'a>(input: &mut Input<'_, 'a>) -> Read<(Data<'a>, (Ident<'a>, Generics<'a>))>
+fn enum_item<'a>(input: &mut Input<'_, 'a>) -> Read<NamedShape<'a>>
     ensures { Reads views.shaped_view (spec.read_braced parts (codes "enum") (spec.read_variants parts) tree.enum_shape) input.old result input.new }
 {
     let rule = BracesRule { item: VariantRule };
@@ -136,7 +127,7 @@ fn enum_item<'a>(input: &mut Input<'_, 'a>) -> Read<(Data<'a>, (Ident<'a>, Gener
 }
 
 /// A union, its name and its generics.
-fn union_item<'a>(input: &mut Input<'_, 'a>) -> Read<(Data<'a>, (Ident<'a>, Generics<'a>))>
+fn union_item<'a>(input: &mut Input<'_, 'a>) -> Read<NamedShape<'a>>
     ensures { Reads views.shaped_view (spec.read_braced parts (codes "union") (spec.read_fields parts) tree.union_shape) input.old result input.new }
 {
     let rule = BracesRule { item: FieldRule };
@@ -163,7 +154,7 @@ fn named_or_unit<'a>(input: &mut Input<'_, 'a>) -> Read<Fields<'a>>
 }
 
 /// A `where` clause where one comes next, and the `;` behind it.
-fn ended_where<'a>(input: &mut Input<'_, 'a>) -> Read<Option<Punctuated<WherePredicate<'a>>>>
+fn ended_where<'a>(input: &mut Input<'_, 'a>) -> Read<Clause<'a>>
     ensures { Reads views.clause_view rules.read_ended_where input.old result input.new }
 {
     let found = where_clause(input)?;
@@ -171,15 +162,7 @@ fn ended_where<'a>(input: &mut Input<'_, 'a>) -> Read<Option<Punctuated<WherePre
 }
 
 /// The fields of a struct in parentheses, and what stands behind them.
-fn slots_body<'a>(
-    input: &mut Input<'_, 'a>,
-) -> Result<
-    (
-        Punctuated<Field<'a>>,
-        Option<Punctuated<WherePredicate<'a>>>,
-    ),
-    Error,
->
+fn slots_body<'a>(input: &mut Input<'_, 'a>) -> Read<(Punctuated<Field<'a>>, Clause<'a>)>
     ensures { Reads (both_views (tree.listed tree.field_view) views.clause_view) rules.read_slots_body input.old result input.new }
 {
     let found = slots(input)?;
@@ -187,9 +170,7 @@ fn slots_body<'a>(
 }
 
 /// A `where` clause where one comes next, and the fields in braces or `;`.
-fn other_body<'a>(
-    input: &mut Input<'_, 'a>,
-) -> Read<(Option<Punctuated<WherePredicate<'a>>>, Fields<'a>)>
+fn other_body<'a>(input: &mut Input<'_, 'a>) -> Read<(Clause<'a>, Fields<'a>)>
     ensures { Reads (both_views views.clause_view tree.fields_view) rules.read_other_body input.old result input.new }
 {
     let clause = where_clause(input)?;
@@ -207,7 +188,7 @@ impl<'a> Rule<'a> for StructBody {
     ghost use Rattle.dm_read_paths.specs.WholeReaders.{parts};
     ghost use Rattle.dm_read_decl.specs.ShapeViews.{struct_view};
 
-    type Part = (Fields<'a>, Option<Punctuated<WherePredicate<'a>>>);
+    type Part = (Fields<'a>, Clause<'a>);
 
     ghost Tree = { FieldsTree × Option (Listed PredicateTree) };
 
@@ -217,10 +198,7 @@ impl<'a> Rule<'a> for StructBody {
 
     ghost reader = { λ _ w. spec.read_struct_body parts w };
 
-    fn read(
-        &self,
-        input: &mut Input<'_, 'a>,
-    ) -> Read<(Fields<'a>, Option<Punctuated<WherePredicate<'a>>>)> {
+    fn read(&self, input: &mut Input<'_, 'a>) -> Read<(Fields<'a>, Clause<'a>)> {
         if input.sees_group(Delim::Paren) {
             let (found, clause) = slots_body(input)?;
             return Ok((Fields::Unnamed(found), clause));
@@ -231,7 +209,7 @@ impl<'a> Rule<'a> for StructBody {
 }
 
 /// A struct, its name and its generics.
-fn struct_item<'a>(input: &mut Input<'_, 'a>) -> Read<(Data<'a>, (Ident<'a>, Generics<'a>))>
+fn struct_item<'a>(input: &mut Input<'_, 'a>) -> Read<NamedShape<'a>>
     ensures { Reads views.shaped_view (spec.read_struct parts) input.old result input.new }
 {
     let (word, (ident, ((angled, params), (fields, where_clause)))) = headed(
@@ -248,7 +226,7 @@ fn struct_item<'a>(input: &mut Input<'_, 'a>) -> Read<(Data<'a>, (Ident<'a>, Gen
 }
 
 /// A struct, an enum or a union, its name and its generics.
-fn shape<'a>(input: &mut Input<'_, 'a>) -> Read<(Data<'a>, (Ident<'a>, Generics<'a>))>
+fn shape<'a>(input: &mut Input<'_, 'a>) -> Read<NamedShape<'a>>
     ensures { Reads views.shaped_view (spec.read_shape parts) input.old result input.new }
 {
     if input.sees_word("struct") {
@@ -270,7 +248,7 @@ impl<'a> Rule<'a> for ShapeRule {
     ghost use Rattle.dm_read_paths.specs.WholeReaders.{parts};
     ghost use Rattle.dm_read_decl.specs.ShapeViews.{shaped_view};
 
-    type Part = (Data<'a>, (Ident<'a>, Generics<'a>));
+    type Part = NamedShape<'a>;
 
     ghost Tree = { Shaped };
 
@@ -280,7 +258,7 @@ impl<'a> Rule<'a> for ShapeRule {
 
     ghost reader = { λ _ w. spec.read_shape parts w };
 
-    fn read(&self, input: &mut Input<'_, 'a>) -> Read<(Data<'a>, (Ident<'a>, Generics<'a>))> {
+    fn read(&self, input: &mut Input<'_, 'a>) -> Read<NamedShape<'a>> {
         shape(input)
     }
 }

@@ -16,6 +16,12 @@ use dm_input::list::Rule;
 use dm_read_types::entry::{bounds, ty};
 use dm_stream::{Ident, Lifetime, Punctuated, Read, Seq};
 
+/// The type of a constant parameter, and its value.
+type TypeAndValue<'a> = (Ty<'a>, Option<ConstArg<'a>>);
+
+/// The bounds of a type parameter, and the type that it stands for by itself.
+type BoundsAndDefault<'a> = (Option<Punctuated<Bound<'a>>>, Option<Ty<'a>>);
+
 /// `:` and the bounds of a lifetime.
 pub fn some_outlived<'a>(input: &mut Input<'_, 'a>) -> Read<Punctuated<Lifetime<'a>>>
     ensures { Reads (λ v. v) rules.read_some_outlived input.old result input.new }
@@ -71,7 +77,7 @@ fn default_value<'a>(input: &mut Input<'_, 'a>) -> Read<Option<ConstArg<'a>>>
 }
 
 /// The type of a constant parameter, and its value.
-fn type_value<'a>(input: &mut Input<'_, 'a>) -> Read<(Ty<'a>, Option<ConstArg<'a>>)>
+fn type_value<'a>(input: &mut Input<'_, 'a>) -> Read<TypeAndValue<'a>>
     ensures { Reads value_view rules.read_type_value input.old result input.new }
 {
     let found = ty(input)?;
@@ -79,7 +85,7 @@ fn type_value<'a>(input: &mut Input<'_, 'a>) -> Read<(Ty<'a>, Option<ConstArg<'a
 }
 
 /// `:`, the type of a constant parameter, and its value.
-fn typed_value<'a>(input: &mut Input<'_, 'a>) -> Read<(Ty<'a>, Option<ConstArg<'a>>)>
+fn typed_value<'a>(input: &mut Input<'_, 'a>) -> Read<TypeAndValue<'a>>
     ensures { Reads value_view rules.read_typed_value input.old result input.new }
 {
     input.colon()?;
@@ -87,7 +93,7 @@ fn typed_value<'a>(input: &mut Input<'_, 'a>) -> Read<(Ty<'a>, Option<ConstArg<'
 }
 
 /// A name, its type, and its value.
-fn named_value<'a>(input: &mut Input<'_, 'a>) -> Read<(Ident<'a>, (Ty<'a>, Option<ConstArg<'a>>))>
+fn named_value<'a>(input: &mut Input<'_, 'a>) -> Read<(Ident<'a>, TypeAndValue<'a>)>
     ensures { Reads (second_view value_view) rules.read_named_value input.old result input.new }
 {
     let name = input.name()?;
@@ -95,7 +101,7 @@ fn named_value<'a>(input: &mut Input<'_, 'a>) -> Read<(Ident<'a>, (Ty<'a>, Optio
 }
 
 /// `const`, a name, its type, and its value.
-fn const_parts<'a>(input: &mut Input<'_, 'a>) -> Read<(Ident<'a>, (Ty<'a>, Option<ConstArg<'a>>))>
+fn const_parts<'a>(input: &mut Input<'_, 'a>) -> Read<(Ident<'a>, TypeAndValue<'a>)>
     ensures { Reads (second_view value_view) rules.read_const_parts input.old result input.new }
 {
     input.word("const")?;
@@ -145,9 +151,7 @@ fn default_type<'a>(input: &mut Input<'_, 'a>) -> Read<Option<Ty<'a>>>
 }
 
 /// The bounds of a type parameter, and the type that it stands for by itself.
-fn bounds_default<'a>(
-    input: &mut Input<'_, 'a>,
-) -> Read<(Option<Punctuated<Bound<'a>>>, Option<Ty<'a>>)>
+fn bounds_default<'a>(input: &mut Input<'_, 'a>) -> Read<BoundsAndDefault<'a>>
     ensures { Reads bounds_default_view rules.read_bounds_default input.old result input.new }
 {
     let bounds = maybe_bounds(input)?;
@@ -155,9 +159,7 @@ fn bounds_default<'a>(
 }
 
 /// A name, bounds, and the type that the parameter stands for by itself.
-fn type_parts<'a>(
-    input: &mut Input<'_, 'a>,
-) -> Read<(Ident<'a>, (Option<Punctuated<Bound<'a>>>, Option<Ty<'a>>))>
+fn type_parts<'a>(input: &mut Input<'_, 'a>) -> Read<(Ident<'a>, BoundsAndDefault<'a>)>
     ensures { Reads (second_view bounds_default_view) rules.read_type_parts input.old result input.new }
 {
     let name = input.name()?;

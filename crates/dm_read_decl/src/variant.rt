@@ -16,6 +16,9 @@ use dm_input::join::joined;
 use dm_input::list::Rule;
 use dm_stream::{Ident, Read};
 
+/// The fields and the discriminant of a variant.
+type VariantBody<'a> = (Fields<'a>, Option<Opaque<'a>>);
+
 /// The discriminant where `=` comes next.
 fn discriminant<'a>(input: &mut Input<'_, 'a>) -> Read<Option<Opaque<'a>>>
     ensures { Reads (λ o. o) (spec.read_discriminant parts) input.old result input.new }
@@ -28,7 +31,7 @@ fn discriminant<'a>(input: &mut Input<'_, 'a>) -> Read<Option<Opaque<'a>>>
 }
 
 /// The fields and the discriminant.
-fn body<'a>(input: &mut Input<'_, 'a>) -> Read<(Fields<'a>, Option<Opaque<'a>>)>
+fn body<'a>(input: &mut Input<'_, 'a>) -> Read<VariantBody<'a>>
     ensures { Reads body_view rules.read_body input.old result input.new }
 {
     let fields = variant_fields(input)?;
@@ -47,7 +50,7 @@ impl<'a> Rule<'a> for NamedBody {
     ghost use Rattle.dm_read_decl.specs.Rules as rules;
     ghost use Rattle.dm_read_decl.specs.ShapeViews.{second_view, body_view};
 
-    type Part = (Ident<'a>, (Fields<'a>, Option<Opaque<'a>>));
+    type Part = (Ident<'a>, VariantBody<'a>);
 
     ghost Tree = { Ident × (FieldsTree × Option Opaque) };
 
@@ -57,10 +60,7 @@ impl<'a> Rule<'a> for NamedBody {
 
     ghost reader = { λ _ w. rules.read_named_body w };
 
-    fn read(
-        &self,
-        input: &mut Input<'_, 'a>,
-    ) -> Read<(Ident<'a>, (Fields<'a>, Option<Opaque<'a>>))> {
+    fn read(&self, input: &mut Input<'_, 'a>) -> Read<(Ident<'a>, VariantBody<'a>)> {
         let name = input.name()?;
         joined(name, body(input))
     }
