@@ -1,5 +1,6 @@
 -- How a search among a list's items goes on, and what it answers of a value by its view.
 use Rattle.std.proofs.Common.{◌≡◌, ℕ, ◌+◌, ◌<◌, ◌≤◌, Bool, true, false, ◌||◌, List, [], ◌∷◌, length, get_or, drop, sym, ap, ◌∙◌}
+use Rattle.std.specs.List.{list_any}
 use Rattle.std.proofs.lemmas.List.{drop_more, drop_all}
 
 -- ---- one search or another
@@ -40,3 +41,9 @@ goes_on p s step xs x i below is kept e = rest_is p s step xs x i below is kept 
 
 pub not_found : {X : Type 0} (s : List X → Bool) (xs : List X) (i : ℕ) → length xs ≤ i → s [] ≡ false → s xs ≡ s (drop i xs) → false ≡ s xs
 not_found s xs i past none kept = sym (kept ∙ ap s (drop_all i xs past) ∙ none)
+
+-- whether one of a list holds something, as a search through the list
+pub any_is : {X : Type 0} (p : X → Bool) (s : List X → Bool) → s [] ≡ false → ((y : X) (ys : List X) → s (y ∷ ys) ≡ (p y || s ys)) →
+    (xs : List X) → list_any p xs ≡ s xs
+any_is p s none step [] = sym none
+any_is p s none step (x ∷ xs) = ap (λ b. p x || b) (any_is p s none step xs) ∙ sym (step x xs)

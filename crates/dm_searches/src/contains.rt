@@ -6,6 +6,7 @@ ghost use Rattle.dm_ast.specs.Tree as tree;
 ghost use Rattle.dm_searches.specs.Contains as spec;
 ghost use Rattle.dm_searches.specs.Parameters.{lent};
 
+use crate::holds::{Holds, any_holds};
 use crate::names::{bare_first, some_named};
 use dm_ast::{
     BareFn, Bound, FnArg, GenericArgument, Path, PathArguments, PathSegment, QSelf, Ty, TyNode,
@@ -22,7 +23,7 @@ pub fn contains_generics(ty: &Ty<'_>, params: &[&Ident<'_>]) -> bool
     ensures { result ≡ spec.contains (lent params.now) (tree.ty_view ty.now) }
 {
     for item in params {
-        if in_type(ty, item.name.as_str()) {
+        if ty.holds(item.name.as_str()) {
             return true;
         }
     }
@@ -48,7 +49,7 @@ pub fn contains_any(params: &Seq<&Ident<'_>>, ty: &Ty<'_>) -> bool
     ensures { result ≡ spec.contains (lent params.now) (tree.ty_view ty.now) }
 {
     for item in params.iter() {
-        if in_type(ty, item.name.as_str()) {
+        if ty.holds(item.name.as_str()) {
             return true;
         }
     }
@@ -68,11 +69,13 @@ pub fn path_contains_any(params: &Seq<&Ident<'_>>, path: &Path<'_>) -> bool
     false
 }
 
-#[cycle(contains)]
-fn in_type(ty: &Ty<'_>, name: &str) -> bool
-    ensures { result ≡ spec.in_type name.now (tree.ty_view ty.now) }
-{
-    in_node(&ty.node, name)
+impl<'n> Holds<&'n str> for Ty<'_> {
+    ghost held = { λ n t. spec.in_type n.now (tree.ty_view t) };
+
+    #[cycle(contains)]
+    fn holds(&self, name: &'n str) -> bool {
+        in_node(&self.node, name)
+    }
 }
 
 #[cycle(contains)]
@@ -80,14 +83,14 @@ fn in_node(node: &TyNode<'_>, name: &str) -> bool
     ensures { result ≡ spec.in_node name.now (tree.node_view node.now) }
 {
     match node {
-        TyNode::Paren(inner) => in_type(inner, name),
-        TyNode::Tuple(all) => in_types(all.items.as_slice(), name),
-        TyNode::Slice(inner) => in_type(inner, name),
-        TyNode::Array(inner, _) => in_type(inner, name),
-        TyNode::Reference(_, _, inner) => in_type(inner, name),
-        TyNode::Pointer(_, inner) => in_type(inner, name),
+        TyNode::Paren(inner) => inner.holds(name),
+        TyNode::Tuple(all) => any_holds(&all.items, name),
+        TyNode::Slice(inner) => inner.holds(name),
+        TyNode::Array(inner, _) => inner.holds(name),
+        TyNode::Reference(_, _, inner) => inner.holds(name),
+        TyNode::Pointer(_, inner) => inner.holds(name),
         TyNode::BareFn(function) => in_function(function, name),
-        TyNode::TraitObject(all) => in_bounds(all.items.as_slice(), name),
+        TyNode::TraitObject(all) => any_holds(&all.items, name),
         TyNode::ImplTrait(_) => false,
         TyNode::Infer => false,
         TyNode::Never => false,
@@ -103,19 +106,7 @@ fn in_node(node: &TyNode<'_>, name: &str) -> bool
 fn in_self(qself: &QSelf<'_>, name: &str) -> bool
     ensures { result ≡ spec.in_type name.now (tree.ty_view qself.now.ty) }
 {
-    in_type(&qself.ty, name)
-}
-
-#[cycle(contains)]
-fn in_types(all: &[Ty<'_>], name: &str) -> bool
-    ensures { result ≡ spec.in_types name.now (tree.types_of (map tree.ty_view all.now)) }
-{
-    for item in all {
-        if in_type(item, name) {
-            return true;
-        }
-    }
-    false
+    qself.ty.holds(name)
 }
 
 #[cycle(contains)]
@@ -123,49 +114,29 @@ fn in_function(function: &BareFn<'_>, name: &str) -> bool
     ensures { result ≡ spec.in_function name.now (tree.fn_view function.now) }
 {
     match &function.output {
-        None => in_inputs(function.inputs.items.as_slice(), name),
-        Some(ty) => { in_inputs(function.inputs.items.as_slice(), name) || in_type(ty, name) }
+        None => any_holds(&function.inputs.items, name),
+        Some(ty) => any_holds(&function.inputs.items, name) || ty.holds(name),
     }
 }
 
-#[cycle(contains)]
-fn in_inputs(all: &[FnArg<'_>], name: &str) -> bool
-    ensures { result ≡ spec.in_inputs name.now (tree.inputs_of (map tree.input_view all.now)) }
-{
-    for item in all {
-        if in_input(item, name) {
-            return true;
+impl<'n> Holds<&'n str> for FnArg<'_> {
+    ghost held = { λ n i. spec.in_input n.now (tree.input_view i) };
+
+    #[cycle(contains)]
+    fn holds(&self, name: &'n str) -> bool {
+        self.ty.holds(name)
+    }
+}
+
+impl<'n> Holds<&'n str> for Bound<'_> {
+    ghost held = { λ n b. spec.in_bound n.now (tree.bound_view b) };
+
+    #[cycle(contains)]
+    fn holds(&self, name: &'n str) -> bool {
+        match self {
+            Bound::Lifetime(_) => false,
+            Bound::Trait(bound) => in_path(&bound.path, name),
         }
-    }
-    false
-}
-
-#[cycle(contains)]
-fn in_input(input: &FnArg<'_>, name: &str) -> bool
-    ensures { result ≡ spec.in_input name.now (tree.input_view input.now) }
-{
-    in_type(&input.ty, name)
-}
-
-#[cycle(contains)]
-fn in_bounds(all: &[Bound<'_>], name: &str) -> bool
-    ensures { result ≡ spec.in_bounds name.now (tree.bounds_of (map tree.bound_view all.now)) }
-{
-    for item in all {
-        if in_bound(item, name) {
-            return true;
-        }
-    }
-    false
-}
-
-#[cycle(contains)]
-fn in_bound(bound: &Bound<'_>, name: &str) -> bool
-    ensures { result ≡ spec.in_bound name.now (tree.bound_view bound.now) }
-{
-    match bound {
-        Bound::Lifetime(_) => false,
-        Bound::Trait(bound) => in_path(&bound.path, name),
     }
 }
 
@@ -173,65 +144,44 @@ fn in_bound(bound: &Bound<'_>, name: &str) -> bool
 fn in_path(path: &Path<'_>, name: &str) -> bool
     ensures { result ≡ spec.in_path name.now (tree.path_view path.now) }
 {
-    some_named(bare_first(path.segments.as_slice()), name)
-        || in_segments(path.segments.as_slice(), name)
+    some_named(bare_first(path.segments.as_slice()), name) || any_holds(&path.segments, name)
 }
 
-#[cycle(contains)]
-fn in_segments(all: &[PathSegment<'_>], name: &str) -> bool
-    ensures { result ≡ spec.in_segments name.now (tree.segments_of (map tree.segment_view all.now)) }
-{
-    for item in all {
-        if in_segment(item, name) {
-            return true;
-        }
+impl<'n> Holds<&'n str> for PathSegment<'_> {
+    ghost held = { λ n s. spec.in_segment n.now (tree.segment_view s) };
+
+    #[cycle(contains)]
+    fn holds(&self, name: &'n str) -> bool {
+        in_arguments(&self.arguments, name)
     }
-    false
 }
 
 #[cycle(contains)]
-fn in_segment(segment: &PathSegment<'_>, name: &str) -> bool
-    ensures { result ≡ spec.in_segment name.now (tree.segment_view segment.now) }
-{
-    in_segment_arguments(&segment.arguments, name)
-}
-
-#[cycle(contains)]
-fn in_segment_arguments(arguments: &PathArguments<'_>, name: &str) -> bool
+fn in_arguments(arguments: &PathArguments<'_>, name: &str) -> bool
     ensures { result ≡ spec.in_segment_arguments name.now (tree.arguments_view arguments.now) }
 {
     match arguments {
         PathArguments::Absent => false,
-        PathArguments::Angle(_, all) => in_arguments(all.items.as_slice(), name),
+        PathArguments::Angle(_, all) => any_holds(&all.items, name),
         PathArguments::Paren(all, output) => match output {
-            None => in_types(all.items.as_slice(), name),
-            Some(ty) => in_types(all.items.as_slice(), name) || in_type(ty, name),
+            None => any_holds(&all.items, name),
+            Some(ty) => any_holds(&all.items, name) || ty.holds(name),
         },
     }
 }
 
-#[cycle(contains)]
-fn in_arguments(all: &[GenericArgument<'_>], name: &str) -> bool
-    ensures { result ≡ spec.in_arguments name.now (tree.arguments_of (map tree.argument_view all.now)) }
-{
-    for item in all {
-        if in_argument(item, name) {
-            return true;
-        }
-    }
-    false
-}
+impl<'n> Holds<&'n str> for GenericArgument<'_> {
+    ghost held = { λ n a. spec.in_argument n.now (tree.argument_view a) };
 
-#[cycle(contains)]
-fn in_argument(argument: &GenericArgument<'_>, name: &str) -> bool
-    ensures { result ≡ spec.in_argument name.now (tree.argument_view argument.now) }
-{
-    match argument {
-        GenericArgument::Lifetime(_) => false,
-        GenericArgument::Ty(ty) => in_type(ty, name),
-        GenericArgument::Const(_) => false,
-        GenericArgument::AssocTy(_, _, ty) => in_type(ty, name),
-        GenericArgument::AssocConst(_, _, _) => false,
-        GenericArgument::Constraint(_, _, _) => false,
+    #[cycle(contains)]
+    fn holds(&self, name: &'n str) -> bool {
+        match self {
+            GenericArgument::Lifetime(_) => false,
+            GenericArgument::Ty(ty) => ty.holds(name),
+            GenericArgument::Const(_) => false,
+            GenericArgument::AssocTy(_, _, ty) => ty.holds(name),
+            GenericArgument::AssocConst(_, _, _) => false,
+            GenericArgument::Constraint(_, _, _) => false,
+        }
     }
 }

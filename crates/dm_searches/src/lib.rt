@@ -3,6 +3,7 @@
 #![tactic(auto)]
 
 mod contains;
+mod holds;
 mod inner;
 mod mentions;
 mod names;

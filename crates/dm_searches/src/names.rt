@@ -17,6 +17,14 @@ pub enum Sort {
     Const,
 }
 
+/// A parameter that is looked for.
+#[derive(Clone, Copy)]
+pub struct Parameter<'n> {
+    /// Its name without `r#`.
+    pub name: &'n str,
+    pub sort: Sort,
+}
+
 /// Whether there is an identifier, and this is its name.
 pub fn some_named(ident: Option<&Ident<'_>>, name: &str) -> bool
     ensures { result ≡ spec.some_named name.now (option_copied ident.entry) }

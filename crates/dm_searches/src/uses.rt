@@ -6,6 +6,7 @@ ghost use Rattle.std.specs.Option.{option_map};
 ghost use Rattle.dm_ast.specs.Tree as tree;
 ghost use Rattle.dm_searches.specs.Uses as spec;
 
+use crate::holds::{Holds, any_holds};
 use dm_ast::{GenericArgument, Path, PathArguments, PathSegment, QSelf, Ty, TyNode};
 use dm_stream::{Ident, Text};
 use indexmap::IndexSet;
@@ -106,54 +107,34 @@ fn in_self<'a>(qself: &QSelf<'a>, params: &IndexSet<Text<'a>>) -> bool
 fn in_path<'a>(path: &Path<'a>, params: &IndexSet<Text<'a>>) -> bool
     ensures { result ≡ spec.in_path params.now.keys (tree.path_view path.now) }
 {
-    is_first(path.segments.as_slice(), params) || in_segments(path.segments.as_slice(), params)
+    is_first(path.segments.as_slice(), params) || any_holds(&path.segments, params)
 }
 
-#[cycle(uses)]
-fn in_segments<'a>(all: &[PathSegment<'a>], params: &IndexSet<Text<'a>>) -> bool
-    ensures { result ≡ spec.in_segments params.now.keys (tree.segments_of (map tree.segment_view all.now)) }
-{
-    for item in all {
-        if in_segment(item, params) {
-            return true;
+impl<'p, 'a> Holds<&'p IndexSet<Text<'a>>> for PathSegment<'a> {
+    ghost held = { λ params s. spec.in_segment params.now.keys (tree.segment_view s) };
+
+    #[cycle(uses)]
+    fn holds(&self, params: &'p IndexSet<Text<'a>>) -> bool {
+        match &self.arguments {
+            PathArguments::Absent => false,
+            PathArguments::Angle(_, all) => any_holds(&all.items, params),
+            PathArguments::Paren(_, _) => false,
         }
     }
-    false
 }
 
-#[cycle(uses)]
-fn in_segment<'a>(segment: &PathSegment<'a>, params: &IndexSet<Text<'a>>) -> bool
-    ensures { result ≡ spec.in_segment params.now.keys (tree.segment_view segment.now) }
-{
-    match &segment.arguments {
-        PathArguments::Absent => false,
-        PathArguments::Angle(_, all) => in_arguments(all.items.as_slice(), params),
-        PathArguments::Paren(_, _) => false,
-    }
-}
+impl<'p, 'a> Holds<&'p IndexSet<Text<'a>>> for GenericArgument<'a> {
+    ghost held = { λ params a. spec.in_argument params.now.keys (tree.argument_view a) };
 
-#[cycle(uses)]
-fn in_arguments<'a>(all: &[GenericArgument<'a>], params: &IndexSet<Text<'a>>) -> bool
-    ensures { result ≡ spec.in_arguments params.now.keys (tree.arguments_of (map tree.argument_view all.now)) }
-{
-    for item in all {
-        if in_argument(item, params) {
-            return true;
+    #[cycle(uses)]
+    fn holds(&self, params: &'p IndexSet<Text<'a>>) -> bool {
+        match self {
+            GenericArgument::Lifetime(_) => false,
+            GenericArgument::Ty(ty) => in_type(ty, params),
+            GenericArgument::Const(_) => false,
+            GenericArgument::AssocTy(_, _, _) => false,
+            GenericArgument::AssocConst(_, _, _) => false,
+            GenericArgument::Constraint(name, _, _) => is_key(name, params),
         }
-    }
-    false
-}
-
-#[cycle(uses)]
-fn in_argument<'a>(argument: &GenericArgument<'a>, params: &IndexSet<Text<'a>>) -> bool
-    ensures { result ≡ spec.in_argument params.now.keys (tree.argument_view argument.now) }
-{
-    match argument {
-        GenericArgument::Lifetime(_) => false,
-        GenericArgument::Ty(ty) => in_type(ty, params),
-        GenericArgument::Const(_) => false,
-        GenericArgument::AssocTy(_, _, _) => false,
-        GenericArgument::AssocConst(_, _, _) => false,
-        GenericArgument::Constraint(name, _, _) => is_key(name, params),
     }
 }

@@ -2,7 +2,7 @@ use Rattle.std.proofs.Common.{map, refl, sym, ap, ◌∙◌}
 use Rattle.dm_ast.specs.declared.ty.Bound.TheViews.{out-Path}
 use Rattle.dm_ast.specs.Tree.{segments_of, arguments_of, maybe_self_view, ty_view, node_view, path_view, segment_view, arguments_view, argument_view}
 use Rattle.dm_ast.proofs.View.{view_TyNode-Paren, view_TyNode-Tuple, view_TyNode-Slice, view_TyNode-Array, view_TyNode-Reference, view_TyNode-Pointer, view_TyNode-BareFn, view_TyNode-TraitObject, view_TyNode-ImplTrait, view_TyNode-Infer, view_TyNode-Never, view_TyNode-Path, view_TyNode-Macro, view_PathArguments-Absent, view_PathArguments-Angle, view_PathArguments-Paren, view_GenericArgument-Lifetime, view_GenericArgument-Ty, view_GenericArgument-Const, view_GenericArgument-AssocTy, view_GenericArgument-AssocConst, view_GenericArgument-Constraint, view-Ty, view-PathSegment, view-Path, view-some_self}
-use Rattle.dm_searches.proofs.Steps.{first_of, second_of, viewed, shown, found, goes_on, not_found}
+use Rattle.dm_searches.proofs.Steps.{first_of, second_of, viewed, shown, any_is}
 use Rattle.dm_searches.specs.Uses as spec
 use Rattle.dm_searches.proofs.uses.+uses.Goals as goal
 
@@ -98,84 +98,47 @@ in_path-returns-then-is_first t c =
 pub in_path-returns-else-is_first : goal.in_path-returns-else-is_first
 in_path-returns-else-is_first t c =
     viewed (λ z. spec.in_path c.args.params.now.keys z) (view-Path c.args.path.now) (second_of (c.if-is_first.ensures ∙ ap
-    (λ z. spec.is_first c.args.params.now.keys (segments_of (map segment_view z))) c.as_slice.ensures) (c.in_segments.ensures ∙ ap
-    (λ z. spec.in_segments c.args.params.now.keys (segments_of (map segment_view z))) c.as_slice-else-is_first.ensures))
+    (λ z. spec.is_first c.args.params.now.keys (segments_of (map segment_view z))) c.as_slice.ensures) (c.any_holds.ensures ∙ any_is
+    (λ z. spec.in_segment c.args.params.now.keys (segment_view z)) (λ z. spec.in_segments c.args.params.now.keys (segments_of (map segment_view z))) refl
+    (λ y ys. refl) (out-Path c.args.path.now).segments))
 
-pub in_segments-loop-item-init : goal.in_segments-loop-item-init
-in_segments-loop-item-init t c =
-    refl
-
-pub in_segments-returns-then-in_segment : goal.in_segments-returns-then-in_segment
-in_segments-returns-then-in_segment t c =
-    found (λ z. spec.in_segment c.args.params.now.keys (segment_view z)) (λ z. spec.in_segments c.args.params.now.keys (segments_of (map segment_view z)))
-    (λ y ys. refl) c.args.all.now c.item-item.result c.loop-item.item-index c.loop-item-test.true c.item-item.is c.loop-item.invariant c.if-in_segment.ensures
-
-pub in_segments-loop-item-preserved : goal.in_segments-loop-item-preserved
-in_segments-loop-item-preserved t c =
-    goes_on (λ z. spec.in_segment c.args.params.now.keys (segment_view z)) (λ z. spec.in_segments c.args.params.now.keys (segments_of (map segment_view z)))
-    (λ y ys. refl) c.args.all.now c.item-item.result c.loop-item.item-index c.loop-item-test.true c.item-item.is c.loop-item.invariant c.if-in_segment.ensures
-
-pub in_segments-returns : goal.in_segments-returns
-in_segments-returns t c =
-    not_found (λ z. spec.in_segments c.args.params.now.keys (segments_of (map segment_view z))) c.args.all.now c.loop-item.item-index
-    c.loop-item-test.false refl c.loop-item.invariant
-
-pub in_segment-returns-in-Absent : goal.in_segment-returns-in-Absent
-in_segment-returns-in-Absent t c =
-    viewed (λ z. spec.in_segment c.args.params.now.keys z) (view-PathSegment c.args.segment.now) (shown
+pub PathSegmentHoldsRefIndexSetText::holds-returns-in-Absent : goal.PathSegmentHoldsRefIndexSetText::holds-returns-in-Absent
+PathSegmentHoldsRefIndexSetText::holds-returns-in-Absent t c =
+    viewed (λ z. spec.in_segment c.args.params.now.keys z) (view-PathSegment c.args.self.now) (shown
     (λ z. spec.in_segment_arguments c.args.params.now.keys z) arguments_view c.in-Absent.is view_PathArguments-Absent refl)
 
-pub in_segment-returns-in-Angle : goal.in_segment-returns-in-Angle
-in_segment-returns-in-Angle t c =
-    viewed (λ z. spec.in_segment c.args.params.now.keys z) (view-PathSegment c.args.segment.now) (shown
-    (λ z. spec.in_segment_arguments c.args.params.now.keys z) arguments_view c.in-Angle.is (view_PathArguments-Angle _ _) (c.in_arguments.ensures ∙ ap
-    (λ z. spec.in_arguments c.args.params.now.keys (arguments_of (map argument_view z))) c.as_slice.ensures))
+pub PathSegmentHoldsRefIndexSetText::holds-returns-in-Angle : goal.PathSegmentHoldsRefIndexSetText::holds-returns-in-Angle
+PathSegmentHoldsRefIndexSetText::holds-returns-in-Angle t c =
+    viewed (λ z. spec.in_segment c.args.params.now.keys z) (view-PathSegment c.args.self.now) (shown
+    (λ z. spec.in_segment_arguments c.args.params.now.keys z) arguments_view c.in-Angle.is (view_PathArguments-Angle _ _) (c.any_holds.ensures ∙ any_is
+    (λ z. spec.in_argument c.args.params.now.keys (argument_view z)) (λ z. spec.in_arguments c.args.params.now.keys (arguments_of (map argument_view z))) refl
+    (λ y ys. refl) _))
 
-pub in_segment-returns-in-Paren : goal.in_segment-returns-in-Paren
-in_segment-returns-in-Paren t c =
-    viewed (λ z. spec.in_segment c.args.params.now.keys z) (view-PathSegment c.args.segment.now) (shown
+pub PathSegmentHoldsRefIndexSetText::holds-returns-in-Paren : goal.PathSegmentHoldsRefIndexSetText::holds-returns-in-Paren
+PathSegmentHoldsRefIndexSetText::holds-returns-in-Paren t c =
+    viewed (λ z. spec.in_segment c.args.params.now.keys z) (view-PathSegment c.args.self.now) (shown
     (λ z. spec.in_segment_arguments c.args.params.now.keys z) arguments_view c.in-Paren.is (view_PathArguments-Paren _ _) refl)
 
-pub in_arguments-loop-item-init : goal.in_arguments-loop-item-init
-in_arguments-loop-item-init t c =
-    refl
-
-pub in_arguments-returns-then-in_argument : goal.in_arguments-returns-then-in_argument
-in_arguments-returns-then-in_argument t c =
-    found (λ z. spec.in_argument c.args.params.now.keys (argument_view z)) (λ z. spec.in_arguments c.args.params.now.keys (arguments_of (map argument_view z)))
-    (λ y ys. refl) c.args.all.now c.item-item.result c.loop-item.item-index c.loop-item-test.true c.item-item.is c.loop-item.invariant c.if-in_argument.ensures
-
-pub in_arguments-loop-item-preserved : goal.in_arguments-loop-item-preserved
-in_arguments-loop-item-preserved t c =
-    goes_on (λ z. spec.in_argument c.args.params.now.keys (argument_view z))
-    (λ z. spec.in_arguments c.args.params.now.keys (arguments_of (map argument_view z))) (λ y ys. refl) c.args.all.now c.item-item.result c.loop-item.item-index
-    c.loop-item-test.true c.item-item.is c.loop-item.invariant c.if-in_argument.ensures
-
-pub in_arguments-returns : goal.in_arguments-returns
-in_arguments-returns t c =
-    not_found (λ z. spec.in_arguments c.args.params.now.keys (arguments_of (map argument_view z))) c.args.all.now c.loop-item.item-index
-    c.loop-item-test.false refl c.loop-item.invariant
-
-pub in_argument-returns-in-Lifetime : goal.in_argument-returns-in-Lifetime
-in_argument-returns-in-Lifetime t c =
+pub GenericArgumentHoldsRefIndexSetText::holds-returns-in-Lifetime : goal.GenericArgumentHoldsRefIndexSetText::holds-returns-in-Lifetime
+GenericArgumentHoldsRefIndexSetText::holds-returns-in-Lifetime t c =
     shown (λ z. spec.in_argument c.args.params.now.keys z) argument_view c.in-Lifetime.is (view_GenericArgument-Lifetime _) refl
 
-pub in_argument-returns-in-Ty : goal.in_argument-returns-in-Ty
-in_argument-returns-in-Ty t c =
+pub GenericArgumentHoldsRefIndexSetText::holds-returns-in-Ty : goal.GenericArgumentHoldsRefIndexSetText::holds-returns-in-Ty
+GenericArgumentHoldsRefIndexSetText::holds-returns-in-Ty t c =
     shown (λ z. spec.in_argument c.args.params.now.keys z) argument_view c.in-Ty.is (view_GenericArgument-Ty _) c.in_type.ensures
 
-pub in_argument-returns-in-Const : goal.in_argument-returns-in-Const
-in_argument-returns-in-Const t c =
+pub GenericArgumentHoldsRefIndexSetText::holds-returns-in-Const : goal.GenericArgumentHoldsRefIndexSetText::holds-returns-in-Const
+GenericArgumentHoldsRefIndexSetText::holds-returns-in-Const t c =
     shown (λ z. spec.in_argument c.args.params.now.keys z) argument_view c.in-Const.is (view_GenericArgument-Const _) refl
 
-pub in_argument-returns-in-AssocTy : goal.in_argument-returns-in-AssocTy
-in_argument-returns-in-AssocTy t c =
+pub GenericArgumentHoldsRefIndexSetText::holds-returns-in-AssocTy : goal.GenericArgumentHoldsRefIndexSetText::holds-returns-in-AssocTy
+GenericArgumentHoldsRefIndexSetText::holds-returns-in-AssocTy t c =
     shown (λ z. spec.in_argument c.args.params.now.keys z) argument_view c.in-AssocTy.is (view_GenericArgument-AssocTy _ _ _) refl
 
-pub in_argument-returns-in-AssocConst : goal.in_argument-returns-in-AssocConst
-in_argument-returns-in-AssocConst t c =
+pub GenericArgumentHoldsRefIndexSetText::holds-returns-in-AssocConst : goal.GenericArgumentHoldsRefIndexSetText::holds-returns-in-AssocConst
+GenericArgumentHoldsRefIndexSetText::holds-returns-in-AssocConst t c =
     shown (λ z. spec.in_argument c.args.params.now.keys z) argument_view c.in-AssocConst.is (view_GenericArgument-AssocConst _ _ _) refl
 
-pub in_argument-returns-in-Constraint : goal.in_argument-returns-in-Constraint
-in_argument-returns-in-Constraint t c =
+pub GenericArgumentHoldsRefIndexSetText::holds-returns-in-Constraint : goal.GenericArgumentHoldsRefIndexSetText::holds-returns-in-Constraint
+GenericArgumentHoldsRefIndexSetText::holds-returns-in-Constraint t c =
     shown (λ z. spec.in_argument c.args.params.now.keys z) argument_view c.in-Constraint.is (view_GenericArgument-Constraint _ _ _) c.is_key.ensures
