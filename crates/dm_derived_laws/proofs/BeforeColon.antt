@@ -19,7 +19,7 @@ use Rattle.dm_ast.specs.Spelling.{Where, deeper, Marks, Spelling, at_end, is_joi
 use Rattle.dm_ast.specs.TypeGrammar.{sees_path_word, sees_turbofish, sees_arguments, sees_bound, ends_bounds, behind_colons, behind_idents, behind_first, is_call, sees_macro, plain_path, types, inputs, kept, between_angles, for_lifetimes, type_spelled, node, output, function, bound, trait_bound_spelled, some_bounds, more_bounds, bounds, bounds_left, path_spelled, segments, segments_left, qualified, trait_segments, some_segments_left, segment_spelled, arguments_of_segment, arguments, arguments_left, argument, maybe_angled, constant_spelled, constant_argument}
 use Rattle.dm_read.proofs.MacroSeeing.{no_colons}
 use Rattle.dm_type_eq.proofs.Cutting.{same_front, are_colons}
-use Rattle.dm_reread.proofs.TypeLeafParts.{Anything}
+use Rattle.dm_reread.proofs.TypeLeafParts.{Anything, ext_nothing, ext_token, ext_punct, ext_word, ext_pair, ext_lone, ext_group, some_one}
 use Rattle.dm_reread.proofs.TypeLeafCalls.{idents_stay, no_mark}
 
 -- ---- what a `:` may stand behind
@@ -310,11 +310,7 @@ module _ (more : Trees) where
   go_if G f ts others m s e c = f ts others m s e tt
 
   go_nothing : Goes Nothing
-  go_nothing ts others m s e c =
-      record {
-        sealed = subst Sealed (sym s.spelled) e;
-        spelled = record { spelled = ap (λ x. join x rest) s.spelled; marks = s.marks };
-      }
+  go_nothing ts others m s e c = record { sealed = subst Sealed (sym s.spelled) e; spelled = ext_nothing rest ts others m s tt }
 
   go_where : {G F : Trees → Type 0} {A : Spelling} → ((o : Trees) → Sealed o → G o → F o → F (join o rest)) → GoesIf G A →
       GoesIf G (Before F A)
@@ -353,25 +349,21 @@ module _ (more : Trees) where
 
   go_token : (w : Where) (k : Token) → ((o : Trees) → Sealed o → Sealed (token k o)) → Goes (TokenAt w k)
   go_token w k h ts others m s e c =
-      record {
-        sealed = subst Sealed (sym s.spelled) (h others e);
-        spelled = record { spelled = ap (λ x. join x rest) s.spelled; marks = s.marks };
-      }
+      record { sealed = subst Sealed (sym s.spelled) (h others e); spelled = ext_token rest w k ts others m s tt }
 
   go_ident : (w : Where) (i : Ident) → Goes (ident w i)
   go_ident w i = go_token w (t.Ident i) (λ o e. e)
 
   go_punct : (w : Where) (c : ℕ) → nat_eq c 58 ≡ false → Goes (punct w c)
   go_punct w c h ts others m s e k =
-      let x : Gone (TokenAt w (t.Punct s.punct)) ts others m =
-      go_token w (t.Punct s.punct) (λ o f. sealed_punct s.punct o (ap (λ z. nat_eq z 58) s.is ∙ h) f) ts others m s.there e tt in
-      record { sealed = x.sealed; spelled = record { punct = s.punct; is = s.is; there = x.spelled } }
+      record {
+        sealed = subst Sealed (sym s.there.spelled) (sealed_punct s.punct others (ap (λ z. nat_eq z 58) s.is ∙ h) e);
+        spelled = ext_punct rest w c ts others m s tt;
+      }
 
   go_word : (w : Where) (word : List ℕ) → Goes (keyword w word)
   go_word w word ts others m s e c =
-      let i : Ident = record { name = word; raw = false; span = s.range } in
-      let x : Gone (ident w i) ts others m = go_ident w i ts others m s.there e tt in
-      record { sealed = x.sealed; spelled = record { range = s.range; there = x.spelled } }
+      record { sealed = subst Sealed (sym s.there.spelled) e; spelled = ext_word rest w word ts others m s tt }
 
   pair_goes : (w : Where) (a b : ℕ) →
       ((p q : Punct) (o : Trees) → p.ch ≡ a → p.spacing ≡ Joint → q.ch ≡ b → Sealed o → Sealed (token (t.Punct p) (token (t.Punct q) o))) →
@@ -379,15 +371,7 @@ module _ (more : Trees) where
   pair_goes w a b k ts others m s e c =
       record {
         sealed = subst Sealed (sym s.spelled) (k s.first s.second others s.is_first s.is_joint s.is_second e);
-        spelled = record {
-          first = s.first;
-          second = s.second;
-          is_first = s.is_first;
-          is_joint = s.is_joint;
-          is_second = s.is_second;
-          spelled = ap (λ x. join x rest) s.spelled;
-          marks = s.marks;
-        };
+        spelled = ext_pair rest w a b ts others m s tt;
       }
 
   go_colons : (w : Where) → Goes (colons w)
@@ -404,18 +388,7 @@ module _ (more : Trees) where
 
   go_group : (w : Where) (d : Delim) (Inside : Where → Spelling) → Goes (GroupAt w d Inside)
   go_group w d Inside ts others m s e c =
-      record {
-        sealed = subst Sealed (sym s.spelled) e;
-        spelled = record {
-          opener = s.opener;
-          inside = s.inside;
-          closer = s.closer;
-          inner_marks = s.inner_marks;
-          spelled = ap (λ x. join x rest) s.spelled;
-          whole = s.whole;
-          marks = s.marks;
-        };
-      }
+      record { sealed = subst Sealed (sym s.spelled) e; spelled = ext_group rest w d Inside ts others m s tt }
 
   same_one : (cs : List ℕ) → one_of cs 58 ≡ false → (ts : Trees) → sees_one cs (join ts rest) ≡ sees_one cs ts
   same_one cs k no_trees = k
@@ -426,29 +399,14 @@ module _ (more : Trees) where
   go_equals w ts others m s e c =
       record {
         sealed = subst Sealed (sym s.there.spelled) (sealed_punct s.punct others (ap (λ z. nat_eq z 58) s.is) e);
-        spelled = record {
-          punct = s.punct;
-          is = s.is;
-          lone = ap (λ b. is_joint s.punct.spacing && b) (same_one (61 ∷ 62 ∷ []) refl others) ∙ s.lone;
-          there = record { spelled = ap (λ x. join x rest) s.there.spelled; marks = s.there.marks };
-        };
+        spelled = ext_lone rest {G = Anything} w 61 (61 ∷ 62 ∷ []) (λ o k b h. ap (λ x. b && x) (same_one (61 ∷ 62 ∷ []) refl o) ∙ h) ts others m s c;
       }
-
-  some_one : (cs : List ℕ) (ts : Trees) → Follows ts → sees_one cs (join ts rest) ≡ sees_one cs ts
-  some_one cs no_trees k = absurd (cc)
-  some_one cs (token (t.Punct p) ts) k = refl
-  some_one cs _ k = refl
 
   go_colon : (w : Where) → GoesIf Follows (colon w)
   go_colon w ts others m s e c =
       record {
         sealed = subst Sealed (sym s.there.spelled) (sealed_lone s.punct others s.lone c e);
-        spelled = record {
-          punct = s.punct;
-          is = s.is;
-          lone = ap (λ b. is_joint s.punct.spacing && b) (some_one (58 ∷ []) others c) ∙ s.lone;
-          there = record { spelled = ap (λ x. join x rest) s.there.spelled; marks = s.there.marks };
-        };
+        spelled = ext_lone rest {G = Follows} w 58 (58 ∷ []) (λ o k b h. ap (λ x. b && x) (sym (some_one rest (58 ∷ []) o k)) ∙ h) ts others m s c;
       }
 
   go_angles : (w : Where) (Inside : Where → Spelling) → ((v : Where) → GoesIf Follows (Inside v)) → Goes (between_angles w Inside)

@@ -131,7 +131,7 @@ module _ (rest : Trees) where
       }
 
   -- `=` before something
-  some_one : (cs : List ℕ) (ts : Trees) → at_end ts ≡ false → sees_one cs ts ≡ sees_one cs (join ts rest)
+  pub some_one : (cs : List ℕ) (ts : Trees) → at_end ts ≡ false → sees_one cs ts ≡ sees_one cs (join ts rest)
   some_one cs no_trees h = absurd (cc)
   some_one cs (token (t.Punct p) ts) h = refl
   some_one cs (token (t.Ident i) ts) h = refl
