@@ -12,6 +12,7 @@ pub mod SoundOperators
 pub mod SoundBlocks
 pub mod SoundArms
 pub mod SoundReaders
+pub mod SoundLists
 pub mod SoundItems
 pub mod Entries
 pub mod ExactSound

@@ -32,13 +32,14 @@ use Rattle.dm_reread.specs.Leaves.{LeafGrammar, Leaves}
 use Rattle.dm_reread.specs.Reading.{then, is_alone, whole, assigns_after, semicolon_after, colon_after, readers}
 use Rattle.dm_reread.specs.Grammar.{IsBlock}
 use Rattle.dm_reread.specs.Whole.{size, read_inside}
-use Rattle.dm_reread.specs.Items.{HeadTree, head_of, between_trees, ItemLeaves, same_words, all_attrs, attr_among, attr_bracket, attrs_from, read_attrs, assoc_from, assocs_from, read_assocs, param_from, Inputs, behind_receiver, self_from, ref_input, read_inputs, inputs_after, output_after, body_after, name_of_method, fn_from, const_or_fn, read_method, some_methods, methods_from, read_methods, impl_after, members_of, braces_of_item, read_item, items_from, items_with, read_items}
+use Rattle.dm_reread.specs.Items.{HeadTree, head_of, between_trees, ItemLeaves, same_words, all_attrs, attr_among, attr_bracket, attrs_from, read_attrs, assoc_from, assocs_from, read_assocs, param_from, Inputs, behind_receiver, self_from, ref_input, read_inputs, inputs_after, output_after, body_after, name_of_method, fn_from, const_or_fn, read_method, read_methods, impl_after, members_of, braces_of_item, read_item, read_items}
 use Rattle.dm_reread.specs.ItemGrammar.{ItemGrammar, IsAssoc, AreAssocs, IsParam, IsOutput, IsMethod, AreMethods, IsItem, AreItems}
 use Rattle.dm_read_laws.specs.Sound.{IsBare, Spells, SoundLeaves, SoundItems}
 use Rattle.dm_read_laws.proofs.SoundRows.{Sound}
 use Rattle.dm_read_laws.proofs.Answers.{then_by, provided_some, cond_some, whole_some, same_answer}
 use Rattle.dm_read_laws.proofs.SoundSteps.{bare_token, bare_group, bare_rest, spells_then, spells_whole, is_word_same, Front, Begins, next_begins}
 use Rattle.dm_read_laws.proofs.SoundFronts.{Gives, gives_some, gives_none, assigns_seen, semicolon_seen, colon_seen}
+use Rattle.dm_read_laws.proofs.SoundLists.{parts_sound}
 
 -- ---- trees without ranges that are the same, ranges aside
 
@@ -420,25 +421,8 @@ module _ (g : LeafGrammar) (l : Leaves) (L : SoundLeaves g l) where
               (ap (λ y. join (join (attrs_trees y) (fn_end x)) us) (sym d.0.1) ∙ ap (λ y. join y us) (sym (method_shape x))),
         ))
 
-    module _ (more : Trees → Option (List MethodTree))
-        (later : (ts : Trees) (xs : List MethodTree) → IsBare ts → more ts ≡ Some xs → AreMethodsRead ts xs) where
-      some_methods_sound : (ts : Trees) (xs : List MethodTree) → IsBare ts → some_methods l more ts ≡ Some xs → AreMethodsRead ts xs
-      some_methods_sound ts xs bare e =
-          then_by (read_method l ts) _ xs (AreMethodsRead ts xs) e
-          (λ a h e'. then_by (more a.1) _ xs (AreMethodsRead ts xs) e'
-          (λ s i f.
-          let d : IsMethodRead ts a = method_sound ts a.1 a.0 bare h in
-          let q : AreMethodsRead a.1 s = later a.1 s (bare_rest (method_trees a.0) ts a.1 bare d.1) i in
-          same_answer (AreMethodsRead ts) (a.0 ∷ s) xs f ((d.0, q.0), d.1 ∙ ap (join (method_trees a.0)) q.1)))
-
-      methods_by : (ts : Trees) (xs : List MethodTree) → IsBare ts → methods_from l more ts ≡ Some xs → AreMethodsRead ts xs
-      methods_by no_trees xs bare e = same_answer (AreMethodsRead no_trees) [] xs e (tt, refl)
-      methods_by (token j ts) xs bare e = some_methods_sound (token j ts) xs bare e
-      methods_by (group d from inside upto ts) xs bare e = some_methods_sound (group d from inside upto ts) xs bare e
-
     methods_sound : (n : ℕ) (ts : Trees) (xs : List MethodTree) → IsBare ts → read_methods l n ts ≡ Some xs → AreMethodsRead ts xs
-    methods_sound zero ts xs bare e = absurd (cc)
-    methods_sound (suc n) ts xs bare e = methods_by (read_methods l n) (methods_sound n) ts xs bare e
+    methods_sound = parts_sound (read_method l) method_trees (IsMethod g) (AreMethods g) tt (λ x xs h k. (h, k)) method_sound
 
 -- ---- implementations
 
@@ -457,9 +441,6 @@ module _ (g : ItemGrammar) (l : ItemLeaves) (S : SoundItems g l) (all : (n : ℕ
 
   abbrev IsItemRead : Trees → ItemTree × Trees → Type 0
   IsItemRead ts a = IsItem g a.0 × Spells (item_trees a.0) ts a.1
-
-  abbrev AreItemsRead : Trees → List ItemTree → Type 0
-  AreItemsRead ts is = AreItems g is × (in_turn (map item_trees is) ≡ ts)
 
   members_sound : (as' : List ItemAttr) (h : HeadTree) (inside : Trees) (i : ItemTree) → IsBare inside →
       members_of l as' h inside ≡ Some i →
@@ -510,29 +491,9 @@ module _ (g : ItemGrammar) (l : ItemLeaves) (S : SoundItems g l) (all : (n : ℕ
       (spells_then (k.word (codes "impl")) (between_trees h.0) a.1 vs h.1 p.0 d.1))
       (next_begins h.1 (bare_rest (between_trees h.0) vs h.1 p.1 d.1)) f)))
 
-  module _ (more : Trees → Option (List ItemTree))
-      (later : (ts : Trees) (is : List ItemTree) → IsBare ts → more ts ≡ Some is → AreItemsRead ts is) where
-    some_items_sound : (ts : Trees) (is : List ItemTree) → IsBare ts →
-        then (read_item l ts) (λ a. then (more a.1) (λ s. Some (a.0 ∷ s))) ≡ Some is →
-        AreItemsRead ts is
-    some_items_sound ts is bare e =
-        then_by (read_item l ts) _ is (AreItemsRead ts is) e
-        (λ a h e'. then_by (more a.1) _ is (AreItemsRead ts is) e'
-        (λ s i f.
-        let d : IsItemRead ts a = item_sound ts a.1 a.0 bare h in
-        let q : AreItemsRead a.1 s = later a.1 s (bare_rest (item_trees a.0) ts a.1 bare d.1) i in
-        same_answer (AreItemsRead ts) (a.0 ∷ s) is f ((d.0, q.0), ap (join (item_trees a.0)) q.1 ∙ sym d.1)))
-
-    items_by : (ts : Trees) (is : List ItemTree) → IsBare ts → items_from l more ts ≡ Some is → AreItemsRead ts is
-    items_by no_trees is bare e = same_answer (AreItemsRead no_trees) [] is e (tt, refl)
-    items_by (token j ts) is bare e = some_items_sound (token j ts) is bare e
-    items_by (group d from inside upto ts) is bare e = some_items_sound (group d from inside upto ts) is bare e
-
-  with_sound : (n : ℕ) (ts : Trees) (is : List ItemTree) → IsBare ts → items_with l n ts ≡ Some is → AreItemsRead ts is
-  with_sound zero ts is bare e = absurd (cc)
-  with_sound (suc n) ts is bare e = items_by (items_with l n) (with_sound n) ts is bare e
-
   -- implementations, to the end of the trees
   pub items_sound : (ts : Trees) (is : List ItemTree) → IsBare ts → read_items l ts ≡ Some is →
       AreItems g is × (in_turn (map item_trees is) ≡ ts)
-  items_sound ts is bare e = with_sound (suc (size ts)) ts is bare e
+  items_sound ts is bare e =
+      let d = parts_sound (read_item l) item_trees (IsItem g) (AreItems g) tt (λ i js h k. (h, k)) item_sound (suc (size ts)) ts is bare e in
+      (d.0, sym d.1)

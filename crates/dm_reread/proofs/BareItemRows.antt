@@ -1,11 +1,11 @@
 -- Implementations are read the same of the same tokens, ranges aside.
-use Rattle.std.specs.Prelude.{◌≡◌, ℕ, zero, suc, Bool, true, false, List, [], ◌∷◌, map, Option, option_map, Some, refl}
+use Rattle.std.specs.Prelude.{◌≡◌, ℕ, zero, suc, Bool, true, false, List, [], ◌∷◌, map, option_map, refl}
 use Rattle.std.proofs.Common.{ap, ◌∙◌}
 use Rattle.dm_stream.specs.declared.tokens.Token.TheVariants as t
 use Rattle.dm_stream.specs.Trees.{Trees, no_trees, token, group}
 use Rattle.dm_lexer.specs.Written.{unplaced}
 use Rattle.dm_ast.specs.Keywords.{is_name}
-use Rattle.dm_output.specs.Output.{AssocTree, MethodTree, ItemTree}
+use Rattle.dm_output.specs.Output.{AssocTree}
 use Rattle.dm_output.specs.declared.item.ItemAttr.{ItemAttr}
 use Rattle.dm_output.specs.declared.item.Receiver.{Receiver}
 use Rattle.dm_output.specs.declared.item.Receiver.TheVariants as receiver
@@ -15,11 +15,11 @@ use Rattle.dm_reread.specs.BareReading.{bare_next, bare_rest, bare_answer, bare_
 use Rattle.dm_reread.specs.Unplaced.{bare_items}
 use Rattle.dm_reread.specs.Next.{k_const, k_mut, k_type, k_fn, k_impl, Next, ended, amp, hash, comma, arrow, in_parens, in_braces, in_brackets, a_name, a_word, next}
 use Rattle.dm_reread.specs.Leaves.{Answer, Leaves}
-use Rattle.dm_reread.specs.Reading.{then}
 use Rattle.dm_reread.specs.Whole.{size}
-use Rattle.dm_reread.specs.Items.{HeadTree, ItemLeaves, same_words, attr_among, attr_bracket, attrs_from, read_attrs, assoc_from, assocs_from, read_assocs, param_from, behind_receiver, self_from, ref_input, read_inputs, inputs_after, output_after, body_after, name_of_method, fn_from, const_or_fn, read_method, some_methods, methods_from, read_methods, impl_after, members_of, braces_of_item, read_item, items_from, items_with, read_items}
+use Rattle.dm_reread.specs.Items.{HeadTree, ItemLeaves, same_words, attr_among, attr_bracket, attrs_from, read_attrs, assoc_from, assocs_from, read_assocs, param_from, behind_receiver, self_from, ref_input, read_inputs, inputs_after, output_after, body_after, name_of_method, fn_from, const_or_fn, read_method, read_methods, impl_after, members_of, braces_of_item, read_item, items_with, read_items}
 use Rattle.dm_reread.proofs.BareNext.{next-bare, size-bare, passing, chained, either, whole-bare, semicolon-bare, assigns-bare, colon-bare}
 use Rattle.dm_reread.proofs.BareBlockRows.{read-inside-bare}
+use Rattle.dm_reread.proofs.PartLists.{parts-bare}
 
 -- ---- attributes
 
@@ -128,21 +128,8 @@ module _ (l : Leaves) (N : NaturalLeaves l) where
   method-bare : (ts : Trees) → read_method l (unplaced ts) ≡ bare_answer bare_method (read_method l ts)
   method-bare ts = chained _ _ _ _ _ _ (all-attrs-bare ts) (λ a. rw (next-bare a.1) (const-bare a.0 (next a.1)))
 
-  some-methods-bare : (more : Trees → Option (List MethodTree)) →
-      ((ts : Trees) → more (unplaced ts) ≡ option_map (map bare_method) (more ts)) →
-      (ts : Trees) → some_methods l more (unplaced ts) ≡ option_map (map bare_method) (some_methods l more ts)
-  some-methods-bare more h ts = chained _ _ _ _ _ _ (method-bare ts) (λ a. chained _ _ _ _ _ _ (h a.1) (λ s. refl))
-
-  methods-from-bare : (more : Trees → Option (List MethodTree)) →
-      ((ts : Trees) → more (unplaced ts) ≡ option_map (map bare_method) (more ts)) →
-      (ts : Trees) → methods_from l more (unplaced ts) ≡ option_map (map bare_method) (methods_from l more ts)
-  methods-from-bare more h no_trees = refl
-  methods-from-bare more h (token k ts) = some-methods-bare more h (token k ts)
-  methods-from-bare more h (group d from inside upto ts) = some-methods-bare more h (group d from inside upto ts)
-
   pub methods-bare : (n : ℕ) (ts : Trees) → read_methods l n (unplaced ts) ≡ option_map (map bare_method) (read_methods l n ts)
-  methods-bare zero ts = refl
-  methods-bare (suc n) ts = methods-from-bare (read_methods l n) (methods-bare n) ts
+  methods-bare = parts-bare (read_method l) bare_method method-bare
 
 -- ---- implementations
 
@@ -176,22 +163,7 @@ module _ (l : ItemLeaves) (N : NaturalItems l) where
       chained _ _ _ _ _ _ (all-attrs-bare ts) (λ a. rw (next-bare a.1) (chained _ _ _ _ _ _ (impl-bare (next a.1)) (λ us.
       chained _ _ _ _ _ _ (N.head us) (λ h. rw (next-bare h.1) (braces-bare a.0 h.0 (next h.1))))))
 
-  some-items-bare : (more : Trees → Option (List ItemTree)) → ((ts : Trees) → more (unplaced ts) ≡ option_map bare_items (more ts)) →
-      (ts : Trees) →
-      then (read_item l (unplaced ts)) (λ a. then (more a.1) (λ s. Some (a.0 ∷ s))) ≡
-      option_map bare_items (then (read_item l ts) (λ a. then (more a.1) (λ s. Some (a.0 ∷ s))))
-  some-items-bare more h ts = chained _ _ _ _ _ _ (item-bare ts) (λ a. chained _ _ _ _ _ _ (h a.1) (λ s. refl))
-
-  items-from-bare : (more : Trees → Option (List ItemTree)) → ((ts : Trees) → more (unplaced ts) ≡ option_map bare_items (more ts)) →
-      (ts : Trees) → items_from l more (unplaced ts) ≡ option_map bare_items (items_from l more ts)
-  items-from-bare more h no_trees = refl
-  items-from-bare more h (token k ts) = some-items-bare more h (token k ts)
-  items-from-bare more h (group d from inside upto ts) = some-items-bare more h (group d from inside upto ts)
-
-  items-with-bare : (n : ℕ) (ts : Trees) → items_with l n (unplaced ts) ≡ option_map bare_items (items_with l n ts)
-  items-with-bare zero ts = refl
-  items-with-bare (suc n) ts = items-from-bare (items_with l n) (items-with-bare n) ts
-
   -- implementations are read the same of the same tokens, ranges aside
   pub read-items-bare : (ts : Trees) → read_items l (unplaced ts) ≡ option_map bare_items (read_items l ts)
-  read-items-bare ts = ap (λ n. items_with l (suc n) (unplaced ts)) (size-bare ts) ∙ items-with-bare (suc (size ts)) ts
+  read-items-bare ts =
+      ap (λ n. items_with l (suc n) (unplaced ts)) (size-bare ts) ∙ parts-bare (read_item l) bare_item item-bare (suc (size ts)) ts

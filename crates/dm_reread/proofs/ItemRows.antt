@@ -3,7 +3,7 @@ use Rattle.std.specs.Prelude.{◌≡◌, ℕ, zero, suc, ◌≤◌, Bool, true, 
 use Rattle.std.proofs.Common.{ap, ◌∙◌, sym}
 use native.Mathlib.Omega.{arith}
 use Rattle.dm_stream.specs.declared.tokens.Delim.TheVariants.{Paren, Brace}
-use Rattle.dm_stream.specs.Trees.{Trees, no_trees, token, group, join, join-no_trees, join_assoc}
+use Rattle.dm_stream.specs.Trees.{Trees, no_trees, join, join-no_trees, join_assoc}
 use Rattle.dm_ast.specs.Keywords.{is_name, is_keyword}
 use Rattle.dm_ast.specs.TypeGrammar.{is_path_word}
 use Rattle.dm_ast.specs.Tree.{TypeTree}
@@ -20,10 +20,11 @@ use Rattle.dm_reread.specs.Leaves.{LeafGrammar, Leaves, LeafLaws}
 use Rattle.dm_reread.specs.Reading.{whole}
 use Rattle.dm_reread.specs.Grammar.{IsName}
 use Rattle.dm_reread.specs.Whole.{size}
-use Rattle.dm_reread.specs.Items.{head_of, between_trees, ItemLeaves, all_attrs, attr_among, attrs_from, read_attrs, assocs_from, read_assocs, param_from, behind_receiver, read_inputs, output_after, const_or_fn, name_of_method, read_method, some_methods, methods_from, read_methods, members_of, read_item}
+use Rattle.dm_reread.specs.Items.{head_of, between_trees, ItemLeaves, all_attrs, attr_among, attrs_from, read_attrs, assocs_from, read_assocs, param_from, behind_receiver, read_inputs, output_after, const_or_fn, name_of_method, read_method, read_methods, members_of, read_item}
 use Rattle.dm_reread.specs.ItemGrammar.{ItemGrammar, ItemLaws, AreAssocs, IsParam, IsOutput, IsMethod, AreMethods, IsItem}
 use Rattle.dm_reread.proofs.Words.{plainly, name-next, word-next}
 use Rattle.dm_reread.proofs.Fuel.{size-join}
+use Rattle.dm_reread.proofs.PartLists.{parts-row}
 use Rattle.dm_reread.proofs.Back.{block-back}
 
 -- ---- attributes
@@ -187,21 +188,10 @@ method-row g l L x rest h =
     ap (read_method l) (method-shape x rest) ∙
     rw (all-attrs x.attrs behind (fn-no-hash x.is_const x rest)) (const-row l x.attrs x.is_const x rest ∙ named-row g l L x rest h)
 
-methods-some : (l : Leaves) (more : Trees → Option (List MethodTree)) (ts : Trees) (x : MethodTree × Trees) → read_method l ts ≡ Some x →
-    methods_from l more ts ≡ some_methods l more ts
-methods-some l more no_trees x h = absurd (cc)
-methods-some l more (token t ts) x h = refl
-methods-some l more (group d from inside upto ts) x h = refl
-
 methods-row : (g : LeafGrammar) (l : Leaves) (L : LeafLaws g l) (n : ℕ) (xs : List MethodTree) → AreMethods g xs → suc (length xs) ≤ n →
     read_methods l n (in_turn (map method_trees xs)) ≡ Some xs
-methods-row g l L zero xs h m = absurd (omega (arith, m))
-methods-row g l L (suc n) [] h m = refl
-methods-row g l L (suc n) (x ∷ xs) h m =
-    let more : Trees = in_turn (map method_trees xs) in
-    let first : read_method l (join (method_trees x) more) ≡ Some (x, more) = method-row g l L x more h.0 in
-    methods-some l (read_methods l n) (join (method_trees x) more) (x, more) first ∙
-    rw (first, methods-row g l L n xs h.1 (omega (arith, m))) refl
+methods-row g l L =
+    parts-row (read_method l) method_trees (AreMethods g) refl (λ x xs rest h. (method-row g l L x rest h.0, h.1))
 
 methods-size : (xs : List MethodTree) → length xs ≤ size (in_turn (map method_trees xs))
 methods-size [] = omega arith

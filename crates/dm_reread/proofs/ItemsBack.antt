@@ -1,32 +1,21 @@
 -- Implementations come back from their tokens, one behind the other, and no two lists of them have the same.
-use Rattle.std.specs.Prelude.{◌≡◌, ℕ, zero, suc, ◌≤◌, List, [], ◌∷◌, map, length, Option, Some, None, refl}
+use Rattle.std.specs.Prelude.{◌≡◌, ℕ, suc, ◌≤◌, List, [], ◌∷◌, map, length, Some, None, refl}
 use Rattle.std.proofs.Common.{ap, ◌∙◌, sym, subst}
 use native.Mathlib.Omega.{arith}
-use Rattle.dm_stream.specs.Trees.{Trees, no_trees, token, group, join}
+use Rattle.dm_stream.specs.Trees.{Trees}
 use Rattle.dm_output.specs.Output.{ItemTree}
 use Rattle.dm_output.specs.Tokens.{in_turn, item_trees}
-use Rattle.dm_reread.specs.Reading.{then}
 use Rattle.dm_reread.specs.Whole.{size}
-use Rattle.dm_reread.specs.Items.{ItemLeaves, read_item, items_from, items_with, read_items}
+use Rattle.dm_reread.specs.Items.{ItemLeaves, read_item, items_with, read_items}
 use Rattle.dm_reread.specs.ItemGrammar.{ItemGrammar, ItemLaws, AreItems}
 use Rattle.dm_reread.specs.Spelled.{AreReadItems}
 use Rattle.dm_reread.proofs.Fuel.{size-join}
+use Rattle.dm_reread.proofs.PartLists.{parts-row}
 use Rattle.dm_reread.proofs.ItemRows.{item-back, item-size}
-
-items-some : (l : ItemLeaves) (more : Trees → Option (List ItemTree)) (ts : Trees) (x : ItemTree × Trees) → read_item l ts ≡ Some x →
-    items_from l more ts ≡ then (more x.1) (λ s. Some (x.0 ∷ s))
-items-some l more no_trees x h = absurd (cc)
-items-some l more (token t ts) x h = rw h refl
-items-some l more (group d from inside upto ts) x h = rw h refl
 
 items-row : (g : ItemGrammar) (l : ItemLeaves) → ItemLaws g l → (n : ℕ) (is : List ItemTree) → AreItems g is → suc (length is) ≤ n →
     items_with l n (in_turn (map item_trees is)) ≡ Some is
-items-row g l L zero is h m = absurd (omega (arith, m))
-items-row g l L (suc n) [] h m = refl
-items-row g l L (suc n) (i ∷ is) h m =
-    let more : Trees = in_turn (map item_trees is) in
-    items-some l (items_with l n) (join (item_trees i) more) (i, more) (item-back g l L i more h.0) ∙
-    rw (items-row g l L n is h.1 (omega (arith, m))) refl
+items-row g l L = parts-row (read_item l) item_trees (AreItems g) refl (λ i is rest h. (item-back g l L i rest h.0, h.1))
 
 items-size : (is : List ItemTree) → length is ≤ size (in_turn (map item_trees is))
 items-size [] = omega arith

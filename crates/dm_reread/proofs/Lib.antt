@@ -13,6 +13,7 @@ pub mod Coming
 pub mod Fuel
 pub mod Back
 pub mod Clashes
+pub mod PartLists
 pub mod ItemRows
 pub mod ItemsBack
 pub mod Examples

@@ -1,10 +1,9 @@
 -- A reader of implementations: their attributes, associated types and methods. What stands between `impl` and the brace is a leaf.
 use Rattle.std.specs.Prelude.{cond, ℕ, zero, suc, ◌==◌, ◌&&◌, not, ◌||◌, Bool, true, false, List, [], ◌∷◌, codes, Option, Some, None}
 use Rattle.std.specs.Str.{bytes_eq}
-use Rattle.dm_stream.specs.declared.tokens.Delim.{Delim}
-use Rattle.dm_stream.specs.declared.tokens.Delim.TheVariants.{Paren, Bracket, Brace}
 use Rattle.dm_stream.specs.declared.tokens.Token.{Token}
 use Rattle.dm_stream.specs.declared.tokens.Token.TheVariants as t
+use Rattle.dm_stream.specs.Cursors.{same_delim}
 use Rattle.dm_stream.specs.Trees.{Trees, no_trees, token, group, join}
 use Rattle.dm_ast.specs.Keywords.{is_name}
 use Rattle.dm_ast.specs.Spelling.{is_word}
@@ -40,6 +39,20 @@ pub record ItemLeaves : Type 0 where
   pub parts : Leaves
   pub head : Trees → Answer HeadTree
 
+-- ---- parts one behind the other, to the end of the trees
+
+abbrev pub some_parts : {A : Type 0} → (Trees → Answer A) → (Trees → Option (List A)) → Trees → Option (List A)
+some_parts read more ts = then (read ts) (λ a. then (more a.1) (λ s. Some (a.0 ∷ s)))
+
+abbrev pub parts_from : {A : Type 0} → (Trees → Answer A) → (Trees → Option (List A)) → Trees → Option (List A)
+parts_from read more no_trees = Some []
+parts_from read more ts = some_parts read more ts
+
+-- at most so many
+abbrev pub parts_within : {A : Type 0} → (Trees → Answer A) → ℕ → Trees → Option (List A)
+parts_within read zero ts = None
+parts_within read (suc n) ts = parts_from read (parts_within read n) ts
+
 -- ---- attributes
 
 -- trees that differ in ranges alone
@@ -48,12 +61,6 @@ same_token (t.Ident i) (t.Ident j) = ((i.raw && j.raw) || not (i.raw || j.raw)) 
 same_token (t.Punct p) (t.Punct q) =
     ((is_alone p.spacing && is_alone q.spacing) || not (is_alone p.spacing || is_alone q.spacing)) && (p.ch == q.ch)
 same_token _ _ = false
-
-abbrev same_delim : Delim → Delim → Bool
-same_delim Paren Paren = true
-same_delim Bracket Bracket = true
-same_delim Brace Brace = true
-same_delim _ _ = false
 
 -- whether trees without literals and lifetimes are the same but for their ranges
 abbrev pub same_words : Trees → Trees → Bool
@@ -159,16 +166,11 @@ const_or_fn l as' n = fn_from l as' false n
 abbrev pub read_method : Leaves → Trees → Answer MethodTree
 read_method l ts = then (read_attrs (suc (size ts)) ts) (λ a. const_or_fn l a.0 (next a.1))
 
-abbrev pub some_methods : Leaves → (Trees → Option (List MethodTree)) → Trees → Option (List MethodTree)
-some_methods l more ts = then (read_method l ts) (λ a. then (more a.1) (λ s. Some (a.0 ∷ s)))
-
 abbrev pub methods_from : Leaves → (Trees → Option (List MethodTree)) → Trees → Option (List MethodTree)
-methods_from l more no_trees = Some []
-methods_from l more ts = some_methods l more ts
+methods_from l = parts_from (read_method l)
 
 abbrev pub read_methods : Leaves → ℕ → Trees → Option (List MethodTree)
-read_methods l zero ts = None
-read_methods l (suc n) ts = methods_from l (read_methods l n) ts
+read_methods l = parts_within (read_method l)
 
 -- ---- implementations
 
@@ -191,12 +193,10 @@ read_item l ts =
     then (read_attrs (suc (size ts)) ts) (λ a. then (impl_after (next a.1)) (λ us. then (l.head us) (λ h. braces_of_item l a.0 h.0 (next h.1))))
 
 abbrev pub items_from : ItemLeaves → (Trees → Option (List ItemTree)) → Trees → Option (List ItemTree)
-items_from l more no_trees = Some []
-items_from l more ts = then (read_item l ts) (λ a. then (more a.1) (λ s. Some (a.0 ∷ s)))
+items_from l = parts_from (read_item l)
 
 abbrev pub items_with : ItemLeaves → ℕ → Trees → Option (List ItemTree)
-items_with l zero ts = None
-items_with l (suc n) ts = items_from l (items_with l n) ts
+items_with l = parts_within (read_item l)
 
 -- implementations, one behind the other, to the end
 abbrev pub read_items : ItemLeaves → Trees → Option (List ItemTree)
