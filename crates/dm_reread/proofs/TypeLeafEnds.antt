@@ -46,23 +46,26 @@ apart cs c d h k = by (nat_eq c d) refl
 
 -- ---- the end itself
 
+-- a test that meets no brace, and no such punct or word
+stop_unmet : (test : Trees → Bool) → test no_trees ≡ false → ((f g : Span) (us ts : Trees) → test (group Brace f us g ts) ≡ false) →
+    ((p : Punct) (ts : Trees) → one_of stops p.ch ≡ true → test (token (t.Punct p) ts) ≡ false) →
+    ((i : Ident) (ts : Trees) → is_stop_word i ≡ true → test (token (t.Ident i) ts) ≡ false) → (rest : Trees) → Stop rest → test rest ≡ false
+stop_unmet test none brace punct word _ stop_end = none
+stop_unmet test none brace punct word _ (stop_punct p ts a h) = punct p ts h
+stop_unmet test none brace punct word _ (stop_brace f g us ts) = brace f g us ts
+stop_unmet test none brace punct word _ (stop_word i ts h) = word i ts h
+
 stop_sees : (c : ℕ) → one_of stops c ≡ false → (rest : Trees) → Stop rest → sees c rest ≡ false
-stop_sees c k _ stop_end = refl
-stop_sees c k _ (stop_punct p ts a h) = apart stops p.ch c h k
-stop_sees c k _ (stop_brace f g us ts) = refl
-stop_sees c k _ (stop_word i ts h) = refl
+stop_sees c k = stop_unmet (sees c) refl (λ f g us ts. refl) (λ p ts h. apart stops p.ch c h k) (λ i ts h. refl)
 
 stop_one : (c : ℕ) → one_of stops c ≡ false → (rest : Trees) → Stop rest → sees_one (c ∷ []) rest ≡ false
-stop_one c k _ stop_end = refl
-stop_one c k _ (stop_punct p ts a h) = ap (λ b. b || false) (apart stops p.ch c h k)
-stop_one c k _ (stop_brace f g us ts) = refl
-stop_one c k _ (stop_word i ts h) = refl
+stop_one c k =
+    stop_unmet (sees_one (c ∷ [])) refl (λ f g us ts. refl) (λ p ts h. ap (λ b. b || false) (apart stops p.ch c h k)) (λ i ts h. refl)
 
 stop_pair : (a b : ℕ) → one_of stops a ≡ false → (rest : Trees) → Stop rest → sees_pair a b rest ≡ false
-stop_pair a b k _ stop_end = refl
-stop_pair a b k _ (stop_punct p ts e h) = ap (λ x. (x && is_joint p.spacing) && sees b ts) (apart stops p.ch a h k)
-stop_pair a b k _ (stop_brace f g us ts) = refl
-stop_pair a b k _ (stop_word i ts h) = refl
+stop_pair a b k =
+    stop_unmet (sees_pair a b) refl (λ f g us ts. refl)
+    (λ p ts h. ap (λ x. (x && is_joint p.spacing) && sees b ts) (apart stops p.ch a h k)) (λ i ts h. refl)
 
 word_apart : (word : List ℕ) → is_stop_word (plain_word word) ≡ false → (i : Ident) → is_stop_word i ≡ true → is_word word i ≡ false
 word_apart word k i h = by (is_word word i) refl
@@ -96,27 +99,18 @@ module _ (rest : Trees) (stop : Stop rest) where
   pub unmet_sees : (c : ℕ) → one_of stops c ≡ false → Unmet (sees c)
   unmet_sees c k no_trees h = stop_sees c k rest stop
   unmet_sees c k (token (t.Punct p) ts) h = h
-  unmet_sees c k (token (t.Ident i) ts) h = refl
-  unmet_sees c k (token (t.Literal l) ts) h = refl
-  unmet_sees c k (token (t.Lifetime l) ts) h = refl
-  unmet_sees c k (group d f us g ts) h = refl
+  unmet_sees c k _ h = refl
 
   pub unmet_one : (c : ℕ) → one_of stops c ≡ false → Unmet (sees_one (c ∷ []))
   unmet_one c k no_trees h = stop_one c k rest stop
   unmet_one c k (token (t.Punct p) ts) h = h
-  unmet_one c k (token (t.Ident i) ts) h = refl
-  unmet_one c k (token (t.Literal l) ts) h = refl
-  unmet_one c k (token (t.Lifetime l) ts) h = refl
-  unmet_one c k (group d f us g ts) h = refl
+  unmet_one c k _ h = refl
 
   unmet_pair : (a b : ℕ) → one_of stops a ≡ false → one_of stops b ≡ false → Unmet (sees_pair a b)
   unmet_pair a b k l no_trees h = stop_pair a b k rest stop
   unmet_pair a b k l (token (t.Punct p) ts) h =
       and_kept (nat_eq p.ch a && is_joint p.spacing) (sees b ts) (sees b (join ts rest)) (unmet_sees b l ts) h
-  unmet_pair a b k l (token (t.Ident i) ts) h = refl
-  unmet_pair a b k l (token (t.Literal i) ts) h = refl
-  unmet_pair a b k l (token (t.Lifetime i) ts) h = refl
-  unmet_pair a b k l (group d f us g ts) h = refl
+  unmet_pair a b k l _ h = refl
 
   pub unmet_colons : Unmet sees_colons
   unmet_colons = unmet_pair 58 58 refl refl
@@ -124,98 +118,48 @@ module _ (rest : Trees) (stop : Stop rest) where
   same_colon : (ts : Trees) → sees_one (58 ∷ []) (join ts rest) ≡ sees_one (58 ∷ []) ts
   same_colon no_trees = stop_one 58 refl rest stop
   same_colon (token (t.Punct p) ts) = refl
-  same_colon (token (t.Ident i) ts) = refl
-  same_colon (token (t.Literal l) ts) = refl
-  same_colon (token (t.Lifetime l) ts) = refl
-  same_colon (group d f us g ts) = refl
+  same_colon _ = refl
 
   pub unmet_colon : Unmet sees_colon
-  unmet_colon no_trees h = by rest stop
-    where
-      by : (us : Trees) → Stop us → sees_colon us ≡ false
-      by _ stop_end = refl
-      by _ (stop_punct p ts a e) = ap (λ b. b && not (is_joint p.spacing && sees_one (58 ∷ []) ts)) (apart stops p.ch 58 e refl)
-      by _ (stop_brace f g us ts) = refl
-      by _ (stop_word i ts e) = refl
+  unmet_colon no_trees h =
+      stop_unmet sees_colon refl (λ f g us ts. refl)
+      (λ p ts e. ap (λ b. b && not (is_joint p.spacing && sees_one (58 ∷ []) ts)) (apart stops p.ch 58 e refl)) (λ i ts e. refl) rest stop
   unmet_colon (token (t.Punct p) ts) h = ap (λ b. nat_eq p.ch 58 && not (is_joint p.spacing && b)) (same_colon ts) ∙ h
-  unmet_colon (token (t.Ident i) ts) h = refl
-  unmet_colon (token (t.Literal l) ts) h = refl
-  unmet_colon (token (t.Lifetime l) ts) h = refl
-  unmet_colon (group d f us g ts) h = refl
+  unmet_colon _ h = refl
 
   -- behind some trees, any word
   pub kept_word : (word : List ℕ) (ts : Trees) → at_end ts ≡ false → sees_word word ts ≡ false → sees_word word (join ts rest) ≡ false
   kept_word word no_trees e h = absurd (cc)
   kept_word word (token (t.Ident i) ts) e h = h
-  kept_word word (token (t.Punct p) ts) e h = refl
-  kept_word word (token (t.Literal l) ts) e h = refl
-  kept_word word (token (t.Lifetime l) ts) e h = refl
-  kept_word word (group d f us g ts) e h = refl
+  kept_word word _ e h = refl
 
   -- and else a word that ends no type
   pub unmet_word : (word : List ℕ) → is_stop_word (plain_word word) ≡ false → Unmet (sees_word word)
-  unmet_word word k no_trees h = by rest stop
-    where
-      by : (us : Trees) → Stop us → sees_word word us ≡ false
-      by _ stop_end = refl
-      by _ (stop_punct p ts a e) = refl
-      by _ (stop_brace f g us ts) = refl
-      by _ (stop_word i ts e) = word_apart word k i e
-  unmet_word word k (token j ts) h = kept_word word (token j ts) refl h
-  unmet_word word k (group d f us g ts) h = refl
+  unmet_word word k no_trees h =
+      stop_unmet (sees_word word) refl (λ f g us ts. refl) (λ p ts e. refl) (λ i ts e. word_apart word k i e) rest stop
+  unmet_word word k (token (t.Ident i) ts) h = h
+  unmet_word word k _ h = refl
 
   pub unmet_path_word : Unmet sees_path_word
-  unmet_path_word no_trees h = by rest stop
-    where
-      by : (us : Trees) → Stop us → sees_path_word us ≡ false
-      by _ stop_end = refl
-      by _ (stop_punct p ts a e) = refl
-      by _ (stop_brace f g us ts) = refl
-      by _ (stop_word i ts e) = no_path_word i e
+  unmet_path_word no_trees h =
+      stop_unmet sees_path_word refl (λ f g us ts. refl) (λ p ts e. refl) (λ i ts e. no_path_word i e) rest stop
   unmet_path_word (token (t.Ident i) ts) h = h
-  unmet_path_word (token (t.Punct p) ts) h = refl
-  unmet_path_word (token (t.Literal l) ts) h = refl
-  unmet_path_word (token (t.Lifetime l) ts) h = refl
-  unmet_path_word (group d f us g ts) h = refl
+  unmet_path_word _ h = refl
 
   pub unmet_lifetime : Unmet sees_lifetime
-  unmet_lifetime no_trees h = by rest stop
-    where
-      by : (us : Trees) → Stop us → sees_lifetime us ≡ false
-      by _ stop_end = refl
-      by _ (stop_punct p ts a e) = refl
-      by _ (stop_brace f g us ts) = refl
-      by _ (stop_word i ts e) = refl
+  unmet_lifetime no_trees h = stop_unmet sees_lifetime refl (λ f g us ts. refl) (λ p ts e. refl) (λ i ts e. refl) rest stop
   unmet_lifetime (token (t.Lifetime l) ts) h = h
-  unmet_lifetime (token (t.Ident i) ts) h = refl
-  unmet_lifetime (token (t.Punct p) ts) h = refl
-  unmet_lifetime (token (t.Literal l) ts) h = refl
-  unmet_lifetime (group d f us g ts) h = refl
+  unmet_lifetime _ h = refl
 
   pub unmet_literal : Unmet sees_literal
-  unmet_literal no_trees h = by rest stop
-    where
-      by : (us : Trees) → Stop us → sees_literal us ≡ false
-      by _ stop_end = refl
-      by _ (stop_punct p ts a e) = refl
-      by _ (stop_brace f g us ts) = refl
-      by _ (stop_word i ts e) = refl
+  unmet_literal no_trees h = stop_unmet sees_literal refl (λ f g us ts. refl) (λ p ts e. refl) (λ i ts e. refl) rest stop
   unmet_literal (token (t.Literal l) ts) h = h
-  unmet_literal (token (t.Ident i) ts) h = refl
-  unmet_literal (token (t.Punct p) ts) h = refl
-  unmet_literal (token (t.Lifetime l) ts) h = refl
-  unmet_literal (group d f us g ts) h = refl
+  unmet_literal _ h = refl
 
   unmet_parens : Unmet (sees_group Paren)
-  unmet_parens no_trees h = by rest stop
-    where
-      by : (us : Trees) → Stop us → sees_group Paren us ≡ false
-      by _ stop_end = refl
-      by _ (stop_punct p ts a e) = refl
-      by _ (stop_brace f g us ts) = refl
-      by _ (stop_word i ts e) = refl
+  unmet_parens no_trees h = stop_unmet (sees_group Paren) refl (λ f g us ts. refl) (λ p ts e. refl) (λ i ts e. refl) rest stop
   unmet_parens (group d f us g ts) h = h
-  unmet_parens (token k ts) h = refl
+  unmet_parens _ h = refl
 
   -- ---- several tests
 
@@ -241,14 +185,8 @@ module _ (rest : Trees) (stop : Stop rest) where
   unmet_turbofish (token (t.Punct a) (token (t.Punct b) ts)) h =
       behind_pair ((nat_eq a.ch 58 && is_joint a.spacing) && nat_eq b.ch 58) ts (token (t.Punct a) (token (t.Punct b) ts))
       (token (t.Punct a) (token (t.Punct b) (join ts rest))) h
-  unmet_turbofish (token (t.Punct a) (token (t.Ident i) ts)) h = h
-  unmet_turbofish (token (t.Punct a) (token (t.Literal i) ts)) h = h
-  unmet_turbofish (token (t.Punct a) (token (t.Lifetime i) ts)) h = h
-  unmet_turbofish (token (t.Punct a) (group d f us g ts)) h = h
-  unmet_turbofish (token (t.Ident i) ts) h = refl
-  unmet_turbofish (token (t.Literal i) ts) h = refl
-  unmet_turbofish (token (t.Lifetime i) ts) h = refl
-  unmet_turbofish (group d f us g ts) h = refl
+  unmet_turbofish (token (t.Punct a) _) h = h
+  unmet_turbofish _ h = refl
 
   pub unmet_arguments : Unmet sees_arguments
   unmet_arguments = unmet_or (unmet_or (unmet_sees 60 refl) unmet_turbofish) unmet_parens

@@ -4,7 +4,7 @@ use Rattle.dm_stream.specs.declared.tokens.Span.{Span}
 use Rattle.dm_stream.specs.declared.tokens.Delim.{Delim}
 use Rattle.dm_stream.specs.declared.tokens.Ident.{Ident}
 use Rattle.dm_stream.specs.declared.tokens.Token.TheVariants as t
-use Rattle.dm_stream.specs.Trees.{Trees, no_trees, token, group, join}
+use Rattle.dm_stream.specs.Trees.{Trees, no_trees, token, join}
 use Rattle.dm_ast.specs.Tree.{Lifetimes}
 use Rattle.dm_ast.specs.Spelling.{Where, deeper, Marks, Spelling, at_end, sees, sees_one, sees_colons, is_joint, one_of, Nothing, Facing, ◌then◌, Provided, Before, TokenAt, ident, lifetime, punct, keyword, PairAt, LoneAt, colons, colon, equals, GroupAt, flag, perhaps, repeated, chain, no_items, last_item, items_left, items, RangedAt}
 use Rattle.dm_ast.specs.TypeGrammar.{between_angles, for_lifetimes, plain_path}
@@ -134,10 +134,7 @@ module _ (rest : Trees) where
   pub some_one : (cs : List ℕ) (ts : Trees) → at_end ts ≡ false → sees_one cs ts ≡ sees_one cs (join ts rest)
   some_one cs no_trees h = absurd (cc)
   some_one cs (token (t.Punct p) ts) h = refl
-  some_one cs (token (t.Ident i) ts) h = refl
-  some_one cs (token (t.Literal l) ts) h = refl
-  some_one cs (token (t.Lifetime l) ts) h = refl
-  some_one cs (group d f us g ts) h = refl
+  some_one cs _ h = refl
 
   pub ext_equals : (w : Where) → ExtendsIf (λ ts. at_end ts ≡ false) (equals w)
   ext_equals w = ext_lone w 61 (61 ∷ 62 ∷ []) (λ others h b e. ap (λ x. b && x) (sym (some_one (61 ∷ 62 ∷ []) others h)) ∙ e)
@@ -151,10 +148,7 @@ module _ (rest : Trees) where
   pub listed_stays : (c : ℕ) (ts : Trees) → Listed ts → sees c ts ≡ sees c (join ts rest)
   listed_stays c no_trees h = absurd (cc)
   listed_stays c (token (t.Punct p) ts) h = refl
-  listed_stays c (token (t.Ident i) ts) h = refl
-  listed_stays c (token (t.Literal l) ts) h = refl
-  listed_stays c (token (t.Lifetime l) ts) h = refl
-  listed_stays c (group d f us g ts) h = refl
+  listed_stays c _ h = refl
 
   pub ext_angles : (w : Where) (Inside : Where → Spelling) → ((v : Where) → ExtendsIf Listed (Inside v)) → Extends (between_angles w Inside)
   ext_angles w Inside f =

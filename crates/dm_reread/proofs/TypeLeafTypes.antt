@@ -3,7 +3,7 @@ use Rattle.std.proofs.Common.{◌≡◌, ℕ, zero, suc, Bool, true, false, ◌|
 use Rattle.dm_stream.specs.declared.tokens.Delim.TheVariants.{Paren, Bracket, Brace}
 use Rattle.dm_stream.specs.declared.tokens.Literal.{Literal}
 use Rattle.dm_stream.specs.declared.tokens.Token.TheVariants as t
-use Rattle.dm_stream.specs.Trees.{Trees, no_trees, token, group, join}
+use Rattle.dm_stream.specs.Trees.{Trees, no_trees, token, join}
 use Rattle.dm_ast.specs.declared.plain.ConstArg.{ConstArg}
 use Rattle.dm_ast.specs.declared.plain.ConstArg.TheVariants as constant
 use Rattle.dm_ast.specs.Tree.{TypeTree, type_tree, TypeNode, paren, tuple, slice, array, reference, pointer, bare_fn, trait_object, impl_trait, infer, never, path, macro_type, MaybeType, no_type, some_type, no_self, some_self, BoundTree, outlives, implements, BoundTrees, no_bounds, bound_then, TraitBoundTree, trait_bound, FnTree, fn_tree, PathTree, path_tree, SegmentTree, segment, SegmentTrees, no_segments, segment_then, ArgumentsTree, absent, angle, parens, ArgumentTree, lifetime_arg, type_arg, const_arg, assoc_type, assoc_const, constraint, ArgumentTrees, no_arguments, argument_then, MaybeArguments, arguments_absent, some_arguments}
@@ -48,10 +48,7 @@ module _ (rest : Trees) (stop : Stop rest) where
       let a = apart (43 ∷ 44 ∷ 62 ∷ []) p.ch 61 g refl in
       let b = apart (43 ∷ 44 ∷ 62 ∷ []) p.ch 58 g refl in
       rw (a, b) refl
-  no_binding (token (t.Ident i) ts) g = refl
-  no_binding (token (t.Literal l) ts) g = refl
-  no_binding (token (t.Lifetime l) ts) g = refl
-  no_binding (group d f us k ts) g = refl
+  no_binding _ g = refl
 
   -- ---- behind `for<..>` something stands
 
@@ -84,12 +81,8 @@ module _ (rest : Trees) (stop : Stop rest) where
       (calm_punct rest stop w c h ts others m s, ap (λ x. sees_word (codes "for") (join x rest)) s.there.spelled)
 
   listed_no_for : (ts : Trees) → Listed ts → sees_word (codes "for") (join ts rest) ≡ false
-  listed_no_for no_trees g = absurd (cc)
   listed_no_for (token (t.Punct p) ts) g = refl
-  listed_no_for (token (t.Ident i) ts) g = absurd (cc)
-  listed_no_for (token (t.Literal l) ts) g = absurd (cc)
-  listed_no_for (token (t.Lifetime l) ts) g = absurd (cc)
-  listed_no_for (group d f us k ts) g = absurd (cc)
+  listed_no_for _ g = absurd (cc)
 
   pub bounded_listed : (ts : Trees) → Listed ts → Bounded ts
   bounded_listed ts g = (calm_listed rest stop ts g, listed_no_for ts g)
