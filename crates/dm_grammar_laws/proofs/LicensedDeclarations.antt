@@ -1,6 +1,7 @@
 -- Where declarations, types and bounds are refused: at a place in the trees, and as too deep only behind more than 128 openers.
 use Rattle.std.proofs.Common.{◌≡◌, ℕ, Bool, false, List, codes, Option, Some, None, Ok, Err, refl, sym, ap, ◌∙◌, subst, arith}
 use Rattle.dm_stream.specs.declared.tokens.Span.{Span}
+use Rattle.dm_stream.specs.declared.tokens.Delim.{Delim}
 use Rattle.dm_stream.specs.declared.tokens.Delim.TheVariants.{Paren, Brace}
 use Rattle.dm_stream.specs.declared.error.Refusal.{Refusal}
 use Rattle.dm_stream.specs.Trees.{Trees, no_trees, flatten}
@@ -16,7 +17,7 @@ use Rattle.dm_ast.specs.Keywords.{is_name}
 use Rattle.dm_ast.specs.Spelling.{Where, deeper, first_too_deep, marks_of, at_end, sees, sees_group, sees_lifetime, sees_word, sees_colon, sees_equals, is_word}
 use Rattle.dm_ast.specs.TypeGrammar.{ends_bounds}
 use Rattle.dm_ast.specs.DeclarationGrammar.{ends_where}
-use Rattle.dm_ast.specs.Readers.{Outcome, Parser, and_then, inside_at, refuse, ended, if_shallow}
+use Rattle.dm_ast.specs.Readers.{Outcome, Parser, and_then, inside_at, refuse, ended, read_group, if_shallow}
 use Rattle.dm_ast.specs.PlainReaders.{punctuated}
 use Rattle.dm_read_paths.specs.TypeReaders.{read_type, inner_path}
 use Rattle.dm_read.specs.DeclarationReaders.{Parts, read_name, read_word_at, to_listed, read_listed, read_bound_list, ends_lifetimes, read_lifetime_bounds, to_params, to_field, to_slot, to_variant, to_struct, to_braced, to_declaration, value_of, read_lifetime_param, read_const_param, read_type_param, read_param_behind, read_param, read_generics, read_lifetime_predicate, read_type_predicate, read_predicate, read_where, read_field, read_slot, read_fields, read_slots, read_variant_fields, read_discriminant, read_variant, read_variants, read_named_or_unit, read_struct_body, read_struct, read_braced, read_shape, read_front, read_declaration}
@@ -61,6 +62,12 @@ licensed_word_at word w = licensed_gives (licensed_ident (is_word word) w) (λ i
 
 licensed_listed : {A : Type 0} (ends : Trees → Bool) (item : Where → Parser A) (w : Where) → Licenses 0 w (item w) → Licenses 0 w (read_listed ends item w)
 licensed_listed ends item w h = licensed_gives (licensed_list 44 ends h) to_listed
+
+-- a list in a group
+licensed_enclosed : {A : Type 0} (d : Delim) (item : Where → Parser A) → ((w : Where) → Licenses 0 w (item w)) → (w : Where) →
+    Licenses 0 w (read_group d (read_listed at_end item) w)
+licensed_enclosed d item h w =
+    licensed_any (licensed_group d (read_listed at_end item) w (λ limit. licensed_listed at_end item (inside_at w limit) (h (inside_at w limit))))
 
 licensed_bound_list : (one : Where → Parser BoundTree) (w : Where) → Licenses 0 w (one w) → Licenses 0 w (read_bound_list one w)
 licensed_bound_list one w h = licensed_gives (licensed_list 43 ends_bounds h) to_listed
@@ -152,14 +159,10 @@ module _ (p : Parts) (h : AreLicensed p) where
   licensed_slot w = licensed_gives (licensed_ranged (licensed_and (h.attributes w) (licensed_and (h.visibility w) (h.types w)))) to_slot
 
   licensed_fields : (w : Where) → Licenses 0 w (read_fields p w)
-  licensed_fields w =
-      licensed_any (licensed_group Brace (read_listed at_end (read_field p)) w
-      (λ limit. licensed_listed at_end (read_field p) (inside_at w limit) (licensed_field (inside_at w limit))))
+  licensed_fields = licensed_enclosed Brace (read_field p) licensed_field
 
   licensed_slots : (w : Where) → Licenses 0 w (read_slots p w)
-  licensed_slots w =
-      licensed_any (licensed_group Paren (read_listed at_end (read_slot p)) w
-      (λ limit. licensed_listed at_end (read_slot p) (inside_at w limit) (licensed_slot (inside_at w limit))))
+  licensed_slots = licensed_enclosed Paren (read_slot p) licensed_slot
 
   licensed_variant_fields : (w : Where) → Licenses 0 w (read_variant_fields p w)
   licensed_variant_fields w =
@@ -177,9 +180,7 @@ module _ (p : Parts) (h : AreLicensed p) where
       (licensed_and (h.visibility w) (licensed_and (licensed_name w) (licensed_and (licensed_variant_fields w) (licensed_discriminant w)))))) to_variant
 
   licensed_variants : (w : Where) → Licenses 0 w (read_variants p w)
-  licensed_variants w =
-      licensed_any (licensed_group Brace (read_listed at_end (read_variant p)) w
-      (λ limit. licensed_listed at_end (read_variant p) (inside_at w limit) (licensed_variant (inside_at w limit))))
+  licensed_variants = licensed_enclosed Brace (read_variant p) licensed_variant
 
   -- ---- the three shapes
 
