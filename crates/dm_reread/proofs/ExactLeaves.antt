@@ -1,24 +1,14 @@
 -- What leaves read of the tokens of their own, they read just so.
-use Rattle.std.proofs.Common.{◌≡◌, ℕ, ◌+◌, ◌-◌, Bool, true, false, ◌&&◌, nat_eq, List, [], ◌∷◌, ◌++◌, length, take, Option, Some, T, refl, ap, ◌∙◌, arith}
-use Rattle.std.specs.Str.{bytes_eq}
-use Rattle.std.proofs.lemmas.Slice.Eq.{bytes_eq-Decides}
-use Rattle.std.proofs.lemmas.Bool.{eq-eqb}
+use Rattle.std.proofs.Common.{◌≡◌, ℕ, ◌+◌, ◌-◌, true, List, ◌++◌, length, take, Option, Some, T, ap, ◌∙◌, arith}
 use Rattle.std.proofs.lemmas.List.{length-append}
 use Rattle.std.proofs.Math.Seq.{take-append_seam}
-use Rattle.dm_stream.specs.declared.tokens.Delim.{Delim}
-use Rattle.dm_stream.specs.declared.tokens.Delim.TheVariants.{Paren, Bracket, Brace}
-use Rattle.dm_stream.specs.declared.tokens.Spacing.{Spacing}
-use Rattle.dm_stream.specs.declared.tokens.Spacing.TheVariants.{Joint, Alone}
-use Rattle.dm_stream.specs.declared.tokens.Token.{Token}
-use Rattle.dm_stream.specs.declared.tokens.Token.TheVariants as t
 use Rattle.dm_stream.specs.declared.tokens.Entry.{Entry}
-use Rattle.dm_stream.specs.declared.tokens.Entry.TheVariants as entry
 use Rattle.dm_stream.specs.Trees.{Trees, flatten, join}
-use Rattle.dm_stream.specs.Cursors.{same_delim}
 use Rattle.dm_stream.proofs.Trees.{flatten-join}
 use Rattle.dm_ast.specs.Tree.{TypeTree, MaybeSelf, some_self, PathTree}
 use Rattle.dm_ast.specs.TypeTokens.{type_trees}
-use Rattle.dm_same.specs.SameTypes.{same_flag, same_spacing, kind_number, all_same, same_token, same_entry}
+use Rattle.dm_same.specs.SameTypes.{same_entry}
+use Rattle.dm_type_eq.proofs.UnplacedSame.{list_itself, entry_itself}
 use Rattle.dm_output.specs.Tokens.{path_expr_trees}
 use Rattle.dm_reread.specs.Next.{next}
 use Rattle.dm_reread.specs.Leaves.{Answer, ends_type, ends_qualified, ends_run}
@@ -35,47 +25,6 @@ use Rattle.dm_reread.proofs.PathLeaf.{qualified_back}
 use Rattle.dm_reread.proofs.RunLeaf.{run_back}
 use Rattle.dm_reread.proofs.HeadLeaf.{head_back}
 
--- ---- entries are the same as themselves
-
-own_bytes : (xs : List ℕ) → bytes_eq xs xs ≡ true
-own_bytes xs = (bytes_eq-Decides xs xs).1 refl
-
-own_number : (n : ℕ) → nat_eq n n ≡ true
-own_number n = eq-eqb n n refl
-
-own_flag : (b : Bool) → same_flag b b ≡ true
-own_flag true = refl
-own_flag false = refl
-
-own_spacing : (s : Spacing) → same_spacing s s ≡ true
-own_spacing Joint = refl
-own_spacing Alone = refl
-
-own_delim : (d : Delim) → same_delim d d ≡ true
-own_delim Paren = refl
-own_delim Bracket = refl
-own_delim Brace = refl
-
-both : (a b : Bool) → a ≡ true → b ≡ true → (a && b) ≡ true
-both true b h k = k
-both false b h k = h
-
-own_token : (k : Token) → same_token k k ≡ true
-own_token (t.Ident i) = both (same_flag i.raw i.raw) (bytes_eq i.name i.name) (own_flag i.raw) (own_bytes i.name)
-own_token (t.Lifetime l) = own_bytes l.name
-own_token (t.Literal l) =
-    both (nat_eq (kind_number l.kind) (kind_number l.kind)) (bytes_eq l.text l.text) (own_number (kind_number l.kind)) (own_bytes l.text)
-own_token (t.Punct p) = both (nat_eq p.ch p.ch) (same_spacing p.spacing p.spacing) (own_number p.ch) (own_spacing p.spacing)
-
-own_entry : (e : Entry) → same_entry e e ≡ true
-own_entry (entry.Token k) = own_token k
-own_entry (entry.Open d from n) = own_delim d
-own_entry (entry.Close d upto) = own_delim d
-
-own_entries : (es : List Entry) → all_same same_entry es es ≡ true
-own_entries [] = refl
-own_entries (e ∷ es) = both (same_entry e e) (all_same same_entry es es) (own_entry e) (own_entries es)
-
 -- ---- what is passed of trees in front of others
 
 pub passed_join : (ts us : Trees) → passed (join ts us) us ≡ flatten ts
@@ -89,7 +38,7 @@ pub exactly_back : {A : Type 0} (trees_of : A → Trees) (x : A) (rest : Trees) 
     exactly trees_of (join (trees_of x) rest) o ≡ Some (x, rest)
 exactly_back trees_of x rest o h =
     ap (exactly trees_of (join (trees_of x) rest)) h ∙
-    ap (λ b. provided b (Some (x, rest))) (ap (has_entries (trees_of x)) (passed_join (trees_of x) rest) ∙ own_entries (flatten (trees_of x)))
+    ap (λ b. provided b (Some (x, rest))) (ap (has_entries (trees_of x)) (passed_join (trees_of x) rest) ∙ list_itself same_entry entry_itself (flatten (trees_of x)))
 
 -- ---- the leaves
 

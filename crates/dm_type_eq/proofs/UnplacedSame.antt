@@ -224,7 +224,7 @@ option_itself : {A : Type 0} (same : A → A → Bool) → ((a : A) → same a a
 option_itself same h None = refl
 option_itself same h (Some a) = h a
 
-list_itself : {A : Type 0} (same : A → A → Bool) → ((a : A) → same a a ≡ true) → (xs : List A) → all_same same xs xs ≡ true
+pub list_itself : {A : Type 0} (same : A → A → Bool) → ((a : A) → same a a ≡ true) → (xs : List A) → all_same same xs xs ≡ true
 list_itself same h [] = refl
 list_itself same h (x ∷ xs) = both (h x) (list_itself same h xs)
 
@@ -252,7 +252,7 @@ token_itself (t.Lifetime l) = lifetime_itself l
 token_itself (t.Literal l) = literal_itself l
 token_itself (t.Punct p) = both (number_itself p.ch) (spacing_itself p.spacing)
 
-entry_itself : (e : Entry) → same_entry e e ≡ true
+pub entry_itself : (e : Entry) → same_entry e e ≡ true
 entry_itself (entry.Token k) = token_itself k
 entry_itself (entry.Open d from n) = delim_itself d
 entry_itself (entry.Close d upto) = delim_itself d
