@@ -1,5 +1,5 @@
 -- The fuel that a text brings is enough.
-use Rattle.std.specs.Prelude.{◌≡◌, ◌+◌, ◌*◌, ◌≤◌, Bool, true, false, List, [], ◌∷◌}
+use Rattle.std.specs.Prelude.{◌≡◌, suc, ◌+◌, ◌*◌, ◌≤◌, Bool, true, false, List, [], ◌∷◌}
 use Rattle.std.proofs.Common.{ap}
 use native.Mathlib.Omega.{arith}
 use Rattle.dm_stream.specs.Layout.{nowhere}
@@ -95,6 +95,22 @@ bool-some : (v : Bool) → 1 ≤ size (expr_trees (bool v))
 bool-some true = omega arith
 bool-some false = omega arith
 
+-- two expressions and more, with a sign between
+chain-size : (sign : Trees) (e e' : ExprTree) (es : ExprTrees) → 1 ≤ size sign → need e ≤ 5 * size (expr_trees e) →
+    need e' ≤ 5 * size (expr_trees e') → needs es ≤ 1 + 5 * size (tail sign es) →
+    suc (needs (expr_then e (expr_then e' es))) ≤ 5 * size (join (expr_trees e) (tail sign (expr_then e' es)))
+chain-size sign e e' es s a b c =
+    omega (
+      arith,
+      size-join (expr_trees e) (tail sign (expr_then e' es)),
+      size-join sign (join (expr_trees e') (tail sign es)),
+      size-join (expr_trees e') (tail sign es),
+      s,
+      a,
+      b,
+      c,
+    )
+
 arm-size : (p : PatternTree) (ps : PatternTrees) (x : MaybeExpr) (d : ArmBodyTree) (more : ArmTrees) →
     pattern_need p ≤ 5 * size (pattern_trees p) →
     patterns_need ps ≤ 1 + 5 * size (bars_tail ps) → maybe_need x ≤ 5 * size (guard_trees x) →
@@ -125,25 +141,13 @@ mutual
   expr-size g b (or_expr no_exprs) h = absurd h.0
   expr-size g b (or_expr (expr_then e no_exprs)) h = absurd h.0
   expr-size g b (or_expr (expr_then e (expr_then e' es))) h =
-      omega (
-        arith,
-        size-join (expr_trees e) (tail (k.joint 124 124) (expr_then e' es)),
-        size-join (expr_trees e') (tail (k.joint 124 124) es),
-        expr-size g b e h.1.0.0,
-        expr-size g b e' h.1.1.0.0,
-        tail-size g (k.joint 124 124) at_and b es (omega arith) h.1.1.1,
-      )
+      chain-size (k.joint 124 124) e e' es (omega arith) (expr-size g b e h.1.0.0) (expr-size g b e' h.1.1.0.0)
+      (tail-size g (k.joint 124 124) at_and b es (omega arith) h.1.1.1)
   expr-size g b (and_expr no_exprs) h = absurd h.0
   expr-size g b (and_expr (expr_then e no_exprs)) h = absurd h.0
   expr-size g b (and_expr (expr_then e (expr_then e' es))) h =
-      omega (
-        arith,
-        size-join (expr_trees e) (tail (k.joint 38 38) (expr_then e' es)),
-        size-join (expr_trees e') (tail (k.joint 38 38) es),
-        expr-size g b e h.1.0.0,
-        expr-size g b e' h.1.1.0.0,
-        tail-size g (k.joint 38 38) at_cmp b es (omega arith) h.1.1.1,
-      )
+      chain-size (k.joint 38 38) e e' es (omega arith) (expr-size g b e h.1.0.0) (expr-size g b e' h.1.1.0.0)
+      (tail-size g (k.joint 38 38) at_cmp b es (omega arith) h.1.1.1)
   expr-size g b (equal a c) h = omega (arith, size-join, expr-size g b a h.0.0, expr-size g b c h.1.0)
   expr-size g b (unequal a c) h = omega (arith, size-join, expr-size g b a h.0.0, expr-size g b c h.1.0)
   expr-size g b (ref_opaque o) h = omega arith

@@ -11,8 +11,8 @@ use Rattle.dm_output.specs.Output.{ExprTree, return_expr, or_expr, and_expr, equ
 use Rattle.dm_output.specs.Tokens as k
 use Rattle.dm_output.specs.Tokens.{expr_trees, each_expr, ended, each_named_expr, member_trees, path_expr_trees, fmt_trees}
 use Rattle.dm_reread.specs.Next.{next}
-use Rattle.dm_reread.specs.Leaves.{LeafGrammar}
-use Rattle.dm_reread.specs.Reading.{Readers, goes_on, more_ands, more_ors, read_pre, read_cmp, read_and, read_or}
+use Rattle.dm_reread.specs.Leaves.{Answer, LeafGrammar}
+use Rattle.dm_reread.specs.Reading.{then, Readers, goes_on, more_ands, more_ors, read_pre, read_cmp, read_and, read_or}
 use Rattle.dm_reread.specs.Grammar.{at_or, at_and, at_cmp, at_pre, at_post, is_group, Stops, Fits, IsPlainPath, IsPath, IsExpr, Each}
 use Rattle.dm_reread.specs.Need.{need, needs}
 use Rattle.dm_reread.proofs.Words.{plainly, word-next, name-path, derive-more-name}
@@ -151,6 +151,14 @@ cmp-row g r n L b e rest h f m s = alone-cmp g r n L b e rest h f m s
 
 -- ---- chains
 
+-- behind its sign, an expression and those that follow it
+one-more : (read : Trees → Answer ExprTree) (later : Trees → Answer ExprTrees) (e : ExprTree) (es : ExprTrees) (more rest : Trees) →
+    read (join (expr_trees e) (join more rest)) ≡ Some (e, join more rest) → later (join more rest) ≡ Some (es, rest) →
+    then {B = ExprTrees × Trees} (read (join (join (expr_trees e) more) rest))
+    (λ a. then {B = ExprTrees × Trees} (later a.1) (λ s. Some (expr_then a.0 s.0, s.1))) ≡
+    Some (expr_then e es, rest)
+one-more read later e es more rest h k = rw (join_assoc (expr_trees e) more rest, h, k) refl
+
 ands-stops : (b : Bool) (es : ExprTrees) (rest : Trees) → Stops at_and b (next rest) →
     Stops at_cmp b (next (join (tail (k.joint 38 38) es) rest))
 ands-stops b no_exprs rest s = cmp-and b (next rest) s
@@ -168,11 +176,8 @@ pub ands-row : (g : LeafGrammar) (r : Readers) (n : ℕ) (L : Laws g r n) (b : B
 ands-row g r n L b no_exprs rest h m s = ands-stop r b rest (next rest) s
 ands-row g r n L b (expr_then e es) rest h m s =
     let more : Trees = tail (k.joint 38 38) es in
-    rw (
-      join_assoc (expr_trees e) more rest,
-      cmp-row g r n L b e (join more rest) h.0.0 h.0.1 (omega arith) (ands-stops b es rest s),
-      L.ands b es rest h.1 (omega arith) s,
-    ) refl
+    one-more (read_cmp r b) (r.ands b) e es more rest
+    (cmp-row g r n L b e (join more rest) h.0.0 h.0.1 (omega arith) (ands-stops b es rest s)) (L.ands b es rest h.1 (omega arith) s)
 
 alone-and : (g : LeafGrammar) (r : Readers) (n : ℕ) (L : Laws g r n) (b : Bool) (e : ExprTree) (rest : Trees) → IsExpr g b e →
     Fits at_cmp e → need e ≤ suc n →
@@ -198,11 +203,8 @@ pub ors-row : (g : LeafGrammar) (r : Readers) (n : ℕ) (L : Laws g r n) (b : Bo
 ors-row g r n L b no_exprs rest h m s = ors-stop r b rest (next rest) s
 ors-row g r n L b (expr_then e es) rest h m s =
     let more : Trees = tail (k.joint 124 124) es in
-    rw (
-      join_assoc (expr_trees e) more rest,
-      and-row g r n L b e (join more rest) h.0.0 h.0.1 (omega arith) (ors-stops b es rest s),
-      L.ors b es rest h.1 (omega arith) s,
-    ) refl
+    one-more (read_and r b) (r.ors b) e es more rest
+    (and-row g r n L b e (join more rest) h.0.0 h.0.1 (omega arith) (ors-stops b es rest s)) (L.ors b es rest h.1 (omega arith) s)
 
 -- what reads as a chain begins with no `return`
 no-return : (r : Readers) (b : Bool) (ts : Trees) (x : ExprTree × Trees) → read_and r b ts ≡ Some x → T (is_return (next ts)) → ⊥
