@@ -1,4 +1,5 @@
 pub mod BeforeColon
 pub mod DeclaredInner
 pub mod NeededAlone
+pub mod WordPaths
 pub mod WordsAlone

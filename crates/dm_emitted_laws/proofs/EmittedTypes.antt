@@ -1,22 +1,20 @@
 -- The associated types, parameters and outputs that operators and `PartialEq` emit are of the grammar. Their types are made of words,
 -- perhaps with arguments between `<` and `>`, so they are written without ranges at every place that isn't too deep.
-use Rattle.std.proofs.Common.{◌≡◌, ℕ, Bool, true, false, ◌||◌, cond, nat_lt, List, [], ◌∷◌, ◌++◌, map, codes, Some, None, option_map, IsTrue, refl, sym, ap, ◌∙◌, subst}
+use Rattle.std.proofs.Common.{◌≡◌, ℕ, Bool, true, false, cond, List, [], ◌∷◌, ◌++◌, map, codes, Some, None, option_map, IsTrue, refl, subst}
 use Rattle.std.specs.Prelude.{⊤}
 use Rattle.std.proofs.lemmas.Bool.{or_left}
 use Rattle.dm_stream.specs.declared.tokens.Span.{Span}
 use Rattle.dm_stream.specs.declared.tokens.Ident.{Ident}
-use Rattle.dm_stream.specs.declared.tokens.Lifetime.{Lifetime}
-use Rattle.dm_stream.specs.declared.tokens.Punct.{Punct}
-use Rattle.dm_stream.specs.declared.tokens.Spacing.TheVariants.{Joint, Alone}
+use Rattle.dm_stream.specs.declared.tokens.Spacing.TheVariants.{Alone}
 use Rattle.dm_stream.specs.declared.tokens.Token.TheVariants as t
 use Rattle.dm_stream.specs.Layout.{nowhere}
-use Rattle.dm_stream.specs.Trees.{Trees, no_trees, token, join, join-no_trees, join_assoc}
+use Rattle.dm_stream.specs.Trees.{Trees, no_trees, join, join-no_trees}
 use Rattle.dm_ast.specs.Keywords.{is_name, is_keyword}
-use Rattle.dm_ast.specs.Tree.{TypeTree, type_tree, path, no_self, PathTree, path_tree, SegmentTrees, segments_of, segment, no_segments, segment_then, ArgumentsTree, absent, angle, ArgumentTree, lifetime_arg, type_arg, assoc_type, ArgumentTrees, no_arguments, argument_then, arguments_of, arguments_absent}
+use Rattle.dm_ast.specs.Tree.{TypeTree, type_tree, path, no_self, PathTree, path_tree, SegmentTrees, segments_of, segment, no_segments, segment_then, ArgumentsTree, angle, type_arg, ArgumentTrees, arguments_of}
 use Rattle.dm_ast.specs.Declarations.{ParamTree, lifetime_param, type_param, const_param, Declaration}
-use Rattle.dm_ast.specs.Spelling.{Where, deeper, Marks, Spelling, deepest, first_too_deep, sees, sees_word, sees_lifetime, sees_colon, sees_equals, sees_colons, Nothing, ◌then◌, Before, punct, lifetime, colons, equals}
+use Rattle.dm_ast.specs.Spelling.{Where, deeper, Marks, Spelling, first_too_deep, sees_word, sees_lifetime, Nothing, ◌then◌, Before, punct}
 use Rattle.dm_ast.specs.TypeGrammar as grammar
-use Rattle.dm_ast.specs.TypeGrammar.{name, is_path_word, sees_macro, sees_arguments, type_spelled, path_spelled, arguments_of_segment, argument, arguments_left}
+use Rattle.dm_ast.specs.TypeGrammar.{name, is_path_word, sees_macro, type_spelled, path_spelled, argument}
 use Rattle.dm_ast.specs.TypeTokens as spell
 use Rattle.dm_ast.specs.Parsed.{SpelledBy}
 use Rattle.dm_ast.specs.Implementors.{segments, plain_path, name_type, params_of, arguments, implementor}
@@ -24,19 +22,19 @@ use Rattle.dm_ast.specs.Implementors as implementors
 use Rattle.dm_output.specs.Output.{BlockTree}
 use Rattle.dm_output.specs.Values.{is_enum}
 use Rattle.dm_generics.specs.Words.{word, words, plain_segments, self_type, ref_self}
-use Rattle.dm_type_eq.specs.Unplaced.{unplaced_argument, unplaced_arguments, unplaced_arguments_of, unplaced_ident, unplaced_lifetime, unplaced_path, unplaced_segments, unplaced_type}
+use Rattle.dm_type_eq.specs.Unplaced.{unplaced_ident, unplaced_path, unplaced_type}
 use Rattle.dm_reread.specs.Bare.{bare_param, bare_assoc, bare_param_of, bare_method}
 use Rattle.dm_reread.specs.ItemGrammar.{AreAssocs, IsParam, IsOutput}
 use Rattle.dm_reread.specs.ReadBack.{leaf_grammar}
 use Rattle.dm_reread.specs.TypeLeaves.{top, IsType}
 use Rattle.dm_reread.proofs.TypeLeafUnplaced.{once_type}
-use Rattle.dm_reread.proofs.TypeLeafEnds.{Stop, stop_end, stop_punct}
+use Rattle.dm_reread.proofs.TypeLeafEnds.{stop_end}
 use Rattle.dm_reread.proofs.TypeLeafCalls.{calm_end, uncalled_path}
-use Rattle.dm_reread.proofs.TypeLeafTypes.{ext_type}
 use Rattle.dm_head_laws.specs.Parts as parts
 use Rattle.dm_head_laws.specs.Parts.{inner, ParamAlone, TypeAlone, Each}
 use Rattle.dm_head_laws.proofs.HeadParts.{Stands}
 use Rattle.dm_head_laws.proofs.DeclaredParts.{Flat, flat_both, flat_within, flat_range, declared_params, implementor_alone}
+use Rattle.dm_derived_laws.proofs.WordPaths.{Shallow, IsBuilt, built_absent, built_punct, built_name, ArgumentOf, EachArgumentOf, ArgumentsOf, WordsOf, plain_words, ending_words, TypeBuilt, path_built}
 use Rattle.dm_operators.specs.Operators.{Form, structural, scalar, unary, Operator}
 use Rattle.dm_operators.specs.Attributes.{form_in}
 use Rattle.dm_operators.specs.Meaning.{has_unit}
@@ -50,9 +48,6 @@ pub record Written (S : Spelling) (ts others : Trees) : Type 0 where
   pub marks : Marks
   pub spelled : S ts others marks
   pub flat : Flat marks
-
-pub written_as : {S : Spelling} {ts us others : Trees} → ts ≡ us → Written S us others → Written S ts others
-written_as {S} {ts} {us} {others} e s = subst (λ x. Written S x others) (sym e) s
 
 pub written_then : {A B : Spelling} {ts mid others : Trees} → Written A ts mid → Written B mid others → Written (A then B) ts others
 written_then {A} {B} {ts} {mid} {others} a b =
@@ -69,210 +64,45 @@ written_alone S w own s = record { marks = s.marks; spelled = s.spelled; within 
 pub written_stands : {S : Spelling} {ts others : Trees} → Written S ts others → Stands S ts others
 written_stands s = record { marks = s.marks; spelled = s.spelled; within = flat_within s.marks s.flat }
 
--- no token
+writing : IsBuilt Written
+writing =
+    record {
+      flat = λ S ts others m f s. record { marks = m; spelled = s; flat = f };
+      joined = λ A B ts mid others a b. written_then a b;
+      kept = λ A B ts others us rest f s. record { marks = s.marks; spelled = f s.marks s.spelled; flat = s.flat };
+    }
+
 pub written_absent : (test : Trees → Bool) (ts : Trees) → test ts ≡ false → Written (Before (λ others. test others ≡ false) Nothing) ts ts
-written_absent test ts e = record { marks = []; spelled = record { part = record { spelled = refl; marks = refl }; fact = e }; flat = tt }
+written_absent = built_absent writing
 
-written_nothing : (ts : Trees) → Written Nothing ts ts
-written_nothing ts = record { marks = []; spelled = record { spelled = refl; marks = refl }; flat = tt }
+written_punct : (w : Where) → Shallow w → (c : ℕ) (ts : Trees) → Written (punct w c) (join (spell.punct c nowhere) ts) ts
+written_punct = built_punct writing
 
--- one token
-abbrev pub Shallow : Where → Type 0
-Shallow w = nat_lt deepest w.level ≡ false
-
--- a punct that is joint to nothing
-abbrev lone : ℕ → Punct
-lone c = record { ch = c; spacing = Alone; span = nowhere }
-
-module _ (w : Where) (h : Shallow w) where
-  pub written_punct : (c : ℕ) (ts : Trees) → Written (punct w c) (join (spell.punct c nowhere) ts) ts
-  written_punct c ts = record {
-    marks = (w.level, nowhere) ∷ [];
-    spelled = record { punct = lone c; is = refl; there = record { spelled = refl; marks = refl } };
-    flat = (h, refl, tt);
-  }
-
-  written_lifetime : (l : Lifetime) (ts : Trees) → Written (lifetime w (unplaced_lifetime l)) (join (spell.lifetime (unplaced_lifetime l)) ts) ts
-  written_lifetime l ts =
-      record { marks = (w.level, nowhere) ∷ []; spelled = record { spelled = refl; marks = refl }; flat = (h, refl, tt) }
-
-  written_word : (i : Ident) → IsTrue (is_path_word i) → (ts : Trees) →
-      Written (grammar.word w (unplaced_ident i)) (join (spell.name (unplaced_ident i)) ts) ts
-  written_word i n ts = record {
-    marks = (w.level, nowhere) ∷ [];
-    spelled = record { fact = n; part = record { spelled = refl; marks = refl } };
-    flat = (h, refl, tt);
-  }
-
-  pub written_name : (i : Ident) → IsTrue (is_name i) → (ts : Trees) →
-      Written (name w (unplaced_ident i)) (join (spell.name (unplaced_ident i)) ts) ts
-  written_name i n ts = record {
-    marks = (w.level, nowhere) ∷ [];
-    spelled = record { fact = n; part = record { spelled = refl; marks = refl } };
-    flat = (h, refl, tt);
-  }
-
-  written_colons : (ts : Trees) → Written (colons w) (join (spell.colons nowhere) ts) ts
-  written_colons ts = record {
-    marks = (w.level, nowhere) ∷ (w.level, nowhere) ∷ [];
-    spelled = record {
-      first = record { ch = 58; spacing = Joint; span = nowhere };
-      second = lone 58;
-      is_first = refl;
-      is_joint = refl;
-      is_second = refl;
-      spelled = refl;
-      marks = refl;
-    };
-    flat = (h, refl, (h, refl, tt));
-  }
-
-  written_equals : (ts : Trees) → Written (equals w) (join (spell.punct 61 nowhere) ts) ts
-  written_equals ts = record {
-    marks = (w.level, nowhere) ∷ [];
-    spelled = record { punct = lone 61; is = refl; lone = refl; there = record { spelled = refl; marks = refl } };
-    flat = (h, refl, tt);
-  }
+pub written_name : (w : Where) → Shallow w → (i : Ident) → IsTrue (is_name i) → (ts : Trees) →
+    Written (name w (unplaced_ident i)) (join (spell.name (unplaced_ident i)) ts) ts
+written_name = built_name writing
 
 -- ---- paths of words, of which the last one may have lifetimes, types and `NAME = TYPE` between `<` and `>`, and types of such a path
 
 abbrev pub TypeWritten : TypeTree → Where → Type 0
-TypeWritten x w = Written (type_spelled (unplaced_type x) false w) (spell.type_trees (unplaced_type x)) no_trees
+TypeWritten x w = TypeBuilt Written w x
 
 abbrev pub PathWritten : PathTree → Where → Type 0
 PathWritten p w = Written (path_spelled (unplaced_path p) w) (spell.path_trees nowhere (unplaced_path p)) no_trees
 
-abbrev pub ArgumentWritten : ArgumentTree → Where → Type 0
-ArgumentWritten (lifetime_arg l) w = ⊤
-ArgumentWritten (type_arg x) w = TypeWritten x w
-ArgumentWritten (assoc_type i arguments_absent x) w = IsTrue (is_name i) × TypeWritten x w
-ArgumentWritten _ w = ⊥
-
-abbrev pub EachArgumentWritten : ArgumentTrees → Where → Type 0
-EachArgumentWritten no_arguments w = ⊤
-EachArgumentWritten (argument_then g gs) w = ArgumentWritten g w × EachArgumentWritten gs w
-
-abbrev pub ArgumentsWritten : ArgumentsTree → Where → Type 0
-ArgumentsWritten absent w = ⊤
-ArgumentsWritten (angle false (argument_then g gs) false) w = EachArgumentWritten (argument_then g gs) (deeper w)
-ArgumentsWritten _ w = ⊥
-
-abbrev pub WordsWritten : SegmentTrees → Where → Type 0
-WordsWritten no_segments w = ⊥
-WordsWritten (segment_then (segment i a) no_segments) w = IsTrue (is_path_word i) × ArgumentsWritten a w
-WordsWritten (segment_then (segment i absent) (segment_then s ss)) w = IsTrue (is_path_word i) × WordsWritten (segment_then s ss) w
-WordsWritten _ w = ⊥
-
--- what stands between `<` and `>`
-abbrev left_trees : ArgumentTrees → Trees
-left_trees gs = spell.spaced (spell.punct 44 nowhere) false (spell.each_argument nowhere (unplaced_arguments gs))
-
-abbrev closing : Trees → Trees
-closing us = join (spell.punct 62 nowhere) us
-
-left_stop : (gs : ArgumentTrees) (us : Trees) → Stop (join (left_trees gs) (closing us))
-left_stop no_arguments us = stop_punct (lone 62) us refl refl
-left_stop (argument_then g gs) us = stop_punct (lone 44) _ refl refl
-
-left_free : (gs : ArgumentTrees) (us : Trees) →
-    (sees_equals (join (left_trees gs) (closing us)) || sees_colon (join (left_trees gs) (closing us))) ≡ false
-left_free no_arguments us = refl
-left_free (argument_then g gs) us = refl
-
-module _ (w : Where) (h : Shallow w) where
-  module _ (o : Trees) (stop : Stop o) (free : (sees_equals o || sees_colon o) ≡ false) where
-    type_before : (x : TypeTree) → TypeWritten x w →
-        Written (type_spelled (unplaced_type x) false w) (join (spell.type_trees (unplaced_type x)) o) o
-    type_before x s =
-        record {
-          marks = s.marks;
-          spelled = ext_type o stop (unplaced_type x) false w (spell.type_trees (unplaced_type x)) no_trees s.marks s.spelled (calm_end o stop);
-          flat = s.flat;
-        }
-
-    written_argument : (g : ArgumentTree) → ArgumentWritten g w →
-        Written (argument (unplaced_argument g) w) (join (spell.argument_trees nowhere (unplaced_argument g)) o) o
-    written_argument (lifetime_arg l) k = written_lifetime w h l o
-    written_argument (type_arg x) k =
-        let s = type_before x k in record { marks = s.marks; spelled = record { part = s.spelled; fact = free }; flat = s.flat }
-    written_argument (assoc_type i arguments_absent x) k =
-        let us : Trees = join (spell.type_trees (unplaced_type x)) o in
-        let more : Trees = join (spell.punct 61 nowhere) us in
-        written_then (written_name w h i k.0 more)
-        (written_then (written_nothing more) (written_then (written_equals w h us) (type_before x k.1)))
-    written_argument _ k = absurd k
-
-  written_left : (gs : ArgumentTrees) → EachArgumentWritten gs w → (us : Trees) →
-      Written (arguments_left (unplaced_arguments gs) false w) (join (left_trees gs) (closing us)) (closing us)
-  written_left no_arguments k us = written_absent (sees 44) (closing us) refl
-  written_left (argument_then g gs) k us =
-      let x : Trees = spell.argument_trees nowhere (unplaced_argument g) in
-      let more : Trees = join (left_trees gs) (closing us) in
-      written_as {us = join (spell.punct 44 nowhere) (join x more)}
-      (ap (join (spell.punct 44 nowhere)) (join_assoc x (left_trees gs) (closing us)))
-      (written_then (written_punct w h 44 (join x more))
-      (written_then (written_argument more (left_stop gs us) (left_free gs us) g k.0) (written_left gs k.1 us)))
-
-  written_arguments : (g : ArgumentTree) (gs : ArgumentTrees) → EachArgumentWritten (argument_then g gs) w → (us : Trees) →
-      Written (grammar.arguments (unplaced_arguments (argument_then g gs)) false w)
-      (join (join (join (spell.argument_trees nowhere (unplaced_argument g)) (left_trees gs)) no_trees) (closing us)) (closing us)
-  written_arguments g gs k us =
-      let x : Trees = spell.argument_trees nowhere (unplaced_argument g) in
-      let more : Trees = join (left_trees gs) (closing us) in
-      written_as {us = join x more}
-      (ap (λ z. join z (closing us)) (join-no_trees (join x (left_trees gs))) ∙ join_assoc x (left_trees gs) (closing us))
-      (written_then (written_argument more (left_stop gs us) (left_free gs us) g k.0) (written_left gs k.1 us))
-
-abbrev words_trees : Bool → SegmentTrees → Trees
-words_trees first ss = spell.spaced (spell.colons nowhere) first (spell.each_segment nowhere (unplaced_segments ss))
+-- as an argument between `<` and `>` behind a word at this place
+abbrev pub InnerWritten : Where → TypeTree → Type 0
+InnerWritten w x = TypeWritten x (deeper w)
 
 module _ (w : Where) (h : Shallow w) (k : Shallow (deeper w)) where
-  written_behind : (a : ArgumentsTree) → ArgumentsWritten a w →
-      Written (arguments_of_segment (unplaced_arguments_of a) w) (spell.arguments_trees nowhere (unplaced_arguments_of a)) no_trees
-  written_behind absent e = written_absent sees_arguments no_trees refl
-  written_behind (angle false (argument_then g gs) false) e =
-      let own : Trees = join (join (spell.argument_trees nowhere (unplaced_argument g)) (left_trees gs)) no_trees in
-      let all : Trees = join own (spell.punct 62 nowhere) in
-      written_then (written_absent sees_colons (join (spell.punct 60 nowhere) all) refl)
-      (written_then (written_punct w h 60 all)
-      (written_then (written_arguments (deeper w) k g gs e no_trees) (written_punct w h 62 no_trees)))
-  written_behind _ e = absurd e
-
-  written_words : (ss : SegmentTrees) → WordsWritten ss w → Written (grammar.segments (unplaced_segments ss) w) (words_trees true ss) no_trees
-  written_words no_segments e = absurd e
-  written_words (segment_then (segment i a) no_segments) e =
-      let own : Trees = spell.arguments_trees nowhere (unplaced_arguments_of a) in
-      written_as {us = token (t.Ident (unplaced_ident i)) own} (ap (token (t.Ident (unplaced_ident i))) (join-no_trees own))
-      (written_then (written_then (written_word w h i e.0 own) (written_behind a e.1)) (written_absent sees_colons no_trees refl))
-  written_words (segment_then (segment i absent) (segment_then (segment j a) ss)) e =
-      let all : Trees = words_trees true (segment_then (segment j a) ss) in
-      let more : Trees = join (spell.colons nowhere) all in
-      written_then (written_then (written_word w h i e.0 more) (written_absent sees_arguments more refl))
-      (written_then (written_colons w h all) (written_words (segment_then (segment j a) ss) e.1))
-  written_words _ e = absurd e
-
-  pub written_path : (ss : SegmentTrees) → WordsWritten ss w → PathWritten (path_tree false ss) w
-  written_path (segment_then (segment i a) ss) e =
-      written_then (written_absent sees_colons (words_trees true (segment_then (segment i a) ss)) refl)
-      (written_words (segment_then (segment i a) ss) e)
-  written_path no_segments e = absurd e
-
-  -- words without arguments
-  plain_words : (i : Ident) (is : List Ident) → Each (λ j. IsTrue (is_path_word j)) (i ∷ is) → WordsWritten (segments (i ∷ is)) w
-  plain_words i [] e = (e.0, tt)
-  plain_words i (j ∷ is) e = (e.0, plain_words j is e.1)
-
-  -- fixed words, and a last one that may have arguments
-  ending_words : (ls : List (List ℕ)) → Each (λ l. IsTrue (is_path_word (word l))) ls → (i : Ident) → IsTrue (is_path_word i) →
-      (a : ArgumentsTree) → ArgumentsWritten a w → WordsWritten (segments_of (plain_segments ls ++ segment i a ∷ [])) w
-  ending_words [] e i n a g = (n, g)
-  ending_words (l ∷ []) e i n a g = (e.0, (n, g))
-  ending_words (l ∷ l' ∷ ls) e i n a g = (e.0, ending_words (l' ∷ ls) e.1 i n a g)
+  written_path : (ss : SegmentTrees) → WordsOf (InnerWritten w) ss → PathWritten (path_tree false ss) w
+  written_path = path_built writing (InnerWritten w) w h k (λ x e. e)
 
   pub written_ending : (ls : List (List ℕ)) → Each (λ l. IsTrue (is_path_word (word l))) ls → (i : Ident) → IsTrue (is_path_word i) →
-      (a : ArgumentsTree) → ArgumentsWritten a w →
+      (a : ArgumentsTree) → ArgumentsOf (InnerWritten w) a →
       PathWritten (path_tree false (segments_of (plain_segments ls ++ segment i a ∷ []))) w
-  written_ending ls e i n a g = written_path (segments_of (plain_segments ls ++ segment i a ∷ [])) (ending_words ls e i n a g)
+  written_ending ls e i n a g =
+      written_path (segments_of (plain_segments ls ++ segment i a ∷ [])) (ending_words (InnerWritten w) ls e i n a g)
 
   -- a path that is a type
   written_type : (p : PathTree) (r : Span) (single : Bool) → PathWritten p w →
@@ -292,7 +122,7 @@ module _ (w : Where) (h : Shallow w) (k : Shallow (deeper w)) where
 
   pub written_plain : (i : Ident) (is : List Ident) → Each (λ j. IsTrue (is_path_word j)) (i ∷ is) →
       TypeWritten (type_tree (path no_self (plain_path (i ∷ is))) nowhere) w
-  written_plain i is e = written_type (plain_path (i ∷ is)) nowhere false (written_path (segments (i ∷ is)) (plain_words i is e))
+  written_plain i is e = written_type (plain_path (i ∷ is)) nowhere false (written_path (segments (i ∷ is)) (plain_words (InnerWritten w) i is e))
 
   pub written_name_type : (i : Ident) → IsTrue (is_name i) → TypeWritten (name_type i) w
   written_name_type i n = written_plain i [] (or_left (is_name i) _ n, tt)
@@ -389,17 +219,17 @@ abbrev each_argument : List ParamTree → ArgumentTrees
 each_argument ps = arguments_of (map implementors.argument ps)
 
 module _ (w : Where) (h : Shallow w) (k : Shallow (deeper w)) where
-  argument_written : (p : ParamTree) → HasName p → ArgumentWritten (implementors.argument p) w
+  argument_written : (p : ParamTree) → HasName p → ArgumentOf (λ x. TypeWritten x w) (implementors.argument p)
   argument_written (lifetime_param as' l bs) n = tt
   argument_written (type_param as' i bs d) n = written_name_type w h k i n
   argument_written (const_param as' i x d) n = written_name_type w h k i n
 
-  each_written : (ps : List ParamTree) → Each HasName ps → EachArgumentWritten (each_argument ps) w
+  each_written : (ps : List ParamTree) → Each HasName ps → EachArgumentOf (λ x. TypeWritten x w) (each_argument ps)
   each_written [] n = tt
   each_written (p ∷ ps) n = (argument_written p n.0, each_written ps n.1)
 
 arguments_written : (w : Where) → Shallow (deeper w) → Shallow (deeper (deeper w)) → (ps : List ParamTree) → Each HasName ps →
-    ArgumentsWritten (arguments ps) w
+    ArgumentsOf (InnerWritten w) (arguments ps)
 arguments_written w h k [] n = tt
 arguments_written w h k (p ∷ ps) n = each_written (deeper w) h k (p ∷ ps) n
 
