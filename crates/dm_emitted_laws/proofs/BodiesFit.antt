@@ -46,6 +46,7 @@ use Rattle.dm_operands.specs.Bodies.{name}
 use Rattle.dm_operands.specs.Marked.{MarkedField, MarkedCase, mark_field, mark_case, marked}
 use Rattle.dm_operands.specs.Sides.{binding, bindings, field_ident, named_bindings, case_path, side_pattern, side, PairArms, pair_arm, pair_arms}
 use Rattle.dm_head_laws.specs.Parts.{Each}
+use Rattle.dm_head_laws.proofs.HeadParts.{each_by}
 use Rattle.dm_head_laws.proofs.DeclaredParts.{each_map, each_both}
 use Rattle.dm_operators.specs.Operators as ops
 use Rattle.dm_operators.specs.Operators.{Operator, operators, named_in, IsOperator, method_names}
@@ -56,12 +57,6 @@ use Rattle.dm_operators.specs.Implementations.{method_of}
 use Rattle.dm_operators.specs.Laws.{AreFew}
 use Rattle.dm_partial_eq.specs.Emitted as emitted
 use Rattle.dm_emitted_laws.specs.Spellable.{FieldSpellable, CaseSpellable, HasFewFields, OperatorSpellable}
-
--- ---- lists
-
-pub each_by : {A : Type 0} {P Q : A → Type 0} → ((a : A) → P a → Q a) → (as' : List A) → Each P as' → Each Q as'
-each_by f [] h = tt
-each_by f (a ∷ as') h = (f a h.0, each_by f as' h.1)
 
 -- ---- words
 

@@ -44,10 +44,11 @@ use Rattle.dm_operands.specs.declared.cases.Form.TheVariants as forms
 use Rattle.dm_operands.specs.Marked.{mark_field, form_of, mark_case, marked}
 use Rattle.dm_operands.specs.Sides.{field_ident}
 use Rattle.dm_head_laws.specs.Parts.{Each}
+use Rattle.dm_head_laws.proofs.HeadParts.{each_by}
 use Rattle.dm_head_laws.proofs.DeclaredParts.{each_map, each_param}
 use Rattle.dm_derived_laws.proofs.NeededAlone.{EachField}
 use Rattle.dm_emitted_laws.specs.Spellable.{FieldSpellable, CaseSpellable}
-use Rattle.dm_emitted_laws.proofs.BodiesFit.{each_by, plain_fits}
+use Rattle.dm_emitted_laws.proofs.BodiesFit.{plain_fits}
 
 -- ---- depths
 

@@ -47,7 +47,7 @@ use Rattle.dm_bounds.specs.Needed.{needing, needed_by}
 use Rattle.dm_head_laws.specs.Parts as parts
 use Rattle.dm_head_laws.specs.Parts.{inner, ParamAlone, PredicateAlone, TypeAlone, Each}
 use Rattle.dm_head_laws.proofs.HeadParts.{Stands, stands_as, stands_then, none_stands, punct_stands, colon_stands, head_from_parts}
-use Rattle.dm_head_laws.proofs.DeclaredParts.{From, first_from, rest_from, given_from, each_item, each_both, each_param, spelled_alone, declared_params, plain_params, declared_predicates, implementor_alone}
+use Rattle.dm_head_laws.proofs.DeclaredParts.{From, first_from, rest_from, each_both, each_param, each_declared, spelled_alone, declared_params, plain_params, declared_predicates, implementor_alone}
 use Rattle.dm_derived_laws.proofs.BeforeColon.{Follows}
 use Rattle.dm_derived_laws.proofs.NeededAlone.{PathAlone, calls_for, bounded_alone, EachField, both_fields, needed_declared}
 use Rattle.dm_derived_laws.proofs.WordsAlone.{InnerAlone, ArgumentsAlone, words_alone, ending_alone}
@@ -751,12 +751,6 @@ module _ {w : Where} (l : Lower inner w) where
   bounded_param o n (const_param as' i t default) ts x h = h
 
 -- ---- what holds of each declared parameter
-
-each_declared : (P : ParamTree → Type 0) (w : Where) → ((p : ParamTree) (ts : Trees) → From (param p (deeper w)) ts → P p) →
-    (angled : Bool) (ps : declared.Listed ParamTree) (ts : Trees) → From (generics angled ps w) ts → Each P ps.items
-each_declared P w f true ps ts x =
-    each_item (λ p. param p (deeper w)) P f (deeper w) 44 (sees 62) ps.items ps.trailing _ (first_from (rest_from (given_from x)))
-each_declared P w f false ps ts x = subst (λ (z : declared.Listed ParamTree). Each P z.items) (sym (x.spelled.fact refl)) tt
 
 each_of_shape : (P : ParamTree → Type 0) (i : Ident) (g : GenericsTree) (w : Where) →
     ((p : ParamTree) (ts : Trees) → From (param p (deeper w)) ts → P p) → (x : ShapeTree) (ts : Trees) → From (shape run x i g w) ts →

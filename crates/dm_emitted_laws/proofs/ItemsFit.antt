@@ -37,6 +37,7 @@ use Rattle.dm_operands.specs.Kept.{some_compared}
 use Rattle.dm_attr.specs.Skips.{is_skipped}
 use Rattle.dm_bounds.specs.Needed.{subject, only_trait, bounded, Wanted, Asking, added_by, added_in_by, wanted_of, needed_by, needing, needed_in}
 use Rattle.dm_head_laws.specs.Parts.{Each}
+use Rattle.dm_head_laws.proofs.HeadParts.{each_by}
 use Rattle.dm_head_laws.proofs.DeclaredParts.{each_map, each_both}
 use Rattle.dm_derived_laws.proofs.NeededAlone.{marked_cases}
 use Rattle.dm_partial_eq.specs.Heads.{partial_eq_path}
@@ -50,7 +51,7 @@ use Rattle.dm_operators.specs.Meaning.{has_unit}
 use Rattle.dm_operators.specs.Heads.{result_of, binary_output, output_type, method_attrs, method_param, own_output, returned, item_attrs, item_params, item_predicates}
 use Rattle.dm_operators.specs.Implementations.{method_of, item_of}
 use Rattle.dm_operators.specs.Laws.{AreFew}
-use Rattle.dm_emitted_laws.proofs.BodiesFit.{each_by, plain_fits, operator_spellable, method_body_fits, HasBody, comparison_bodies_fit}
+use Rattle.dm_emitted_laws.proofs.BodiesFit.{plain_fits, operator_spellable, method_body_fits, HasBody, comparison_bodies_fit}
 use Rattle.dm_emitted_laws.proofs.DeclaredFits.{declared_name, declared_spellable, declared_types_fit, declared_params_fit, declared_predicates_fit}
 
 -- ---- lists

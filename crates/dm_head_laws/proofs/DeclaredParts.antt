@@ -30,6 +30,7 @@ use Rattle.dm_type_eq.proofs.Cutting.{Cut, cut_end}
 use Rattle.dm_type_eq.proofs.Respelling.{Lower, Again, RespellsIf, Respells, Left, respells_then, respells_name, respells_lifetime, respells_word, respells_colon, lowered_within}
 use Rattle.dm_type_eq.specs.Unplaced.{unplaced_argument, unplaced_arguments, unplaced_arguments_of, unplaced_ident, unplaced_lifetime, unplaced_type}
 use Rattle.dm_reread.specs.Bare.{bare_param, bare_predicate}
+use Rattle.dm_reread.specs.Grammar.{IsName}
 use Rattle.dm_reread.specs.HeadLeaves.{are_plain}
 use Rattle.dm_reread.specs.TypeLeaves.{top, IsType}
 use Rattle.dm_reread.proofs.HeadLeaf.{first_within, rest_within}
@@ -38,6 +39,7 @@ use Rattle.dm_reread.proofs.TypeLeafUnplaced.{read_is_type}
 use Rattle.dm_read_laws.proofs.HeadAgain.{again_bare, maybe_lifetimes, maybe_list, predicate_again}
 use Rattle.dm_head_laws.specs.Parts as parts
 use Rattle.dm_head_laws.specs.Parts.{inner, ParamAlone, PredicateAlone, TypeAlone, Each}
+use Rattle.dm_head_laws.proofs.HeadParts.{each_by}
 
 -- ---- what stands in front of trees
 
@@ -293,7 +295,7 @@ plain_params d = lifetimes_plain d.generics.params.items d.generics.params.items
 
 -- ---- the parts of a declaration
 
-each_declared : (P : ParamTree → Type 0) (w : Where) → ((p : ParamTree) (ts : Trees) → From (param p (deeper w)) ts → P p) →
+pub each_declared : (P : ParamTree → Type 0) (w : Where) → ((p : ParamTree) (ts : Trees) → From (param p (deeper w)) ts → P p) →
     (angled : Bool) (ps : Listed ParamTree) (ts : Trees) →
     From (generics angled ps w) ts →
     Each P ps.items
@@ -326,15 +328,53 @@ module _ (i : Ident) (g : GenericsTree) (w : Where) where
   clause_stands (enum_shape r vs) ts s = stand (first_from (rest_from (rest_from (rest_from s))))
   clause_stands (union_shape r fs) ts s = stand (first_from (rest_from (rest_from (rest_from s))))
 
--- ---- fields: what holds of each type that is spelled inside a group holds of the type of each
+-- ---- fields: what holds of those that are spelled in a group holds of those of each case, whose name is one
 
+-- what holds of the fields of a case
+abbrev pub CaseOf : (FieldsTree → Type 0) → Case → Type 0
+CaseOf OfFields c = IsName c.ident × OfFields c.fields
+
+module _ (OfFields : FieldsTree → Type 0) (braces : (fs : Listed FieldTree) (w : Where) (ts : Trees) → From (braced fs w) ts → OfFields (named fs))
+    (parens : (fs : Listed FieldTree) (w : Where) (ts : Trees) → From (slots fs w) ts → OfFields (unnamed fs)) (none : OfFields unit) where
+  fields_hold : (fs : FieldsTree) (w : Where) (ts : Trees) → From (variant_fields fs w) ts → OfFields fs
+  fields_hold (named fs) w ts x = braces fs w ts x
+  fields_hold (unnamed fs) w ts x = parens fs w ts x
+  fields_hold unit w ts x = none
+
+  struct_hold : (fs : FieldsTree) (c : Option (Listed PredicateTree)) (w : Where) (ts : Trees) → From (struct_body fs c w) ts → OfFields fs
+  struct_hold (named fs) c w ts x = braces fs w _ (rest_from x)
+  struct_hold (unnamed fs) c w ts x = parens fs w _ (first_from x)
+  struct_hold unit c w ts x = none
+
+  variants_hold : (vs : Listed VariantTree) (w : Where) (ts : Trees) → From (variants run vs w) ts →
+      Each (CaseOf OfFields) (map case_of_variant vs.items)
+  variants_hold vs w ts x =
+      let v = inside_of w x.spelled.closer.start in
+      each_map (CaseOf OfFields) case_of_variant vs.items
+      (each_item (λ y. variant run y v) (λ y. CaseOf OfFields (case_of_variant y))
+      (λ y us s.
+      let n = rest_from (rest_from (ranged_from s)) in (n.spelled.first.fact, fields_hold y.fields v _ (first_from (rest_from n))))
+      v 44 at_end vs.items vs.trailing _ (group_from x))
+
+  pub shape_holds : (as' : List Attribute) (i : Ident) (g : GenericsTree) (w : Where) (x : ShapeTree) (ts : Trees) →
+      From (shape run x i g w) ts →
+      IsName i × Each (CaseOf OfFields) (cases_of_shape as' i x)
+  shape_holds as' i g w (struct_shape r fs) ts s =
+      let n = rest_from s in
+      let h : IsName i = n.spelled.first.fact in
+      (h, ((h, struct_hold fs g.where_clause w _ (rest_from (rest_from n))), tt))
+  shape_holds as' i g w (enum_shape r vs) ts s =
+      let n = rest_from s in (n.spelled.first.fact, variants_hold vs w _ (rest_from (rest_from (rest_from n))))
+  shape_holds as' i g w (union_shape r fs) ts s =
+      let n = rest_from s in
+      let h : IsName i = n.spelled.first.fact in
+      (h, ((h, none), tt))
+
+-- what holds of each type that is spelled inside a group holds of the type of each
 module _ (Holds : TypeTree → Type 0)
     (holds : (x : TypeTree) (w : Where) (n : ℕ) (ts : Trees) → From (type_spelled x false (inside_of w n)) ts → Holds x) where
   abbrev OfField : FieldTree → Type 0
   OfField f = Holds f.ty
-
-  abbrev InCase : Case → Type 0
-  InCase c = Each OfField (field_list c.fields)
 
   braced_hold : (fs : Listed FieldTree) (w : Where) (ts : Trees) → From (braced fs w) ts → Each OfField fs.items
   braced_hold fs w ts x =
@@ -350,32 +390,12 @@ module _ (Holds : TypeTree → Type 0)
       (λ f us s. holds f.ty w n _ (rest_from (rest_from (ranged_from (given_from s))))) (inside_of w n) 44 at_end fs.items fs.trailing _
       (group_from x)
 
-  fields_hold : (fs : FieldsTree) (w : Where) (ts : Trees) → From (variant_fields fs w) ts → Each OfField (field_list fs)
-  fields_hold (named fs) w ts x = braced_hold fs w ts x
-  fields_hold (unnamed fs) w ts x = slots_hold fs w ts x
-  fields_hold unit w ts x = tt
-
-  variants_hold : (vs : Listed VariantTree) (w : Where) (ts : Trees) → From (variants run vs w) ts →
-      Each InCase (map case_of_variant vs.items)
-  variants_hold vs w ts x =
-      let v = inside_of w x.spelled.closer.start in
-      each_map InCase case_of_variant vs.items
-      (each_item (λ y. variant run y v) (λ y. InCase (case_of_variant y))
-      (λ y us s. fields_hold y.fields v _ (first_from (rest_from (rest_from (rest_from (ranged_from s)))))) v 44 at_end vs.items vs.trailing _
-      (group_from x))
-
-  struct_hold : (fs : FieldsTree) (c : Option (Listed PredicateTree)) (w : Where) (ts : Trees) → From (struct_body fs c w) ts →
-      Each OfField (field_list fs)
-  struct_hold (named fs) c w ts x = braced_hold fs w _ (rest_from x)
-  struct_hold (unnamed fs) c w ts x = slots_hold fs w _ (first_from x)
-  struct_hold unit c w ts x = tt
-
   pub cases_hold : (as' : List Attribute) (i : Ident) (g : GenericsTree) (w : Where) (x : ShapeTree) (ts : Trees) →
       From (shape run x i g w) ts →
-      Each InCase (cases_of_shape as' i x)
-  cases_hold as' i g w (struct_shape r fs) ts s = (struct_hold fs g.where_clause w _ (rest_from (rest_from (rest_from s))), tt)
-  cases_hold as' i g w (enum_shape r vs) ts s = variants_hold vs w _ (rest_from (rest_from (rest_from (rest_from s))))
-  cases_hold as' i g w (union_shape r fs) ts s = (tt, tt)
+      Each (λ c. Each OfField (field_list c.fields)) (cases_of_shape as' i x)
+  cases_hold as' i g w x ts s =
+      each_by {P = CaseOf (λ fs. Each OfField (field_list fs))} (λ c h. h.1) (cases_of_shape as' i x)
+      (shape_holds (λ fs. Each OfField (field_list fs)) braced_hold slots_hold tt as' i g w x ts s).1
 
 abbrev KnownField : FieldTree → Type 0
 KnownField f = Known f.ty

@@ -107,7 +107,7 @@ module _ {A : Type 0} (S : A → Spelling) (trees : A → Trees) (ends : Trees �
           stands_as (join_assoc (trees x) (others_trees xs) rest)
           (stands_then (h.0 more (left_stop xs) (left_over xs)) (left_stands xs h.1))
 
-each_by : {A : Type 0} {P Q : A → Type 0} → ((x : A) → P x → Q x) → (xs : List A) → Each P xs → Each Q xs
+pub each_by : {A : Type 0} {P Q : A → Type 0} → ((x : A) → P x → Q x) → (xs : List A) → Each P xs → Each Q xs
 each_by f [] h = tt
 each_by f (x ∷ xs) h = (f x h.0, each_by f xs h.1)
 
