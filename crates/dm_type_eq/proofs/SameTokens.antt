@@ -45,7 +45,7 @@ second_of_three a b c e = (and_parts a b (and_parts (a && b) c e).0).1
 third_of_three : (a b c : Bool) → (a && b && c) ≡ true → c ≡ true
 third_of_three a b c e = (and_parts (a && b) c e).1
 
-pub flag_same : (a b : Bool) → same_flag a b ≡ true → a ≡ b
+flag_same : (a b : Bool) → same_flag a b ≡ true → a ≡ b
 flag_same true true e = refl
 flag_same true false e = absurd (cc)
 flag_same false true e = absurd (cc)
@@ -153,7 +153,7 @@ kind_again lit.Char = refl
 kind_again lit.Byte = refl
 kind_again lit.Int = refl
 
-pub kind_same : (k l : LitKind) → nat_eq (kind_number k) (kind_number l) ≡ true → k ≡ l
+kind_same : (k l : LitKind) → nat_eq (kind_number k) (kind_number l) ≡ true → k ≡ l
 kind_same k l e = sym (kind_again k) ∙ ap kind_of (eqb-true (kind_number k) (kind_number l) e) ∙ kind_again l
 
 literal_same : (l k : Literal) → same_literal l k ≡ true → Same (spell.literal l) (spell.literal k)
@@ -161,13 +161,13 @@ literal_same l k e =
     let h = and_parts (nat_eq (kind_number l.kind) (kind_number k.kind)) (bytes_eq l.text k.text) e in
     ap₂ (λ a b. bare_literal a b ∷ []) (kind_same l.kind k.kind h.0) ((bytes_eq-Decides l.text k.text).0 h.1)
 
-pub spacing_same : (a b : Spacing) → same_spacing a b ≡ true → a ≡ b
+spacing_same : (a b : Spacing) → same_spacing a b ≡ true → a ≡ b
 spacing_same Joint Joint e = refl
 spacing_same Joint Alone e = absurd (cc)
 spacing_same Alone Joint e = absurd (cc)
 spacing_same Alone Alone e = refl
 
-pub delim_same : (d e : Delim) → same_delim d e ≡ true → d ≡ e
+delim_same : (d e : Delim) → same_delim d e ≡ true → d ≡ e
 delim_same Paren Paren h = refl
 delim_same Bracket Bracket h = refl
 delim_same Brace Brace h = refl
@@ -182,7 +182,7 @@ token_same (t.Punct p) (t.Punct q) e =
     ap₂ (λ a b. bare_punct a b ∷ []) (eqb-true p.ch q.ch h.0) (spacing_same p.spacing q.spacing h.1)
 token_same _ _ e = absurd (cc)
 
-abbrev bare_entry : Entry → Bare
+abbrev pub bare_entry : Entry → Bare
 bare_entry (entry.Token k) = bare k
 bare_entry (entry.Open d from n) = opening d
 bare_entry (entry.Close d upto) = closing d
@@ -196,7 +196,7 @@ entry_same (entry.Open d from n) (entry.Open e upto m) h = ap opening (delim_sam
 entry_same (entry.Close d from) (entry.Close e upto) h = ap closing (delim_same d e h)
 entry_same _ _ h = absurd (cc)
 
-entries_same : (es fs : List Entry) → all_same same_entry es fs ≡ true → map bare_entry es ≡ map bare_entry fs
+pub entries_same : (es fs : List Entry) → all_same same_entry es fs ≡ true → map bare_entry es ≡ map bare_entry fs
 entries_same [] [] h = refl
 entries_same (e ∷ es) (f ∷ fs) h =
     let g = and_parts (same_entry e f) (all_same same_entry es fs) h in
@@ -204,7 +204,7 @@ entries_same (e ∷ es) (f ∷ fs) h =
 entries_same [] (f ∷ fs) h = absurd (cc)
 entries_same (e ∷ es) [] h = absurd (cc)
 
-tokens_flat : (ts : Trees) → map bare_entry (flatten ts) ≡ tokens_of ts
+pub tokens_flat : (ts : Trees) → map bare_entry (flatten ts) ≡ tokens_of ts
 tokens_flat no_trees = refl
 tokens_flat (token k rest) = ap (λ l. bare k ∷ l) (tokens_flat rest)
 tokens_flat (group d from inside upto rest) =

@@ -612,7 +612,7 @@ trees_again : (ts : Trees) → (read_back (tokens_of ts)).0 ≡ unplaced ts
 trees_again ts =
     ap (λ l. (read_back l).0) (sym (append-nil (tokens_of ts))) ∙ ap (λ r. r.0) (tokens_again ts []) ∙ join-no_trees (unplaced ts)
 
-same_bare : (x y : Trees) → tokens_of x ≡ tokens_of y → unplaced x ≡ unplaced y
+pub same_bare : (x y : Trees) → tokens_of x ≡ tokens_of y → unplaced x ≡ unplaced y
 same_bare x y e = sym (trees_again x) ∙ ap (λ l. (read_back l).0) e ∙ trees_again y
 
 pub unplaced_tokens : (a b : TypeTree) → tokens_of (spell.type_trees a) ≡ tokens_of (spell.type_trees b) →
