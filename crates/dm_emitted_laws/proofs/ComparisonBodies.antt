@@ -24,17 +24,13 @@ use Rattle.dm_partial_eq.specs.Emitted.{test_of, join_of, neutral_of, test, test
 use Rattle.dm_head_laws.specs.Parts.{Each}
 use Rattle.dm_head_laws.proofs.DeclaredParts.{each_if}
 use Rattle.dm_emitted_laws.specs.Ready.{CaseReady}
-use Rattle.dm_emitted_laws.proofs.OperandPatterns.{self_names, other_names, side_is_pattern}
+use Rattle.dm_emitted_laws.proofs.OperandPatterns.{self_names, other_names, self_word, side_is_pattern}
 
 -- an expression, without ranges, of the grammar
 abbrev IsValue : Bool → ExprTree → Type 0
 IsValue b e = IsExpr leaf_grammar b (bare_expr e)
 
 -- ---- the words and paths that no declaration gives
-
-self_word : IsTrue (is_path_word (word (codes "self")))
-unfolding is_keyword
-self_word = refl
 
 other_word : IsTrue (is_path_word (word (codes "__other")))
 unfolding is_keyword

@@ -18,7 +18,7 @@ use Rattle.dm_operands.specs.declared.cases.Form.{Form}
 use Rattle.dm_operands.specs.declared.cases.Form.TheVariants as forms
 use Rattle.dm_operands.specs.Marked.{MarkedField, MarkedCase}
 use Rattle.dm_operands.specs.Sides.{binding, bindings, field_ident, named_bindings, side_pattern, side}
-use Rattle.dm_operands.specs.Numbered.{self_name, other_name}
+use Rattle.dm_operands.specs.Numbered.{self_name, other_name, right_name, inner_name}
 use Rattle.dm_head_laws.specs.Parts.{Each}
 use Rattle.dm_emitted_laws.specs.Ready.{CaseReady}
 
@@ -39,6 +39,12 @@ self_names n = underscored_name (codes "self_" ++ numeral n)
 pub other_names : AreNames other_name
 other_names n = underscored_name (codes "other_" ++ numeral n)
 
+pub right_names : AreNames right_name
+right_names n = underscored_name (codes "rhs_" ++ numeral n)
+
+pub inner_names : AreNames inner_name
+inner_names n = underscored_name (numeral n)
+
 -- ---- paths of words
 
 pub plain_words : (is : List Ident) → Each (λ i. IsTrue (is_path_word i)) is → ArePlain (unplaced_segments (segments is))
@@ -48,6 +54,10 @@ plain_words (i ∷ is) h = (h.0, plain_words is h.1)
 pub plain_path_of : (i : Ident) (is : List Ident) → Each (λ j. IsTrue (is_path_word j)) (i ∷ is) →
     IsPlainPath (unplaced_path (plain_path (i ∷ is)))
 plain_path_of i is h = (tt, plain_words (i ∷ is) h)
+
+pub self_word : IsTrue (is_path_word (word (codes "self")))
+unfolding is_keyword
+self_word = refl
 
 -- `Self` is a word of a path, but no name
 pub type_word : IsTrue (is_path_word (word (codes "Self")))

@@ -6,7 +6,7 @@ use Rattle.dm_ast.specs.TypeGrammar.{is_path_word}
 use Rattle.dm_ast.specs.Tree.{PathTree}
 use Rattle.dm_ast.specs.Declarations.{Declaration}
 use Rattle.dm_ast.specs.Implementors.{plain_path}
-use Rattle.dm_output.specs.Output.{PatternTree, wild, patterns_of, named_of, ExprTree, member, exprs_of, named_exprs_of, some_expr, ArmTree, arms_of, ArmBodyTree, stmts_of, last_expr}
+use Rattle.dm_output.specs.Output.{PatternTree, wild, ExprTree, member, exprs_of, named_exprs_of, some_expr, ArmTree, arms_of, ArmBodyTree, stmts_of, last_expr}
 use Rattle.dm_output.specs.Values.{Text, is_enum}
 use Rattle.dm_output.specs.Calls.{ok_names, err_names}
 use Rattle.dm_generics.specs.Words.{word, words}
@@ -15,21 +15,22 @@ use Rattle.dm_operands.specs.declared.cases.Form.TheVariants as forms
 use Rattle.dm_operands.specs.Marked.{MarkedField, MarkedCase}
 use Rattle.dm_operands.specs.Numbered.{self_name, right_name, inner_name}
 use Rattle.dm_operands.specs.Bodies.{name}
-use Rattle.dm_operands.specs.Sides.{bindings, named_bindings, field_ident, case_path, side_pattern}
+use Rattle.dm_operands.specs.Sides.{field_ident, side_pattern}
 use Rattle.dm_operators.specs.Operators as ops
 use Rattle.dm_operators.specs.Operators.{Operator, method_names}
 use Rattle.dm_operators.specs.Bodies.{operation_call, call_of, in_ok, in_err, new_error, binary_error, binary_unit, mismatch, unary_unit, parts, named_parts, in_parens, constructor, right_operand, binary_call, binary_part, assigning_calls, arm, keep, whole, bound_in, sides, value_given, is_unit_form, answer_given, binary_pattern, binary_given, binary_arm, different_body, different, has_rest, rest, subject, inner_part, variant_path, some_unit_form, unary_given, unary_arm, member_of, own_part, binary_body, unary_enum, unary_struct, body_expr}
 use Rattle.dm_type_eq.specs.Unplaced.{unplaced_path}
-use Rattle.dm_reread.specs.Bare.{bare_member, bare_pattern, bare_patterns, bare_named, bare_expr, bare_exprs, bare_named_exprs, bare_arms, bare_body, bare_stmts, bare_block}
+use Rattle.dm_reread.specs.Bare.{bare_member, bare_pattern, bare_expr, bare_exprs, bare_named_exprs, bare_arms, bare_body, bare_stmts, bare_block}
 use Rattle.dm_reread.specs.Leaves.{LeafGrammar}
 use Rattle.dm_reread.specs.Grammar as grammar
-use Rattle.dm_reread.specs.Grammar.{at_or, IsName, IsPlainPath, is_single, IsMember, IsPattern, ArePatterns, AreNamedPatterns, IsExpr, EachNamed, AreArms, IsBody, AreStmts, IsBlock}
+use Rattle.dm_reread.specs.Grammar.{at_or, IsName, IsPlainPath, IsMember, IsPattern, IsExpr, EachNamed, AreArms, IsBody, AreStmts, IsBlock}
 use Rattle.dm_reread.specs.ReadBack.{leaf_grammar}
 use Rattle.dm_reread.proofs.Words.{name-path}
 use Rattle.dm_head_laws.specs.Parts.{Each}
 use Rattle.dm_head_laws.proofs.DeclaredParts.{each_map, each_both}
 use Rattle.dm_emitted_laws.specs.Parts.{OperatorNamed}
 use Rattle.dm_emitted_laws.specs.Ready.{CaseReady}
+use Rattle.dm_emitted_laws.proofs.OperandPatterns.{AreNames, self_names, right_names, inner_names, self_word, IsCasePath, case_path_plain, side_pattern_of, side_is_pattern}
 
 -- what holds of both holds of the one that is chosen
 chosen : {A : Type 0} (P : A → Type 0) (b : Bool) (x y : A) → P x → P y → P (cond b x y)
@@ -38,24 +39,7 @@ chosen P false x y h k = k
 
 -- ---- names
 
--- what fields are called by their numbers
-pub self_named : (n : ℕ) → IsName (word (self_name n))
-unfolding is_keyword
-self_named n = refl
-
-pub right_named : (n : ℕ) → IsName (word (right_name n))
-unfolding is_keyword
-right_named n = refl
-
-pub inner_named : (n : ℕ) → IsName (word (inner_name n))
-unfolding is_keyword
-inner_named n = refl
-
--- the operands
-self_word : IsTrue (is_path_word (word (codes "self")))
-unfolding is_keyword
-self_word = refl
-
+-- the operand right of an operator
 right_word : IsTrue (is_path_word (word (codes "__rhs")))
 unfolding is_keyword
 right_word = refl
@@ -104,21 +88,6 @@ method_path : (o : Operator) → OperatorNamed o → IsBarePath (plain_path (wor
 unfolding is_keyword
 method_path o h = (tt, (refl, (refl, (refl, (h.trait_named, (name-path (word o.method) h.method_named, tt))))))
 
--- a path of a case: it is no single name
-abbrev IsCasePath : PathTree → Type 0
-IsCasePath p = IsBarePath p × (is_single (unplaced_path p) ≡ false)
-
-self_path : IsCasePath (plain_path (word (codes "Self") ∷ []))
-unfolding is_keyword
-self_path = ((tt, (refl, tt)), refl)
-
-self_variant_path : (i : Ident) → IsName i → IsCasePath (plain_path (word (codes "Self") ∷ i ∷ []))
-unfolding is_keyword
-self_variant_path i h = ((tt, (refl, (name-path i h, tt))), refl)
-
-case_path_is : (d : Declaration) (i : Ident) → IsName i → IsCasePath (case_path d i)
-case_path_is d i h = chosen IsCasePath (is_enum d) _ _ (self_variant_path i h) self_path
-
 variant_path_is : (d : Declaration) (i : Ident) → IsName d.ident → IsName i → IsCasePath (variant_path d i)
 variant_path_is d i h k = ((tt, (name-path d.ident h, (name-path i k, tt))), refl)
 
@@ -133,51 +102,25 @@ fields_ready : (form : Form) (fs : List MarkedField) → (form ≡ forms.Named �
 fields_ready form [] h = tt
 fields_ready form (f ∷ fs) h = (λ e. (h e).0, fields_ready form fs (λ e. (h e).1))
 
--- a case whose names are names
-abbrev IsReady : MarkedCase → Type 0
-IsReady c = IsName c.ident × Each (FieldReady c.form) c.fields
+case_fields : (c : MarkedCase) → CaseReady c → Each (FieldReady c.form) c.fields
+case_fields c h = fields_ready c.form c.fields h.named
 
-case_ready : (c : MarkedCase) → CaseReady c → IsReady c
-case_ready c h = (h.ident, fields_ready c.form c.fields h.named)
+whole_ready : (c : MarkedCase) → CaseReady c → CaseReady (whole c)
+whole_ready c h = record { ident = h.ident; named = λ e. each_map (λ f. IsName (field_ident f.field.ident)) keep c.fields (h.named e) }
 
-whole_ready : (c : MarkedCase) → IsReady c → IsReady (whole c)
-whole_ready c h = (h.0, each_map (FieldReady c.form) keep c.fields h.1)
-
-bound_ready : (o : Operator) (c : MarkedCase) → IsReady c → IsReady (bound_in o c)
-bound_ready o c h = chosen IsReady o.assigning c (whole c) h (whole_ready c h)
+bound_ready : (o : Operator) (c : MarkedCase) → CaseReady c → CaseReady (bound_in o c)
+bound_ready o c h = chosen CaseReady o.assigning c (whole c) h (whole_ready c h)
 
 -- ---- patterns
 
 abbrev IsBarePattern : PatternTree → Type 0
 IsBarePattern p = IsPattern (bare_pattern p)
 
-module _ (naming : ℕ → Text) (named : (n : ℕ) → IsName (word (naming n))) where
-  bindings_are : (n : ℕ) (fs : List MarkedField) → ArePatterns (bare_patterns (patterns_of (bindings naming n fs)))
-  bindings_are n [] = tt
-  bindings_are n (f ∷ fs) = (chosen IsBarePattern f.left_out _ _ tt (named n), bindings_are (n + 1) fs)
-
-  -- those between braces
-  abbrev AreBareNamed : List (Ident × PatternTree) → Type 0
-  AreBareNamed ps = AreNamedPatterns (bare_named (named_of ps))
-
-  named_bindings_are : (n : ℕ) (fs : List MarkedField) → Each (FieldReady forms.Named) fs → AreBareNamed (named_bindings naming n fs)
-  named_bindings_are n [] h = tt
-  named_bindings_are n (f ∷ fs) h =
-      let more = named_bindings_are (n + 1) fs h.1 in chosen AreBareNamed f.left_out _ _ more (h.0 refl, (named n, more))
-
-  side_is : (p : PathTree) → IsCasePath p → (form : Form) (fs : List MarkedField) → Each (FieldReady form) fs →
-      IsBarePattern (side_pattern naming p form fs)
-  side_is p k forms.Named fs h = (k.0, named_bindings_are 0 fs h)
-  side_is p k forms.Unnamed fs h = (k.0, bindings_are 0 fs)
-  side_is p k forms.Unit fs h = k
-
 -- of both operands, or of self
-sides_are : (form : ops.Form) (d : Declaration) (c : MarkedCase) → IsReady c → IsBarePattern (sides form d c)
-sides_are ops.structural d c h =
-    let p = case_path_is d c.ident h.0 in
-    (side_is self_name self_named _ p c.form c.fields h.1, side_is right_name right_named _ p c.form c.fields h.1)
-sides_are ops.scalar d c h = side_is self_name self_named _ (case_path_is d c.ident h.0) c.form c.fields h.1
-sides_are ops.unary d c h = side_is self_name self_named _ (case_path_is d c.ident h.0) c.form c.fields h.1
+sides_are : (form : ops.Form) (d : Declaration) (c : MarkedCase) → CaseReady c → IsBarePattern (sides form d c)
+sides_are ops.structural d c h = (side_is_pattern self_name self_names d c h, side_is_pattern right_name right_names d c h)
+sides_are ops.scalar d c h = side_is_pattern self_name self_names d c h
+sides_are ops.unary d c h = side_is_pattern self_name self_names d c h
 
 -- ---- expressions, statements and arms, whatever the types and values of the grammar are
 
@@ -186,7 +129,7 @@ module _ (g : LeafGrammar) where
   IsValue e = IsExpr g true (bare_expr e)
 
   -- the name of a field by its number
-  numbered_value : (naming : ℕ → Text) → ((n : ℕ) → IsName (word (naming n))) → (n : ℕ) → IsValue (name (naming n))
+  numbered_value : (naming : ℕ → Text) → AreNames naming → (n : ℕ) → IsValue (name (naming n))
   numbered_value naming named n = name_path (naming n) (name-path (word (naming n)) (named n))
 
   self_value : IsValue (name (codes "self"))
@@ -282,16 +225,16 @@ module _ (g : LeafGrammar) where
     -- ---- two operands
 
     right_operand_is : (form : ops.Form) (n : ℕ) → IsValue (right_operand form n)
-    right_operand_is ops.structural n = numbered_value right_name right_named n
+    right_operand_is ops.structural n = numbered_value right_name right_names n
     right_operand_is ops.scalar n = right_value
     right_operand_is ops.unary n = right_value
 
     binary_call_is : (form : ops.Form) (n : ℕ) → IsValue (binary_call form o n)
     binary_call_is form n =
-        operation_is (name (self_name n) ∷ right_operand form n ∷ []) (numbered_value self_name self_named n, (right_operand_is form n, tt))
+        operation_is (name (self_name n) ∷ right_operand form n ∷ []) (numbered_value self_name self_names n, (right_operand_is form n, tt))
 
     binary_part_is : (form : ops.Form) (n : ℕ) (f : MarkedField) → IsValue (binary_part form o n f)
-    binary_part_is form n f = chosen IsValue f.left_out _ _ (numbered_value self_name self_named n) (binary_call_is form n)
+    binary_part_is form n f = chosen IsValue f.left_out _ _ (numbered_value self_name self_names n) (binary_call_is form n)
 
     assigning_calls_are : (form : ops.Form) (n : ℕ) (fs : List MarkedField) → AreStmts g (bare_stmts (stmts_of (assigning_calls form o n fs)))
     assigning_calls_are form n [] = tt
@@ -299,20 +242,21 @@ module _ (g : LeafGrammar) where
         let more = assigning_calls_are form (n + 1) fs in
         chosen (λ ss. AreStmts g (bare_stmts (stmts_of ss))) f.left_out _ _ more (binary_call_is form n, more)
 
-    value_given_is : (form : ops.Form) (d : Declaration) (c : MarkedCase) → IsReady c → IsValue (value_given form o d c)
+    value_given_is : (form : ops.Form) (d : Declaration) (c : MarkedCase) → CaseReady c → IsValue (value_given form o d c)
     value_given_is form d c h =
-        constructor_is c.form (binary_part form o) (λ n f k. binary_part_is form n f) _ (case_path_is d c.ident h.0).0 c.fields h.1
+        constructor_is c.form (binary_part form o) (λ n f k. binary_part_is form n f) _ (case_path_plain (is_enum d) c.ident h.ident).0
+        c.fields (case_fields c h)
 
-    answer_given_is : (form : ops.Form) (d : Declaration) (c : MarkedCase) → IsReady c → IsValue (answer_given form o d c)
+    answer_given_is : (form : ops.Form) (d : Declaration) (c : MarkedCase) → CaseReady c → IsValue (answer_given form o d c)
     answer_given_is ops.structural d c h =
         chosen IsValue (is_unit_form c.form) _ _ (binary_unit_is o) (in_ok_is (is_enum d) _ (value_given_is ops.structural d c h))
     answer_given_is ops.scalar d c h = value_given_is ops.scalar d c h
     answer_given_is ops.unary d c h = value_given_is ops.unary d c h
 
-    binary_given_is : (form : ops.Form) (d : Declaration) (c : MarkedCase) → IsReady c → IsBareBody (binary_given form o d c)
+    binary_given_is : (form : ops.Form) (d : Declaration) (c : MarkedCase) → CaseReady c → IsBareBody (binary_given form o d c)
     binary_given_is form d c h = chosen IsBareBody o.assigning _ _ (assigning_calls_are form 0 c.fields, tt) (answer_given_is form d c h)
 
-    binary_arm_is : (form : ops.Form) (d : Declaration) (c : MarkedCase) → IsReady c → IsBareArm (binary_arm form o d c)
+    binary_arm_is : (form : ops.Form) (d : Declaration) (c : MarkedCase) → CaseReady c → IsBareArm (binary_arm form o d c)
     binary_arm_is form d c h =
         let p = sides_are form d (bound_in o c) (bound_ready o c h) in
         arm_is (binary_pattern form o d c) (binary_given form o d c) p (binary_given_is form d c h)
@@ -320,7 +264,7 @@ module _ (g : LeafGrammar) where
     binary_arms_are : (form : ops.Form) (d : Declaration) (cs : List MarkedCase) → Each CaseReady cs →
         Each IsBareArm (map (binary_arm form o d) cs)
     binary_arms_are form d [] h = tt
-    binary_arms_are form d (c ∷ cs) h = (binary_arm_is form d c (case_ready c h.0), binary_arms_are form d cs h.1)
+    binary_arms_are form d (c ∷ cs) h = (binary_arm_is form d c h.0, binary_arms_are form d cs h.1)
 
     different_body_is : IsBareBody (different_body o)
     different_body_is = chosen IsBareBody o.assigning _ _ (tt, tt) (mismatch_is o)
@@ -347,24 +291,24 @@ module _ (g : LeafGrammar) where
     -- ---- one operand
 
     inner_part_is : (n : ℕ) (f : MarkedField) → IsValue (inner_part o n f)
-    inner_part_is n f = operation_is (name (inner_name n) ∷ []) (numbered_value inner_name inner_named n, tt)
+    inner_part_is n f = operation_is (name (inner_name n) ∷ []) (numbered_value inner_name inner_names n, tt)
 
     module _ (d : Declaration) (own : IsName d.ident) where
-      unary_given_is : (fails : Bool) (c : MarkedCase) → IsReady c → IsBareBody (unary_given o d fails c)
+      unary_given_is : (fails : Bool) (c : MarkedCase) → CaseReady c → IsBareBody (unary_given o d fails c)
       unary_given_is fails c h =
-          let p = (variant_path_is d c.ident own h.0).0 in
-          let value = constructor_is c.form (inner_part o) (λ n f k. inner_part_is n f) _ p c.fields h.1 in
+          let p = (variant_path_is d c.ident own h.ident).0 in
+          let value = constructor_is c.form (inner_part o) (λ n f k. inner_part_is n f) _ p c.fields (case_fields c h) in
           chosen IsBareBody (is_unit_form c.form) _ _ (unary_unit_is o) (tt, in_ok_is fails _ value)
 
-      unary_arm_is : (fails : Bool) (c : MarkedCase) → IsReady c → IsBareArm (unary_arm o d fails c)
+      unary_arm_is : (fails : Bool) (c : MarkedCase) → CaseReady c → IsBareArm (unary_arm o d fails c)
       unary_arm_is fails c h =
           let p = variant_path d c.ident in
           arm_is (side_pattern inner_name p c.form c.fields) (unary_given o d fails c)
-          (side_is inner_name inner_named p (variant_path_is d c.ident own h.0) c.form c.fields h.1) (unary_given_is fails c h)
+          (side_pattern_of inner_name inner_names p (variant_path_is d c.ident own h.ident) c.form c.fields h.named) (unary_given_is fails c h)
 
       unary_arms_are : (fails : Bool) (cs : List MarkedCase) → Each CaseReady cs → Each IsBareArm (map (unary_arm o d fails) cs)
       unary_arms_are fails [] h = tt
-      unary_arms_are fails (c ∷ cs) h = (unary_arm_is fails c (case_ready c h.0), unary_arms_are fails cs h.1)
+      unary_arms_are fails (c ∷ cs) h = (unary_arm_is fails c h.0, unary_arms_are fails cs h.1)
 
       unary_enum_is : (cs : List MarkedCase) → Each CaseReady cs → IsValue (unary_enum o d cs)
       unary_enum_is cs h = (self_value, arms_are (map (unary_arm o d (some_unit_form cs)) cs) (unary_arms_are (some_unit_form cs) cs h))
@@ -382,7 +326,7 @@ module _ (g : LeafGrammar) where
       unary_struct_is : (cs : List MarkedCase) → Each CaseReady cs → IsValue (unary_struct o d cs)
       unary_struct_is [] h = (self_value, tt)
       unary_struct_is (c ∷ cs) h =
-          constructor_is c.form (own_part o c.form) (own_part_is c.form) _ (ident_path d.ident own) c.fields (case_ready c h.0).1
+          constructor_is c.form (own_part o c.form) (own_part_is c.form) _ (ident_path d.ident own) c.fields (case_fields c h.0)
 
       -- ---- all of them
 
