@@ -14,7 +14,7 @@ use Rattle.dm_reread.specs.Leaves.{Answer}
 use Rattle.dm_reread.specs.BareReading.{bare_answer}
 use Rattle.dm_reread.specs.TypeLeaves.{answer_of}
 use Rattle.dm_reread.specs.ExactLeaves.{passed, has_entries, exactly}
-use Rattle.dm_reread.proofs.BareTypeTokens.{unplaced-join}
+use Rattle.dm_type_eq.proofs.BareTypeTokens.{unplaced-join}
 use Rattle.dm_read_laws.specs.Sound.{IsBare, Spells}
 use Rattle.dm_read_laws.proofs.Answers.{tested_some, same_answer}
 use Rattle.dm_read_laws.proofs.Entries.{same_split}

@@ -25,7 +25,7 @@ use Rattle.dm_reread.specs.RunLeaves.{read_run, is_closed}
 use Rattle.dm_reread.specs.HeadLeaves.{read_generics, read_where, head_in, read_named, read_head, is_plain, is_lifetime, are_plain, plain_head}
 use Rattle.dm_reread.specs.ExactLeaves.{passed, has_entries, exactly, closed_run}
 use Rattle.dm_reread.specs.ReadBack.{leaves, item_leaves}
-use Rattle.dm_reread.proofs.BareTypeTokens.{unplaced-join, type-bare}
+use Rattle.dm_type_eq.proofs.BareTypeTokens.{unplaced-join, type-bare}
 use Rattle.dm_reread.proofs.BareTokens.{path-expr-bare}
 use Rattle.dm_reread.proofs.BareItemTokens.{params-bare, where-bare, trait-bare}
 use Rattle.dm_reread.proofs.BareNext.{passing, chained, provided-bare}

@@ -17,7 +17,7 @@ use Rattle.dm_type_eq.specs.Unplaced.{unplaced_type}
 use Rattle.dm_reread.specs.BareReading.{bare_rest, bare_answer, bare_qualified}
 use Rattle.dm_reread.specs.PathLeaves.{names_at, path_at, qualified_in, read_qualified}
 use Rattle.dm_reread.specs.RunLeaves.{read_run, is_closed}
-use Rattle.dm_reread.proofs.BareTypeTokens.{unplaced-join}
+use Rattle.dm_type_eq.proofs.BareTypeTokens.{unplaced-join}
 use Rattle.dm_reread.proofs.BareNext.{map-cond, passing, whole-bare}
 use Rattle.dm_read_laws.proofs.NaturalDeclarations.{type_natural}
 

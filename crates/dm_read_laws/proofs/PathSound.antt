@@ -20,7 +20,7 @@ use Rattle.dm_reread.specs.Reading.{then, whole}
 use Rattle.dm_reread.specs.TypeLeaves.{top, read_type, IsType}
 use Rattle.dm_reread.specs.PathLeaves.{names_at, path_at, qualified_in, read_qualified, IsQualified}
 use Rattle.dm_reread.specs.ExactLeaves.{has_entries, exact_qualified}
-use Rattle.dm_reread.proofs.BareTypeTokens.{node-bare}
+use Rattle.dm_type_eq.proofs.BareTypeTokens.{node-bare}
 use Rattle.dm_reread.proofs.LeafFronts.{split_size}
 use Rattle.dm_reread.proofs.TypeLeafUnplaced.{read_is_type}
 use Rattle.dm_read_laws.specs.Sound.{IsBare, Spells, is_qualified}

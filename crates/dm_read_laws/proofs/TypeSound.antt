@@ -11,7 +11,7 @@ use Rattle.dm_reread.specs.BareReading.{NaturalItems}
 use Rattle.dm_reread.specs.ReadBack.{item_leaves}
 use Rattle.dm_reread.specs.TypeLeaves.{top, read_type, IsType}
 use Rattle.dm_reread.specs.ExactLeaves.{exact_type}
-use Rattle.dm_reread.proofs.BareTypeTokens.{type-bare}
+use Rattle.dm_type_eq.proofs.BareTypeTokens.{type-bare}
 use Rattle.dm_reread.proofs.TypeLeaf.{whole_decided}
 use Rattle.dm_reread.proofs.TypeLeafUnplaced.{read_is_type}
 use Rattle.dm_read_laws.specs.Sound.{IsBare, Spells}

@@ -18,7 +18,7 @@ use Rattle.dm_output.specs.declared.item.Receiver.TheVariants as receiver
 use Rattle.dm_type_eq.specs.Unplaced.{unplaced_bound, unplaced_bounds, unplaced_constant, unplaced_lifetimes, unplaced_path, unplaced_type}
 use Rattle.dm_reread.specs.Bare.{bare_listed, bare_param, bare_predicate, bare_assoc, bare_param_of, bare_method, bare_item}
 use Rattle.dm_reread.specs.Unplaced.{bare_items}
-use Rattle.dm_reread.proofs.BareTypeTokens.{unplaced-spaced, lifetimes-bare, for-bare, const-bare, attributes-bare, type-bare, bounds-bare, path-bare}
+use Rattle.dm_type_eq.proofs.BareTypeTokens.{unplaced-spaced, each-bare, lifetimes-bare, for-bare, const-bare, attributes-bare, type-bare, bounds-bare, path-bare}
 use Rattle.dm_reread.proofs.BareTokens.{unplaced_parts, block-bare}
 
 -- ---- parameters and predicates
@@ -49,8 +49,7 @@ param-bare (type_param attrs i bounds default) = simp (attributes-bare, bounds-a
 param-bare (const_param attrs i t default) = simp (attributes-bare, type-bare, default-const-bare, unplaced_parts)
 
 params-are-bare : (ps : List ParamTree) → map unplaced (map param_trees ps) ≡ map param_trees (map bare_param ps)
-params-are-bare [] = refl
-params-are-bare (p ∷ ps) = ap₂ (λ x xs. x ∷ xs) (param-bare p) (params-are-bare ps)
+params-are-bare = each-bare param_trees bare_param param-bare
 
 angled-bare : (xs : List Trees) →
     unplaced (join (punct 60) (join (spaced comma true xs) (punct 62))) ≡
@@ -67,8 +66,7 @@ predicate-bare (lifetime_predicate l ls) = simp (maybe-lifetimes-bare (Some ls))
 predicate-bare (type_predicate ls t bs) = simp (for-bare, type-bare, bounds-bare, bounds-of-bare, unplaced_parts)
 
 predicates-are-bare : (ps : List PredicateTree) → map unplaced (map predicate_trees ps) ≡ map predicate_trees (map bare_predicate ps)
-predicates-are-bare [] = refl
-predicates-are-bare (p ∷ ps) = ap₂ (λ x xs. x ∷ xs) (predicate-bare p) (predicates-are-bare ps)
+predicates-are-bare = each-bare predicate_trees bare_predicate predicate-bare
 
 pub where-bare : (ps : List PredicateTree) → unplaced (where_trees ps) ≡ where_trees (map bare_predicate ps)
 where-bare [] = refl
@@ -122,8 +120,7 @@ method-bare : (x : MethodTree) → unplaced (method_trees x) ≡ method_trees (b
 method-bare x = simp (attrs-bare, inputs-bare, output-bare, block-bare, unplaced_parts)
 
 methods-bare : (xs : List MethodTree) → map unplaced (map method_trees xs) ≡ map method_trees (map bare_method xs)
-methods-bare [] = refl
-methods-bare (x ∷ xs) = ap₂ (λ y ys. y ∷ ys) (method-bare x) (methods-bare xs)
+methods-bare = each-bare method_trees bare_method method-bare
 
 -- ---- implementations
 
@@ -131,8 +128,7 @@ pub item-bare : (i : ItemTree) → unplaced (item_trees i) ≡ item_trees (bare_
 item-bare i = simp (attrs-bare, params-bare, trait-bare, type-bare, where-bare, assocs-bare, methods-bare, unplaced_parts)
 
 items-are-bare : (is : List ItemTree) → map unplaced (map item_trees is) ≡ map item_trees (bare_items is)
-items-are-bare [] = refl
-items-are-bare (i ∷ is) = ap₂ (λ x xs. x ∷ xs) (item-bare i) (items-are-bare is)
+items-are-bare = each-bare item_trees bare_item item-bare
 
 pub items-bare : (is : List ItemTree) → unplaced (in_turn (map item_trees is)) ≡ in_turn (map item_trees (bare_items is))
 items-bare is = simp (items-are-bare, unplaced_parts)

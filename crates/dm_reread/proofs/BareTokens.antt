@@ -14,7 +14,7 @@ use Rattle.dm_output.specs.Output.{FmtArgTree, FmtTree, PatternTree, wild, bind,
 use Rattle.dm_output.specs.Tokens.{ended, in_turn, binding_trees, pattern_trees, each_pattern, each_named, path_expr_trees, alias_trees, fmt_arg_trees, fmt_trees, member_trees, base_trees, expr_trees, each_expr, each_named_expr, maybe_trees, guard_trees, arms_trees, body_trees, stmt_trees, stmts_trees, inside_trees}
 use Rattle.dm_type_eq.specs.Unplaced.{unplaced_ident, unplaced_path, unplaced_self}
 use Rattle.dm_reread.specs.Bare.{bare_fmt_arg, bare_fmt, bare_member, bare_pattern, bare_patterns, bare_named, bare_expr, bare_exprs, bare_named_exprs, bare_maybe, bare_arms, bare_body, bare_stmt, bare_stmts, bare_block}
-use Rattle.dm_reread.proofs.BareTypeTokens.{unplaced-join, unplaced-given, unplaced-spaced, type-bare, path-bare, node-bare}
+use Rattle.dm_type_eq.proofs.BareTypeTokens.{unplaced-join, unplaced-given, unplaced-spaced, type-bare, path-bare, node-bare}
 
 pub unplaced-ended : (xs : List Trees) → unplaced (ended xs) ≡ ended (map unplaced xs)
 unplaced-ended [] = refl

@@ -17,7 +17,6 @@ pub mod PartLists
 pub mod ItemRows
 pub mod ItemsBack
 pub mod Examples
-pub mod BareTypeTokens
 pub mod BareTokens
 pub mod BareItemTokens
 pub mod BareNext

@@ -1,3 +1,4 @@
+pub mod BareTypeTokens
 pub mod CutMacros
 pub mod Cutting
 pub mod RespelledTypes

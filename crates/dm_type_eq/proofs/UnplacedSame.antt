@@ -1,11 +1,10 @@
 -- Types that are equal without the places of their tokens are the same part for part, and types with the same tokens
 -- are spelled by equal trees without their places.
-use Rattle.std.proofs.Common.{◌≡◌, ℕ, ◌+◌, Bool, true, false, cond, ◌&&◌, ◌==◌, nat_eq, List, [], ◌∷◌, ◌++◌, length, map, take, drop, codes, Option, Some, None, refl, sym, ap, ap₂, ◌∙◌, append_assoc, append-nil, option_map}
+use Rattle.std.proofs.Common.{◌≡◌, ℕ, ◌+◌, Bool, true, false, ◌&&◌, nat_eq, List, [], ◌∷◌, ◌++◌, length, map, Option, Some, None, refl, sym, ap, ap₂, ◌∙◌, append_assoc, append-nil, option_map}
 use Rattle.std.proofs.lemmas.Bool.Decides.{Decides-eqb}
-use Rattle.std.proofs.lemmas.List.{map-append, length-map, take-map, drop-map}
+use Rattle.std.proofs.lemmas.List.{map-append, length-map}
 use Rattle.std.proofs.lemmas.Slice.Eq.{bytes_eq-Decides}
 use Rattle.std.specs.Str.{bytes_eq}
-use Rattle.dm_stream.specs.declared.tokens.Span.{Span}
 use Rattle.dm_stream.specs.declared.tokens.Delim.{Delim}
 use Rattle.dm_stream.specs.declared.tokens.Delim.TheVariants.{Paren, Bracket, Brace}
 use Rattle.dm_stream.specs.declared.tokens.Ident.{Ident}
@@ -27,11 +26,12 @@ use Rattle.dm_ast.specs.declared.plain.Attribute.{Attribute}
 use Rattle.dm_ast.specs.declared.plain.ConstArg.{ConstArg}
 use Rattle.dm_ast.specs.declared.plain.ConstArg.TheVariants as constant
 use Rattle.dm_ast.specs.Tree.{Lifetimes, TypeTree, type_tree, TypeNode, paren, tuple, slice, array, reference, pointer, bare_fn, trait_object, impl_trait, infer, never, path, macro_type, TypeTrees, no_types, type_then, MaybeType, no_type, some_type, MaybeSelf, no_self, some_self, BoundTree, outlives, implements, BoundTrees, no_bounds, bound_then, TraitBoundTree, trait_bound, FnTree, fn_tree, InputTree, input, InputTrees, no_inputs, input_then, PathTree, path_tree, SegmentTree, segment, SegmentTrees, no_segments, segment_then, ArgumentsTree, absent, angle, parens, ArgumentTree, lifetime_arg, type_arg, const_arg, assoc_type, assoc_const, constraint, ArgumentTrees, no_arguments, argument_then, MaybeArguments, arguments_absent, some_arguments}
-use Rattle.dm_ast.specs.TypeTokens as spell
+use Rattle.dm_ast.specs.TypeTokens.{type_trees}
 use Rattle.dm_type_eq.specs.BareTokens.{Bare, bare_name, bare_lifetime, bare_literal, bare_punct, opening, closing, bare, tokens_of}
 use Rattle.dm_same.specs.SameTypes.{same_flag, same_option, all_same, same_list, same_name, same_lifetime, kind_number, same_literal, same_spacing, same_token, same_entry, same_stream, same_lifetimes, same_plain, same_args, same_attribute, same_constant, same_abi, same_type, same_node, same_types, same_maybe_type, same_self, same_bound, same_bounds, same_trait_bound, same_fn, same_input, same_inputs, same_path, same_segments, same_segment, same_arguments_of, same_argument, same_arguments, same_maybe_arguments}
 use Rattle.dm_lexer.specs.Written.{unplaced, unplaced_token}
 use Rattle.dm_type_eq.specs.Unplaced.{unplaced_abi, unplaced_args, unplaced_argument, unplaced_arguments, unplaced_arguments_of, unplaced_attribute, unplaced_bound, unplaced_bounds, unplaced_constant, unplaced_fn, unplaced_ident, unplaced_input, unplaced_inputs, unplaced_lifetime, unplaced_lifetimes, unplaced_literal, unplaced_maybe_arguments, unplaced_maybe_type, unplaced_node, unplaced_path, unplaced_plain, unplaced_segment, unplaced_segments, unplaced_self, unplaced_stream, unplaced_trait, unplaced_type, unplaced_types}
+use Rattle.dm_type_eq.proofs.BareTypeTokens.{type-bare}
 
 both : {a b c d : Bool} → a ≡ c → b ≡ d → (a && b) ≡ (c && d)
 both e f = ap₂ (λ x y. x && y) e f
@@ -374,201 +374,6 @@ mutual
 pub same_unplaced : (a b : TypeTree) → unplaced_type a ≡ unplaced_type b → same_type a b ≡ true
 same_unplaced a b e = sym (same_again a b) ∙ ap (same_type a) (sym e) ∙ same_again a a ∙ same_itself a
 
--- ---- trees without their places
-
-unplaced_join : (x y : Trees) → unplaced (join x y) ≡ join (unplaced x) (unplaced y)
-unplaced_join no_trees y = refl
-unplaced_join (token k rest) y = ap (token (unplaced_token k)) (unplaced_join rest y)
-unplaced_join (group d from inside upto rest) y = ap (group d nowhere (unplaced inside) nowhere) (unplaced_join rest y)
-
-joined : (x y : Trees) {v w : Trees} → unplaced x ≡ v → unplaced y ≡ w → unplaced (join x y) ≡ join v w
-joined x y e f = unplaced_join x y ∙ ap₂ join e f
-
-chosen : (b : Bool) (x y : Trees) → unplaced (cond b x y) ≡ cond b (unplaced x) (unplaced y)
-chosen true x y = refl
-chosen false x y = refl
-
-spaced_spelled : (between : Trees) (first : Bool) (xs : List Trees) →
-    unplaced (spell.spaced between first xs) ≡ spell.spaced (unplaced between) first (map unplaced xs)
-spaced_spelled between first [] = refl
-spaced_spelled between first (x ∷ xs) = joined _ _ (chosen first no_trees between) (joined _ _ refl (spaced_spelled between false xs))
-
-listed_spelled : (c : ℕ) (s : Span) (xs ys : List Trees) (trailing : Bool) → map unplaced xs ≡ ys →
-    unplaced (spell.listed c s xs trailing) ≡ spell.listed c nowhere ys trailing
-listed_spelled c s xs ys trailing e =
-    joined _ _ (spaced_spelled (spell.punct c s) true xs ∙ ap (spell.spaced (spell.punct c nowhere) true) e) (chosen trailing (spell.punct c s) no_trees)
-
-angles_spelled : (s : Span) (xs ys : List Trees) (trailing : Bool) → map unplaced xs ≡ ys →
-    unplaced (spell.angle_trees s xs trailing) ≡ spell.angle_trees nowhere ys trailing
-angles_spelled s xs ys trailing e = ap (join (spell.punct 60 nowhere)) (joined _ (spell.punct 62 s) (listed_spelled 44 s xs ys trailing e) refl)
-
--- the types in parentheses, and what follows them
-inputs_and : (s : Span) (xs ys : List Trees) (trailing : Bool) (x y : Trees) → map unplaced xs ≡ ys → unplaced x ≡ y →
-    unplaced (join (spell.grouped Paren (spell.listed 44 s xs trailing)) x) ≡ join (spell.grouped Paren (spell.listed 44 nowhere ys trailing)) y
-inputs_and s xs ys trailing x y e f = ap₂ (λ a b. join (spell.grouped Paren a) b) (listed_spelled 44 s xs ys trailing e) f
-
--- the parts of a path
-parts_spelled : (s : Span) (first : Bool) (xs ys : List Trees) → map unplaced xs ≡ ys →
-    unplaced (spell.spaced (spell.colons s) first xs) ≡ spell.spaced (spell.colons nowhere) first ys
-parts_spelled s first xs ys e = spaced_spelled (spell.colons s) first xs ∙ ap (spell.spaced (spell.colons nowhere) first) e
-
-each_spelled : {A : Type 0} (spelled : A → Trees) (f : A → A) → ((a : A) → unplaced (spelled a) ≡ spelled (f a)) → (xs : List A) →
-    map unplaced (map spelled xs) ≡ map spelled (map f xs)
-each_spelled spelled f h [] = refl
-each_spelled spelled f h (x ∷ xs) = ap₂ (λ a b. a ∷ b) (h x) (each_spelled spelled f h xs)
-
-plain_spelled : (s : Span) (p : PlainPath) → unplaced (spell.plain_trees s p) ≡ spell.plain_trees nowhere (unplaced_plain p)
-plain_spelled s p =
-    joined _ _ (chosen p.leading_colon (spell.colons s) no_trees)
-    (parts_spelled s true _ _ (each_spelled spell.name unplaced_ident (λ i. refl) p.segments))
-
-for_spelled : (s : Span) (a : Lifetimes) → unplaced (spell.for_trees s a) ≡ spell.for_trees nowhere (unplaced_lifetimes a)
-for_spelled s None = refl
-for_spelled s (Some ls) =
-    ap (join (spell.word (codes "for") nowhere))
-    (angles_spelled s _ _ ls.trailing (each_spelled spell.lifetime unplaced_lifetime (λ l. refl) ls.items))
-
-constant_spelled : (s : Span) (a : ConstArg) → unplaced (spell.const_trees s a) ≡ spell.const_trees nowhere (unplaced_constant a)
-constant_spelled s (constant.Literal minus l) = joined _ (spell.literal l) (chosen minus (spell.punct 45 s) no_trees) refl
-constant_spelled s (constant.Bool i) = refl
-constant_spelled s (constant.Block ts) = refl
-constant_spelled s (constant.Name i) = refl
-
-args_spelled : (s : Span) (a : AttrArgs) → unplaced (spell.attr_args_trees s a) ≡ spell.attr_args_trees nowhere (unplaced_args a)
-args_spelled s args.Absent = refl
-args_spelled s (args.List d ts) = refl
-args_spelled s (args.Value o) = refl
-
-attribute_spelled : (a : Attribute) → unplaced (spell.attribute_trees a) ≡ spell.attribute_trees (unplaced_attribute a)
-attribute_spelled a =
-    ap (λ x. join (spell.punct 35 nowhere) (spell.grouped Bracket x)) (joined _ _ (plain_spelled a.span a.path) (args_spelled a.span a.args))
-
-attributes_spelled : (xs : List Attribute) → unplaced (spell.attributes_trees xs) ≡ spell.attributes_trees (map unplaced_attribute xs)
-attributes_spelled [] = refl
-attributes_spelled (x ∷ xs) = joined (spell.attribute_trees x) (spell.attributes_trees xs) (attribute_spelled x) (attributes_spelled xs)
-
-maybe_lifetime_spelled : (l : Option Lifetime) → unplaced (spell.maybe_lifetime l) ≡ spell.maybe_lifetime (option_map unplaced_lifetime l)
-maybe_lifetime_spelled None = refl
-maybe_lifetime_spelled (Some l) = refl
-
-abi_spelled : (s : Span) (a : Option (Option Literal)) → unplaced (spell.abi_trees s a) ≡ spell.abi_trees nowhere (unplaced_abi a)
-abi_spelled s None = refl
-abi_spelled s (Some None) = refl
-abi_spelled s (Some (Some l)) = refl
-
-input_name_spelled : (s : Span) (i : Option Ident) → unplaced (spell.input_name_trees s i) ≡ spell.input_name_trees nowhere (option_map unplaced_ident i)
-input_name_spelled s None = refl
-input_name_spelled s (Some i) = refl
-
-qualified_spelled : (s : Span) (x y : Trees) (n : ℕ) (leading : Bool) (xs ys : List Trees) → unplaced x ≡ y → map unplaced xs ≡ ys →
-    unplaced (spell.qualified_trees s x n leading xs) ≡ spell.qualified_trees nowhere y n leading ys
-qualified_spelled s x y n leading xs ys e f =
-    ap (join (spell.punct 60 nowhere))
-    (joined _ _ e
-    (joined _ _
-    (chosen (n == 0) no_trees (join (spell.word (codes "as") s) (join (spell.given leading (spell.colons s)) (spell.spaced (spell.colons s) true (take n xs)))) ∙
-    ap (cond (n == 0) no_trees)
-    (ap (join (spell.word (codes "as") nowhere))
-    (joined _ _ (chosen leading (spell.colons s) no_trees) (parts_spelled s true (take n xs) (take n ys) (sym (take-map unplaced n xs) ∙ ap (take n) f)))))
-    (ap (join (spell.punct 62 nowhere)) (parts_spelled s false (drop n xs) (drop n ys) (sym (drop-map unplaced n xs) ∙ ap (drop n) f)))))
-
-mutual
-  unplaced_spelled : (a : TypeTree) → unplaced (spell.type_trees a) ≡ spell.type_trees (unplaced_type a)
-  unplaced_spelled (type_tree n s) = node_spelled s n
-
-  node_spelled : (s : Span) (n : TypeNode) → unplaced (spell.node_trees s n) ≡ spell.node_trees nowhere (unplaced_node n)
-  node_spelled s (paren x) = ap (spell.grouped Paren) (unplaced_spelled x)
-  node_spelled s (tuple xs trailing) = ap (spell.grouped Paren) (listed_spelled 44 s _ _ trailing (types_spelled xs))
-  node_spelled s (slice x) = ap (spell.grouped Bracket) (unplaced_spelled x)
-  node_spelled s (array x o) = ap (spell.grouped Bracket) (joined _ (join (spell.punct 59 s) o.tokens.trees) (unplaced_spelled x) refl)
-  node_spelled s (reference l m x) =
-      ap (join (spell.punct 38 nowhere))
-      (joined _ _ (maybe_lifetime_spelled l) (joined _ _ (chosen m (spell.word (codes "mut") s) no_trees) (unplaced_spelled x)))
-  node_spelled s (pointer m x) =
-      ap (join (spell.punct 42 nowhere)) (joined _ _ (chosen m (spell.word (codes "mut") s) (spell.word (codes "const") s)) (unplaced_spelled x))
-  node_spelled s (bare_fn f) = fn_spelled s f
-  node_spelled s (trait_object bs trailing) = ap (join (spell.word (codes "dyn") nowhere)) (listed_spelled 43 s _ _ trailing (bounds_spelled s bs))
-  node_spelled s (impl_trait bs trailing) = ap (join (spell.word (codes "impl") nowhere)) (listed_spelled 43 s _ _ trailing (bounds_spelled s bs))
-  node_spelled s infer = refl
-  node_spelled s never = refl
-  node_spelled s (path no_self p) = path_spelled s p
-  node_spelled s (path (some_self x n) (path_tree leading ss)) = qualified_spelled s _ _ n leading _ _ (unplaced_spelled x) (segments_spelled s ss)
-  node_spelled s (macro_type p d ts) = joined _ (join (spell.punct 33 s) (spell.grouped d ts.trees)) (plain_spelled s p) refl
-
-  types_spelled : (xs : TypeTrees) → map unplaced (spell.each_type xs) ≡ spell.each_type (unplaced_types xs)
-  types_spelled no_types = refl
-  types_spelled (type_then x xs) = ap₂ (λ a b. a ∷ b) (unplaced_spelled x) (types_spelled xs)
-
-  output_spelled : (s : Span) (a : MaybeType) → unplaced (spell.output_trees s a) ≡ spell.output_trees nowhere (unplaced_maybe_type a)
-  output_spelled s no_type = refl
-  output_spelled s (some_type x) = ap (join (spell.arrow nowhere)) (unplaced_spelled x)
-
-  bounds_spelled : (s : Span) (bs : BoundTrees) → map unplaced (spell.each_bound s bs) ≡ spell.each_bound nowhere (unplaced_bounds bs)
-  bounds_spelled s no_bounds = refl
-  bounds_spelled s (bound_then b bs) = ap₂ (λ x y. x ∷ y) (bound_spelled s b) (bounds_spelled s bs)
-
-  bound_spelled : (s : Span) (b : BoundTree) → unplaced (spell.bound_trees s b) ≡ spell.bound_trees nowhere (unplaced_bound b)
-  bound_spelled s (outlives l) = refl
-  bound_spelled s (implements b) = trait_bound_spelled s b
-
-  trait_bound_spelled : (s : Span) (b : TraitBoundTree) → unplaced (spell.trait_bound_trees s b) ≡ spell.trait_bound_trees nowhere (unplaced_trait b)
-  trait_bound_spelled s (trait_bound in_parens maybe ls p) =
-      let inside = join (spell.given maybe (spell.punct 63 s)) (join (spell.for_trees s ls) (spell.path_trees s p)) in
-      chosen in_parens (spell.grouped Paren inside) inside ∙
-      ap (λ x. cond in_parens (spell.grouped Paren x) x)
-      (joined _ _ (chosen maybe (spell.punct 63 s) no_trees) (joined _ _ (for_spelled s ls) (path_spelled s p)))
-
-  fn_spelled : (s : Span) (f : FnTree) → unplaced (spell.fn_trees s f) ≡ spell.fn_trees nowhere (unplaced_fn f)
-  fn_spelled s (fn_tree ls m abi is trailing out) =
-      joined _ _ (for_spelled s ls) (joined _ _ (chosen m (spell.word (codes "unsafe") s) no_trees) (joined _ _ (abi_spelled s abi)
-      (ap (join (spell.word (codes "fn") nowhere))
-      (inputs_and s _ _ trailing _ _ (inputs_spelled s is) (output_spelled s out)))))
-
-  inputs_spelled : (s : Span) (is : InputTrees) → map unplaced (spell.each_input s is) ≡ spell.each_input nowhere (unplaced_inputs is)
-  inputs_spelled s no_inputs = refl
-  inputs_spelled s (input_then i is) = ap₂ (λ x y. x ∷ y) (input_spelled s i) (inputs_spelled s is)
-
-  input_spelled : (s : Span) (i : InputTree) → unplaced (spell.input_trees s i) ≡ spell.input_trees nowhere (unplaced_input i)
-  input_spelled s (input attrs i x) = joined _ _ (attributes_spelled attrs) (joined _ _ (input_name_spelled s i) (unplaced_spelled x))
-
-  path_spelled : (s : Span) (p : PathTree) → unplaced (spell.path_trees s p) ≡ spell.path_trees nowhere (unplaced_path p)
-  path_spelled s (path_tree leading ss) =
-      joined _ _ (chosen leading (spell.colons s) no_trees) (parts_spelled s true _ _ (segments_spelled s ss))
-
-  segments_spelled : (s : Span) (ss : SegmentTrees) → map unplaced (spell.each_segment s ss) ≡ spell.each_segment nowhere (unplaced_segments ss)
-  segments_spelled s no_segments = refl
-  segments_spelled s (segment_then x ss) = ap₂ (λ a b. a ∷ b) (segment_spelled s x) (segments_spelled s ss)
-
-  segment_spelled : (s : Span) (x : SegmentTree) → unplaced (spell.segment_trees s x) ≡ spell.segment_trees nowhere (unplaced_segment x)
-  segment_spelled s (segment i gs) = ap (join (spell.name (unplaced_ident i))) (arguments_of_spelled s gs)
-
-  arguments_of_spelled : (s : Span) (a : ArgumentsTree) → unplaced (spell.arguments_trees s a) ≡ spell.arguments_trees nowhere (unplaced_arguments_of a)
-  arguments_of_spelled s absent = refl
-  arguments_of_spelled s (angle double gs trailing) =
-      joined _ _ (chosen double (spell.colons s) no_trees) (angles_spelled s _ _ trailing (arguments_spelled s gs))
-  arguments_of_spelled s (parens xs trailing out) = inputs_and s _ _ trailing _ _ (types_spelled xs) (output_spelled s out)
-
-  maybe_angles_spelled : (s : Span) (a : MaybeArguments) →
-      unplaced (spell.maybe_angle_trees s a) ≡ spell.maybe_angle_trees nowhere (unplaced_maybe_arguments a)
-  maybe_angles_spelled s arguments_absent = refl
-  maybe_angles_spelled s (some_arguments gs trailing) = angles_spelled s _ _ trailing (arguments_spelled s gs)
-
-  arguments_spelled : (s : Span) (gs : ArgumentTrees) → map unplaced (spell.each_argument s gs) ≡ spell.each_argument nowhere (unplaced_arguments gs)
-  arguments_spelled s no_arguments = refl
-  arguments_spelled s (argument_then g gs) = ap₂ (λ a b. a ∷ b) (argument_spelled s g) (arguments_spelled s gs)
-
-  argument_spelled : (s : Span) (g : ArgumentTree) → unplaced (spell.argument_trees s g) ≡ spell.argument_trees nowhere (unplaced_argument g)
-  argument_spelled s (lifetime_arg l) = refl
-  argument_spelled s (type_arg x) = unplaced_spelled x
-  argument_spelled s (const_arg c) = constant_spelled s c
-  argument_spelled s (assoc_type i gs x) =
-      ap (join (spell.name (unplaced_ident i))) (joined _ _ (maybe_angles_spelled s gs) (ap (join (spell.punct 61 nowhere)) (unplaced_spelled x)))
-  argument_spelled s (assoc_const i gs c) =
-      ap (join (spell.name (unplaced_ident i))) (joined _ _ (maybe_angles_spelled s gs) (ap (join (spell.punct 61 nowhere)) (constant_spelled s c)))
-  argument_spelled s (constraint i gs bs trailing) =
-      ap (join (spell.name (unplaced_ident i)))
-      (joined _ _ (maybe_angles_spelled s gs) (ap (join (spell.punct 58 nowhere)) (listed_spelled 43 s _ _ trailing (bounds_spelled s bs))))
-
 -- ---- trees again, from their tokens
 
 -- what a reader from the back has: the trees of the list that it is in, and those that follow each list around it
@@ -615,6 +420,6 @@ trees_again ts =
 pub same_bare : (x y : Trees) → tokens_of x ≡ tokens_of y → unplaced x ≡ unplaced y
 same_bare x y e = sym (trees_again x) ∙ ap (λ l. (read_back l).0) e ∙ trees_again y
 
-pub unplaced_tokens : (a b : TypeTree) → tokens_of (spell.type_trees a) ≡ tokens_of (spell.type_trees b) →
-    spell.type_trees (unplaced_type a) ≡ spell.type_trees (unplaced_type b)
-unplaced_tokens a b e = sym (unplaced_spelled a) ∙ same_bare (spell.type_trees a) (spell.type_trees b) e ∙ unplaced_spelled b
+pub unplaced_tokens : (a b : TypeTree) → tokens_of (type_trees a) ≡ tokens_of (type_trees b) →
+    type_trees (unplaced_type a) ≡ type_trees (unplaced_type b)
+unplaced_tokens a b e = sym (type-bare a) ∙ same_bare (type_trees a) (type_trees b) e ∙ type-bare b

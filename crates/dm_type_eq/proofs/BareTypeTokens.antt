@@ -38,13 +38,17 @@ unplaced-spaced between false (ts ∷ rest) = simp (unplaced-join, unplaced-spac
 
 ruleset parts = (unplaced-join, unplaced-given, unplaced-spaced)
 
+-- the tokens of each item without its ranges
+pub each-bare : {A : Type 0} (trees : A → Trees) (bare : A → A) → ((a : A) → unplaced (trees a) ≡ trees (bare a)) → (xs : List A) →
+    map unplaced (map trees xs) ≡ map trees (map bare xs)
+each-bare trees bare h [] = refl
+each-bare trees bare h (x ∷ xs) = ap₂ (λ y ys. y ∷ ys) (h x) (each-bare trees bare h xs)
+
 names-bare : (is : List Ident) → map unplaced (map name is) ≡ map name (map unplaced_ident is)
-names-bare [] = refl
-names-bare (i ∷ is) = ap (λ l. name (unplaced_ident i) ∷ l) (names-bare is)
+names-bare = each-bare name unplaced_ident (λ i. refl)
 
 pub lifetimes-bare : (ls : List Lifetime) → map unplaced (map lifetime ls) ≡ map lifetime (map unplaced_lifetime ls)
-lifetimes-bare [] = refl
-lifetimes-bare (l ∷ ls) = ap (λ x. lifetime (unplaced_lifetime l) ∷ x) (lifetimes-bare ls)
+lifetimes-bare = each-bare lifetime unplaced_lifetime (λ l. refl)
 
 -- ---- the parts that hold no types
 
