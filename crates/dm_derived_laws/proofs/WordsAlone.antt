@@ -12,9 +12,9 @@ use Rattle.dm_reread.specs.TypeLeaves.{top}
 use Rattle.dm_head_laws.specs.Parts as parts
 use Rattle.dm_head_laws.specs.Parts.{inner, Each}
 use Rattle.dm_head_laws.proofs.HeadParts.{Stands, stands_then}
-use Rattle.dm_head_laws.proofs.DeclaredParts.{flat_within}
+use Rattle.dm_head_laws.proofs.Flat.{flat_within}
+use Rattle.dm_head_laws.proofs.WordPaths.{IsBuilt, ArgumentsOf, WordsOf, plain_words, path_built}
 use Rattle.dm_derived_laws.proofs.NeededAlone.{PathAlone}
-use Rattle.dm_derived_laws.proofs.WordPaths.{IsBuilt, ArgumentsOf, WordsOf, plain_words, ending_words, path_built}
 
 -- a type that its own tokens spell between `<` and `>`
 abbrev pub InnerAlone : TypeTree → Type 0
@@ -48,6 +48,13 @@ pub words_alone : (i : Ident) (is : List Ident) → Each (λ j. IsTrue (is_path_
 words_alone i is h = path_alone (segments (i ∷ is)) (plain_words Known i is h)
 
 -- fixed words, and a last one that may have arguments
+pub ending_words : (OfType : TypeTree → Type 0) (ls : List (List ℕ)) → Each (λ l. IsTrue (is_path_word (word l))) ls → (i : Ident) →
+    IsTrue (is_path_word i) →
+    (a : ArgumentsTree) → ArgumentsOf OfType a → WordsOf OfType (segments_of (plain_segments ls ++ segment i a ∷ []))
+ending_words OfType [] h i k a g = (k, g)
+ending_words OfType (l ∷ []) h i k a g = (h.0, (k, g))
+ending_words OfType (l ∷ l' ∷ ls) h i k a g = (h.0, ending_words OfType (l' ∷ ls) h.1 i k a g)
+
 pub ending_alone : (ls : List (List ℕ)) → Each (λ l. IsTrue (is_path_word (word l))) ls → (i : Ident) → IsTrue (is_path_word i) →
     (a : ArgumentsTree) → ArgumentsAlone a →
     PathAlone (path_tree false (segments_of (plain_segments ls ++ segment i a ∷ [])))

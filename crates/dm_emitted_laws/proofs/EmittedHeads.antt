@@ -61,7 +61,8 @@ use Rattle.dm_operators.specs.Implementations.{item_with}
 use Rattle.dm_partial_eq.specs.Heads.{partial_eq_path}
 use Rattle.dm_partial_eq.specs.Emitted.{with_methods}
 use Rattle.dm_emitted_laws.specs.Parts.{OperatorNamed}
-use Rattle.dm_emitted_laws.proofs.EmittedTypes.{written_alone, written_stands, written_then, written_absent, written_name, written_ending, written_name_type, right_written}
+use Rattle.dm_head_laws.proofs.NamedTypes.{written_alone, written_stands, written_then, written_absent, written_name, written_name_type}
+use Rattle.dm_emitted_laws.proofs.EmittedTypes.{written_ending, right_written}
 
 -- ---- lists
 

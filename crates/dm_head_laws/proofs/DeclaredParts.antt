@@ -1,45 +1,39 @@
 -- What is declared is spelled alone, without its ranges: parameters, predicates, the types of fields, and the declared type with an
 -- argument for each parameter.
-use Rattle.std.proofs.Common.{◌≡◌, ℕ, zero, suc, ◌+◌, Bool, true, false, ◌||◌, cond, nat_lt, List, [], ◌∷◌, ◌++◌, map, filter, slice_get, codes, Option, Some, None, IsTrue, refl, sym, ap, ◌∙◌, subst, append-nil, arith}
-use Rattle.std.proofs.lemmas.Bool.{or_left}
+use Rattle.std.proofs.Common.{◌≡◌, ℕ, zero, suc, ◌+◌, Bool, true, false, cond, List, [], ◌∷◌, ◌++◌, map, filter, slice_get, codes, Option, Some, None, IsTrue, refl, sym, ap, ◌∙◌, subst, append-nil, arith}
 use Rattle.dm_stream.specs.declared.tokens.Span.{Span}
 use Rattle.dm_stream.specs.declared.tokens.Delim.{Delim}
 use Rattle.dm_stream.specs.declared.tokens.Ident.{Ident}
 use Rattle.dm_stream.specs.declared.tokens.Lifetime.{Lifetime}
-use Rattle.dm_stream.specs.declared.tokens.Punct.{Punct}
-use Rattle.dm_stream.specs.declared.tokens.Spacing.TheVariants.{Alone}
-use Rattle.dm_stream.specs.declared.tokens.Token.TheVariants as t
-use Rattle.dm_stream.specs.Layout.{nowhere}
-use Rattle.dm_stream.specs.Trees.{Trees, no_trees, token, join, join-no_trees, join_assoc}
+use Rattle.dm_stream.specs.Trees.{Trees, no_trees, join, join-no_trees}
 use Rattle.dm_ast.specs.declared.plain.Attribute.{Attribute}
 use Rattle.dm_ast.specs.Keywords.{is_name}
-use Rattle.dm_ast.specs.Tree.{Lifetimes, TypeTree, type_tree, path, PathTree, path_tree, no_self, segment_then, segment, no_segments, ArgumentsTree, absent, ArgumentTree, type_arg, ArgumentTrees, BoundTree, arguments_of}
+use Rattle.dm_ast.specs.Tree.{Lifetimes, TypeTree, BoundTree}
 use Rattle.dm_ast.specs.Declarations.{Listed, FieldTree, FieldsTree, named, unnamed, unit, VariantTree, ShapeTree, struct_shape, enum_shape, union_shape, ParamTree, lifetime_param, type_param, const_param, PredicateTree, GenericsTree, Declaration}
-use Rattle.dm_ast.specs.Spelling.{Where, deeper, Marks, Spelling, deepest, first_too_deep, last_end, range_of, at_end, sees, sees_colon, sees_equals, sees_colons, Nothing, ◌then◌, Provided, Before, RangedAt, punct, lifetime, keyword, colon, GroupAt, perhaps, items_left, items}
-use Rattle.dm_ast.specs.TypeGrammar as grammar
-use Rattle.dm_ast.specs.TypeGrammar.{name, behind_idents, is_call, sees_arguments, type_spelled}
+use Rattle.dm_ast.specs.Spelling.{Where, deeper, Marks, Spelling, first_too_deep, at_end, sees, sees_colon, sees_equals, Nothing, ◌then◌, Provided, Before, RangedAt, lifetime, keyword, colon, GroupAt, perhaps, items_left, items}
+use Rattle.dm_ast.specs.TypeGrammar.{name, type_spelled}
 use Rattle.dm_ast.specs.DeclarationGrammar.{lifetime_bounds, bound_list, param, generics, predicate, ends_where, where_clause, named_field, slot, braced, slots, variant_fields, variant, variants, struct_body, shape, declaration}
 use Rattle.dm_ast.specs.Runs.{run}
 use Rattle.dm_ast.specs.Parsed.{SpelledBy}
 use Rattle.dm_ast.specs.TypeTokens as spell
-use Rattle.dm_ast.specs.Implementors.{is_lifetime, is_other, bare, params_of, predicates_in, predicates_of, argument, arguments, implementor}
+use Rattle.dm_ast.specs.Implementors.{is_lifetime, is_other, bare, params_of, predicates_in, predicates_of, implementor}
 use Rattle.dm_output.specs.Values.{Case, case_of_variant, cases, cases_of_shape, field_list}
 use Rattle.dm_output.specs.Tokens.{param_trees, predicate_trees}
 use Rattle.dm_read.proofs.Deciding.{deep_behind}
 use Rattle.dm_type_eq.proofs.Cutting.{Cut, cut_end}
-use Rattle.dm_type_eq.proofs.Respelling.{Lower, Again, RespellsIf, Respells, Left, respells_then, respells_name, respells_lifetime, respells_word, respells_colon, lowered_within}
-use Rattle.dm_type_eq.specs.Unplaced.{unplaced_argument, unplaced_arguments, unplaced_arguments_of, unplaced_ident, unplaced_lifetime, unplaced_type}
+use Rattle.dm_type_eq.proofs.Respelling.{Lower, Again, RespellsIf, Respells, respells_then, respells_name, respells_lifetime, respells_word, respells_colon, lowered_within}
+use Rattle.dm_type_eq.specs.Unplaced.{unplaced_type}
 use Rattle.dm_reread.specs.Bare.{bare_param, bare_predicate}
 use Rattle.dm_reread.specs.Grammar.{IsName}
 use Rattle.dm_reread.specs.HeadLeaves.{are_plain}
 use Rattle.dm_reread.specs.TypeLeaves.{top, IsType}
 use Rattle.dm_reread.proofs.HeadLeaf.{first_within, rest_within}
-use Rattle.dm_reread.proofs.TypeLeafCalls.{no_call}
 use Rattle.dm_reread.proofs.TypeLeafUnplaced.{read_is_type}
 use Rattle.dm_read_laws.proofs.HeadAgain.{again_bare, maybe_lifetimes, maybe_list, predicate_again}
 use Rattle.dm_head_laws.specs.Parts as parts
 use Rattle.dm_head_laws.specs.Parts.{inner, ParamAlone, PredicateAlone, TypeAlone, Each}
 use Rattle.dm_head_laws.proofs.HeadParts.{each_by}
+use Rattle.dm_head_laws.proofs.NamedTypes.{written_alone, HasName, named_written}
 
 -- ---- what stands in front of trees
 
@@ -403,200 +397,12 @@ KnownField f = Known f.ty
 abbrev KnownCase : Case → Type 0
 KnownCase c = Each KnownField (field_list c.fields)
 
--- ---- what is written at no place of a text
-
--- levels that are not too deep, each at the range 0..0
-abbrev pub Flat : Marks → Type 0
-Flat [] = Unit {0}
-Flat (k ∷ ks) = (nat_lt deepest k.0 ≡ false) × (k.1 ≡ nowhere) × Flat ks
-
-pub flat_both : (m k : Marks) → Flat m → Flat k → Flat (m ++ k)
-flat_both [] k f g = g
-flat_both (x ∷ m) k f g = (f.0, f.1, flat_both m k f.2 g)
-
-pub flat_within : (m : Marks) → Flat m → first_too_deep m ≡ None
-flat_within [] f = refl
-flat_within (x ∷ m) f = ap (λ b. cond b (Some x.1) (first_too_deep m)) f.0 ∙ flat_within m f.2
-
-pub flat_last : (m : Marks) → Flat m → last_end 0 m ≡ 0
-flat_last [] f = refl
-flat_last (x ∷ m) f = ap (λ s. last_end s.«end» m) f.1 ∙ flat_last m f.2
-
-pub flat_range : (m : Marks) → Flat m → nowhere ≡ range_of m
-flat_range [] f = refl
-flat_range (x ∷ m) f =
-    ap (λ n. record { start = 0; «end» = n }) (sym (flat_last m f.2)) ∙
-    ap (λ s. record { start = s.start; «end» = last_end s.«end» m }) (sym f.1)
-
--- these tokens spell it before such others
-record Written (S : Spelling) (own o : Trees) : Type 0 where
-  marks : Marks
-  spelled : S (join own o) o marks
-  flat : Flat marks
-
-written_then : {A B : Spelling} {a b o : Trees} → Written A a (join b o) → Written B b o → Written (A then B) (join a b) o
-written_then {A} {B} {a} {b} {o} x y = record {
-  marks = x.marks ++ y.marks;
-  spelled = record {
-    middle = join b o;
-    first_marks = x.marks;
-    rest_marks = y.marks;
-    first = subst (λ z. A z (join b o) x.marks) (sym (join_assoc a b o)) x.spelled;
-    rest = y.spelled;
-    marks = refl;
-  };
-  flat = flat_both x.marks y.marks x.flat y.flat;
-}
-
-written_as : {S : Spelling} {a b o : Trees} → a ≡ b → Written S a o → Written S b o
-written_as {S} {a} {b} {o} e x = subst (λ z. Written S z o) e x
-
-written_absent : (test : Trees → Bool) (o : Trees) → test o ≡ false → Written (Absent test) no_trees o
-written_absent test o h = record { marks = []; spelled = record { part = record { spelled = refl; marks = refl }; fact = h }; flat = tt }
-
--- a punct that is joint to nothing
-abbrev lone : ℕ → Punct
-lone c = record { ch = c; spacing = Alone; span = nowhere }
-
-module _ (w : Where) (h : nat_lt deepest w.level ≡ false) where
-  written_punct : (c : ℕ) (o : Trees) → Written (punct w c) (spell.punct c nowhere) o
-  written_punct c o = record {
-    marks = (w.level, nowhere) ∷ [];
-    spelled = record { punct = lone c; is = refl; there = record { spelled = refl; marks = refl } };
-    flat = (h, refl, tt);
-  }
-
-  written_lifetime : (l : Lifetime) (o : Trees) → Written (lifetime w (unplaced_lifetime l)) (spell.lifetime (unplaced_lifetime l)) o
-  written_lifetime l o = record { marks = (w.level, nowhere) ∷ []; spelled = record { spelled = refl; marks = refl }; flat = (h, refl, tt) }
-
-  written_word : (i : Ident) → IsTrue (is_name i) → (o : Trees) → Written (grammar.word w (unplaced_ident i)) (spell.name (unplaced_ident i)) o
-  written_word i n o = record {
-    marks = (w.level, nowhere) ∷ [];
-    spelled = record { fact = or_left (is_name i) _ n; part = record { spelled = refl; marks = refl } };
-    flat = (h, refl, tt);
-  }
-
--- a type of one name, with arguments
-abbrev type_of : Ident → ArgumentsTree → TypeTree
-type_of i gs = type_tree (path no_self (path_tree false (segment_then (segment i gs) no_segments))) nowhere
-
-module _ (w : Where) (h : nat_lt deepest w.level ≡ false) (i : Ident) (n : IsTrue (is_name i)) (gs : ArgumentsTree) (o : Trees) where
-  -- the name, and its arguments
-  abbrev behind_name : Trees
-  behind_name = join (spell.arguments_trees nowhere gs) no_trees
-
-  written_type : Written (grammar.arguments_of_segment gs w) (spell.arguments_trees nowhere gs) o → sees_colons o ≡ false →
-      is_call (Some (behind_idents (join behind_name o))) ≡ false →
-      Written (type_spelled (type_of (unplaced_ident i) gs) false w) (spell.type_trees (type_of (unplaced_ident i) gs)) o
-  written_type x c k =
-      let q : PathTree = path_tree false (segment_then (segment (unplaced_ident i) gs) no_segments) in
-      let p : Written (grammar.path_spelled q w) (spell.path_trees nowhere q) o =
-      written_then (written_absent sees_colons (token (t.Ident (unplaced_ident i)) (join behind_name o)) refl)
-      (written_then (written_then (written_word w h i n (join (spell.arguments_trees nowhere gs) o)) x) (written_absent sees_colons o c)) in
-      record {
-        marks = p.marks;
-        spelled = record { part = record { fact = k; part = p.spelled }; is_range = flat_range p.marks p.flat };
-        flat = p.flat;
-      }
-
 -- ---- the declared type
-
--- the name of a parameter that isn't a lifetime
-abbrev HasName : ParamTree → Type 0
-HasName (lifetime_param as' l bs) = Unit {0}
-HasName (type_param as' i bs d) = IsTrue (is_name i)
-HasName (const_param as' i x d) = IsTrue (is_name i)
 
 param_named : (p : ParamTree) (w : Where) (ts : Trees) → From (param p w) ts → HasName (bare p)
 param_named (lifetime_param as' l bs) w ts s = tt
 param_named (type_param as' i bs d) w ts s = (rest_from s).spelled.first.fact
 param_named (const_param as' i x d) w ts s = (rest_from (rest_from s)).spelled.first.fact
-
--- what stands behind an argument
-record After (o : Trees) : Type 0 where
-  colons : sees_colons o ≡ false
-  call : is_call (Some (behind_idents o)) ≡ false
-  more : sees_arguments o ≡ false
-  binding : (sees_equals o || sees_colon o) ≡ false
-
-abbrev punct_before : ℕ → Trees → Trees
-punct_before c o = join (spell.punct c nowhere) o
-
-after_comma : (o : Trees) → After (punct_before 44 o)
-after_comma o = record { colons = refl; call = no_call (lone 44) o refl refl; more = refl; binding = refl }
-
-after_end : (o : Trees) → After (punct_before 62 o)
-after_end o = record { colons = refl; call = no_call (lone 62) o refl refl; more = refl; binding = refl }
-
-abbrev bare_argument_of : ParamTree → ArgumentTree
-bare_argument_of p = unplaced_argument (argument p)
-
-abbrev all_bare : List ParamTree → ArgumentTrees
-all_bare ps = unplaced_arguments (arguments_of (map argument ps))
-
-named_argument : (i : Ident) → IsTrue (is_name i) → (o : Trees) → After o →
-    Written (grammar.argument (type_arg (type_of (unplaced_ident i) absent)) inner) (spell.type_trees (type_of (unplaced_ident i) absent)) o
-named_argument i n o a =
-    let x = written_type inner refl i n absent o (written_absent sees_arguments o a.more) a.colons a.call in
-    record { marks = x.marks; spelled = record { part = x.spelled; fact = a.binding }; flat = x.flat }
-
-one_argument : (p : ParamTree) → HasName p → (o : Trees) → After o →
-    Written (grammar.argument (bare_argument_of p) inner) (spell.argument_trees nowhere (bare_argument_of p)) o
-one_argument (lifetime_param as' l bs) n o a = written_lifetime inner refl l o
-one_argument (type_param as' i bs d) n o a = named_argument i n o a
-one_argument (const_param as' i x d) n o a = named_argument i n o a
-
-abbrev each_tree : List ParamTree → List Trees
-each_tree ps = spell.each_argument nowhere (all_bare ps)
-
-after_argument : (ps : List ParamTree) (o : Trees) → After (join (Left 44 (each_tree ps) false) (punct_before 62 o))
-after_argument [] o = after_end o
-after_argument (p ∷ ps) o = after_comma _
-
-module _ (o : Trees) where
-  arguments_behind : (ps : List ParamTree) → Each HasName ps →
-      Written (grammar.arguments_left (all_bare ps) false inner) (Left 44 (each_tree ps) false) (punct_before 62 o)
-  arguments_behind [] e = written_absent (sees 44) (punct_before 62 o) refl
-  arguments_behind (p ∷ ps) e =
-      let x : Trees = spell.argument_trees nowhere (bare_argument_of p) in
-      let f : join x (Left 44 (each_tree ps) false) ≡ join (join x (spell.spaced (spell.punct 44 nowhere) false (each_tree ps))) no_trees =
-      sym (join_assoc x (spell.spaced (spell.punct 44 nowhere) false (each_tree ps)) no_trees) in
-      written_as (ap (λ z. punct_before 44 z) f)
-      (written_then (written_punct inner refl 44 (join (join x (Left 44 (each_tree ps) false)) (punct_before 62 o)))
-      (written_then (one_argument p e.0 _ (after_argument ps o)) (arguments_behind ps e.1)))
-
-  all_arguments : (p : ParamTree) (ps : List ParamTree) → Each HasName (p ∷ ps) →
-      Written (grammar.arguments (all_bare (p ∷ ps)) false inner) (spell.listed 44 nowhere (each_tree (p ∷ ps)) false) (punct_before 62 o)
-  all_arguments p ps e =
-      let x : Trees = spell.argument_trees nowhere (bare_argument_of p) in
-      written_as (sym (join_assoc x (spell.spaced (spell.punct 44 nowhere) false (each_tree ps)) no_trees))
-      (written_then (one_argument p e.0 _ (after_argument ps o)) (arguments_behind ps e.1))
-
--- `<` and `>` around the arguments, where there are any
-abbrev given_trees : List ParamTree → Trees
-given_trees ps = spell.arguments_trees nowhere (unplaced_arguments_of (arguments ps))
-
-given_arguments : (ps : List ParamTree) → Each HasName ps →
-    Written (grammar.arguments_of_segment (unplaced_arguments_of (arguments ps)) top) (given_trees ps) no_trees
-given_arguments [] e = written_absent sees_arguments no_trees refl
-given_arguments (p ∷ ps) e =
-    written_then (written_absent sees_colons _ refl)
-    (written_then (written_punct top refl 60 _) (written_then (all_arguments no_trees p ps e) (written_punct top refl 62 no_trees)))
-
-no_call_behind : (ps : List ParamTree) → is_call (Some (behind_idents (join (join (given_trees ps) no_trees) no_trees))) ≡ false
-no_call_behind [] = refl
-no_call_behind (p ∷ ps) = no_call (lone 60) _ refl refl
-
-named_alone : (i : Ident) → IsTrue (is_name i) → (ps : List ParamTree) → Each HasName ps → TypeAlone (unplaced_type (type_of i (arguments ps)))
-named_alone i n ps e =
-    let gs : ArgumentsTree = unplaced_arguments_of (arguments ps) in
-    let y : TypeTree = type_of (unplaced_ident i) gs in
-    let x = written_type top refl i n gs no_trees (given_arguments ps e) refl (no_call_behind ps) in
-    record {
-      marks = x.marks;
-      spelled = subst (λ z. type_spelled y false top z no_trees x.marks) (join-no_trees (spell.type_trees y)) x.spelled;
-      within = flat_within x.marks x.flat;
-    }
 
 -- ---- all of it
 
@@ -636,7 +442,13 @@ module _ (d : Declaration) (limit : ℕ) (ts : Trees) (m : Marks) (s : SpelledBy
       IsType (unplaced_type f.ty) × TypeAlone (unplaced_type f.ty)
   declared_types n k c f g h = each_get KnownField (field_list c.fields) k f (each_get KnownCase (cases d) n c declared_cases g) h
 
+  -- its name, and those of its parameters
+  pub declared_names : IsTrue (is_name d.ident) × Each HasName (params_of d)
+  declared_names =
+      let n = name_stands d.ident d.generics place d.shape there.front there.there in
+      (n.there.spelled.fact, each_of_params HasName (λ p us x. param_named p (deeper place) us x))
+
   pub implementor_alone : TypeAlone (unplaced_type (implementor d))
   implementor_alone =
-      let n = name_stands d.ident d.generics place d.shape there.front there.there in
-      named_alone d.ident n.there.spelled.fact (params_of d) (each_of_params HasName (λ p us x. param_named p (deeper place) us x))
+      written_alone (type_spelled (unplaced_type (implementor d)) false) top (spell.type_trees (unplaced_type (implementor d)))
+      (named_written top refl refl refl d.ident declared_names.0 (params_of d) declared_names.1)

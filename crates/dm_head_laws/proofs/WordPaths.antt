@@ -1,6 +1,6 @@
 -- Paths of words, of which the last one may have lifetimes, types and `NAME = TYPE` between `<` and `>`: their own tokens spell them, in
 -- whatever sense holds of tokens without ranges and of parts one behind the other.
-use Rattle.std.proofs.Common.{◌≡◌, ℕ, Bool, true, false, ◌||◌, nat_lt, List, [], ◌∷◌, ◌++◌, IsTrue, refl, sym, ap, ◌∙◌, subst}
+use Rattle.std.proofs.Common.{◌≡◌, ℕ, Bool, true, false, ◌||◌, nat_lt, List, [], ◌∷◌, IsTrue, refl, sym, ap, ◌∙◌, subst}
 use Rattle.std.specs.Prelude.{⊤}
 use Rattle.dm_stream.specs.declared.tokens.Ident.{Ident}
 use Rattle.dm_stream.specs.declared.tokens.Lifetime.{Lifetime}
@@ -10,19 +10,18 @@ use Rattle.dm_stream.specs.declared.tokens.Token.TheVariants as t
 use Rattle.dm_stream.specs.Layout.{nowhere}
 use Rattle.dm_stream.specs.Trees.{Trees, no_trees, token, join, join-no_trees, join_assoc}
 use Rattle.dm_ast.specs.Keywords.{is_name}
-use Rattle.dm_ast.specs.Tree.{TypeTree, path_tree, SegmentTrees, segments_of, segment, no_segments, segment_then, ArgumentsTree, absent, angle, ArgumentTree, lifetime_arg, type_arg, assoc_type, ArgumentTrees, no_arguments, argument_then, arguments_absent}
+use Rattle.dm_ast.specs.Tree.{TypeTree, path_tree, SegmentTrees, segment, no_segments, segment_then, ArgumentsTree, absent, angle, ArgumentTree, lifetime_arg, type_arg, assoc_type, ArgumentTrees, no_arguments, argument_then, arguments_absent}
 use Rattle.dm_ast.specs.Spelling.{Where, deeper, Marks, Spelling, deepest, sees, sees_colon, sees_equals, sees_colons, Nothing, ◌then◌, Before, punct, lifetime, colons, equals}
 use Rattle.dm_ast.specs.TypeGrammar as grammar
 use Rattle.dm_ast.specs.TypeGrammar.{name, is_path_word, sees_arguments, type_spelled, path_spelled, arguments_of_segment, argument, arguments_left}
 use Rattle.dm_ast.specs.TypeTokens as spell
 use Rattle.dm_ast.specs.Implementors.{segments}
-use Rattle.dm_generics.specs.Words.{word, plain_segments}
 use Rattle.dm_type_eq.specs.Unplaced.{unplaced_argument, unplaced_arguments, unplaced_arguments_of, unplaced_ident, unplaced_lifetime, unplaced_path, unplaced_segments, unplaced_type}
 use Rattle.dm_reread.proofs.TypeLeafEnds.{Stop, stop_punct}
 use Rattle.dm_reread.proofs.TypeLeafCalls.{calm_end}
 use Rattle.dm_reread.proofs.TypeLeafTypes.{ext_type}
 use Rattle.dm_head_laws.specs.Parts.{Each}
-use Rattle.dm_head_laws.proofs.DeclaredParts.{Flat}
+use Rattle.dm_head_laws.proofs.Flat.{Flat}
 
 -- a place that isn't too deep
 abbrev pub Shallow : Where → Type 0
@@ -128,13 +127,6 @@ module _ (OfType : TypeTree → Type 0) where
   pub plain_words : (i : Ident) (is : List Ident) → Each (λ j. IsTrue (is_path_word j)) (i ∷ is) → WordsOf (segments (i ∷ is))
   plain_words i [] h = (h.0, tt)
   plain_words i (j ∷ is) h = (h.0, plain_words j is h.1)
-
-  -- fixed words, and a last one that may have arguments
-  pub ending_words : (ls : List (List ℕ)) → Each (λ l. IsTrue (is_path_word (word l))) ls → (i : Ident) → IsTrue (is_path_word i) →
-      (a : ArgumentsTree) → ArgumentsOf a → WordsOf (segments_of (plain_segments ls ++ segment i a ∷ []))
-  ending_words [] h i k a g = (k, g)
-  ending_words (l ∷ []) h i k a g = (h.0, (k, g))
-  ending_words (l ∷ l' ∷ ls) h i k a g = (h.0, ending_words (l' ∷ ls) h.1 i k a g)
 
 -- what stands between `<` and `>`
 abbrev left_trees : ArgumentTrees → Trees
