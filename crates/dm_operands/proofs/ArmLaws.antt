@@ -14,6 +14,7 @@ use Rattle.dm_operands.specs.Marked.{MarkedField, MarkedCase, form_of, mark_case
 use Rattle.dm_operands.specs.Bodies.{name, otherwise}
 use Rattle.dm_operands.specs.Sides.{case_path, side, PairArms, pair_arm, pair_arms}
 use Rattle.dm_operands.specs.Named.{AreNamed}
+use Rattle.dm_operands.proofs.FromLaws.{AreFrom, from-start, from-first, from-rest}
 use Rattle.dm_operands.proofs.NameLaws.{Differ, Apart, path-found}
 use Rattle.dm_operands.proofs.BindingLaws.{Names, bound_side, Knows, knows, knows-behind, looked_at, AreNamedIn, fits-side, misses-side, fields-kept, looked-in, named-in, eqb-same}
 
@@ -57,19 +58,6 @@ pub arms-mapped : {A B : Type 0} (f : A → B) (has : B → Bool) (arm : B → A
     arms_where has arm (map f cs) more ≡ arms_where (λ c. has (f c)) (λ c. arm (f c)) cs more
 arms-mapped f has arm [] more = refl
 arms-mapped f has arm (c ∷ cs) more = ap (λ rest. cond (has (f c)) (arm (f c) ∷ rest) rest) (arms-mapped f has arm cs more)
-
--- the cases from n on
-abbrev AreFrom : List Case → ℕ → List Case → Type 0
-AreFrom all n cs = (k : ℕ) → slice_get all (n + k) ≡ slice_get cs k
-
-from-first : (all : List Case) (n : ℕ) (c : Case) (cs : List Case) → AreFrom all n (c ∷ cs) → slice_get all n ≡ Some c
-from-first all n c cs from = ap (slice_get all) (omega arith) ∙ from zero
-
-from-rest : (all : List Case) (n : ℕ) (c : Case) (cs : List Case) → AreFrom all n (c ∷ cs) → AreFrom all (n + 1) cs
-from-rest all n c cs from = λ k. ap (slice_get all) (omega arith) ∙ from (suc k)
-
-from-start : (all : List Case) → AreFrom all 0 all
-from-start all = λ k. ap (slice_get all) (omega arith)
 
 -- each of the cases but that of the number k has an arm that changes nothing
 abbrev pub PassesOthers : Setting → Thing → Env → State → (Case → ArmTree) → ℕ → Type 0

@@ -15,6 +15,7 @@ use Rattle.dm_generics.specs.Words.{word}
 use Rattle.dm_operands.specs.Marked.{MarkedField, form_of, mark_field, mark_case}
 use Rattle.dm_operands.specs.Sides.{binding, bindings, named_bindings, field_ident, some_left_out, side_pattern}
 use Rattle.dm_operands.specs.Named.{AreFieldsNamed}
+use Rattle.dm_operands.proofs.FromLaws.{from-start}
 use Rattle.dm_operands.proofs.NameLaws.{Differ, Apart, bytes_same, AreFound, are-found}
 
 -- ---- names for the fields from number n on
@@ -126,7 +127,7 @@ fits-brace : (d : Declaration) (naming : ℕ → Text) (s : Side) (p : PathTree)
     fits d (side_pattern naming p forms.Named fs) (value (of_side s) n xs) (plain env) ≡ Some (plain (bound_side naming s 0 fs env))
 fits-brace d naming s p fs n xs env at has names =
     let all = unmarked fs in
-    let whole = fits-named-bindings d naming s xs all 0 fs env (are-found all 0 all names (λ k. ap (slice_get all) (omega arith))) in
+    let whole = fits-named-bindings d naming s xs all 0 fs env (are-found all 0 all names (from-start all)) in
     rw (at, eqb-same n, has)
     ((elim (some_left_out fs) as (λ b. some_left_out fs ≡ b →
     option_and_then (λ gs. fits_named d (named_of (named_bindings naming 0 fs)) gs (of_side s) xs (plain env))

@@ -1,3 +1,4 @@
+pub mod FromLaws
 pub mod NameLaws
 pub mod BindingLaws
 pub mod ArmLaws

@@ -13,6 +13,7 @@ use Rattle.dm_generics.specs.Numerals.{numeral}
 use Rattle.dm_operands.specs.Numbered.{self_name, other_name}
 use Rattle.dm_generics.proofs.NumeralLaws.{numeral_injective}
 use Rattle.dm_operands.specs.Named.{AreDistinct, HasName, case_name, field_name, AreFieldsNamed, AreNamed}
+use Rattle.dm_operands.proofs.FromLaws.{AreFrom, from-first, from-rest}
 
 pub bytes_same : (xs : Text) → bytes_eq xs xs ≡ true
 bytes_same xs = (bytes_eq-Decides xs xs).1 refl
@@ -37,11 +38,14 @@ Apart first second = (i j : ℕ) → bytes_eq (first i) (second j) ≡ false
 pub self-other : Apart self_name other_name
 self-other i j = refl
 
+pub numerals-differ : Differ numeral
+numerals-differ i j ne = bytes_differ (numeral i) (numeral j) (λ e. ne (numeral_injective i j e))
+
 pub self-self : Differ self_name
-self-self i j ne = bytes_differ (numeral i) (numeral j) (λ e. ne (numeral_injective i j e))
+self-self = numerals-differ
 
 pub other-other : Differ other_name
-other-other i j ne = bytes_differ (numeral i) (numeral j) (λ e. ne (numeral_injective i j e))
+other-other = numerals-differ
 
 -- ---- distinct names
 
@@ -106,11 +110,10 @@ abbrev pub AreFound : List FieldTree → ℕ → List FieldTree → Type 0
 AreFound all n [] = Unit {0}
 AreFound all n (f ∷ fs) = (field_named all 0 (field_name f) ≡ Some n) × AreFound all (n + 1) fs
 
-pub are-found : (all : List FieldTree) (n : ℕ) (fs : List FieldTree) → AreFieldsNamed all →
-    ((k : ℕ) → slice_get all (n + k) ≡ slice_get fs k) → AreFound all n fs
-are-found all n [] names at = tt
-are-found all n (f ∷ fs) names at =
-    let here : slice_get all n ≡ Some f = ap (slice_get all) (omega arith) ∙ at zero in (
+pub are-found : (all : List FieldTree) (n : ℕ) (fs : List FieldTree) → AreFieldsNamed all → AreFrom all n fs → AreFound all n fs
+are-found all n [] names from = tt
+are-found all n (f ∷ fs) names from =
+    let here = from-first all n f fs from in (
       field-found all 0 n f (names.named n f here) names.distinct here ∙ ap Some (omega arith),
-      are-found all (n + 1) fs names (λ k. ap (slice_get all) (omega arith) ∙ at (suc k)),
+      are-found all (n + 1) fs names (from-rest all n f fs from),
     )

@@ -11,6 +11,7 @@ use Rattle.dm_output.specs.Run.{run, run_arms, run_body, answered, with_receiver
 use Rattle.dm_operands.specs.Marked.{MarkedField, MarkedCase, mark_field, mark_case}
 use Rattle.dm_operands.specs.Numbered.{self_name}
 use Rattle.dm_operands.specs.Named.{AreNamed}
+use Rattle.dm_operands.proofs.FromLaws.{AreFrom, from-start, from-first, from-rest}
 use Rattle.dm_operands.proofs.NameLaws.{self-self}
 use Rattle.dm_operands.proofs.BindingLaws.{Names, bound_side, Knows, knows, bound-miss, eqb-same, fields-marked}
 use Rattle.dm_operands.proofs.ArmLaws.{two_values, both_sides, both-known}
@@ -22,7 +23,7 @@ use Rattle.dm_operators.specs.Bodies.{right_name, arm, binary_given, answer_give
 use Rattle.dm_operators.specs.Heads.{method_param}
 use Rattle.dm_operators.specs.Implementations.{method_in}
 use Rattle.dm_operators.proofs.TableLaws.{known-assigning}
-use Rattle.dm_operators.proofs.OperandLaws.{self-right, right-right, AreAt, first-at, rest-at, all-at, keeps_all, place-term, term-kept}
+use Rattle.dm_operators.proofs.OperandLaws.{self-right, right-right, keeps_all, place-term, term-kept}
 use Rattle.dm_operators.proofs.BinaryArms.{left_in, AreOpen, operands, same-case, other-case, any-case}
 use Rattle.dm_operators.proofs.BinaryLaws.{start, value-case}
 use Rattle.dm_operators.proofs.MethodForms.{method_by, method-by}
@@ -33,12 +34,12 @@ use Rattle.dm_operators.proofs.AssigningLaws.{Assigns, AreRight, calls-run}
 -- the right side's fields, where those that are kept are bound
 right-fields : (s : Setting) (env : Names) (o : Operator) (n : ℕ) (fs : List FieldTree) (ys : List Thing) →
     Knows right_name theirs env n (map (mark_field (skips o)) fs) →
-    AreAt s.right n ys → length ys ≡ length fs → AreRight s (plain env) o structural n fs ys
+    AreFrom s.right n ys → length ys ≡ length fs → AreRight s (plain env) o structural n fs ys
 right-fields s env o n [] ys known at len = tt
 right-fields s env o n (f ∷ fs) [] known at len = absurd (omega arith)
 right-fields s env o n (f ∷ fs) (y ∷ ys) known at len = (
-  λ kept st. let here = known.0 kept in (place theirs n, rw here refl, place-term s st theirs n y (first-at s.right n y ys at)),
-  right-fields s env o (n + 1) fs ys known.1 (rest-at s.right n y ys at) (omega arith),
+  λ kept st. let here = known.0 kept in (place theirs n, rw here refl, place-term s st theirs n y (from-first s.right n y ys at)),
+  right-fields s env o (n + 1) fs ys known.1 (from-rest s.right n y ys at) (omega arith),
 )
 
 -- the right side itself
@@ -107,7 +108,7 @@ module _ (s : Setting) (o : Operator) (is : IsAssigning s o) where
       ap (λ b. run_body s b (plain env) (start x)) (block-given structural (mark_case (skips o) u)) ∙
       block-run structural x u env y.fields at lx mine_known
       (right-fields s env o 0 (field_list u.fields) y.fields right_known
-      (λ k. ap (λ (zs : List Thing). slice_get zs (0 + k)) right ∙ all-at y.fields k) ly)
+      (λ k. ap (λ (zs : List Thing). slice_get zs (0 + k)) right ∙ from-start y.fields k) ly)
 
   -- two values of different cases
   pub other-after : (x y : Value) (u w : Case) → slice_get (cases s.decl) x.variant ≡ Some u →

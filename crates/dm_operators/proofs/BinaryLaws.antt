@@ -13,6 +13,7 @@ use Rattle.dm_operands.specs.Marked.{MarkedField, MarkedCase, form_of, mark_fiel
 use Rattle.dm_operands.specs.Numbered.{self_name}
 use Rattle.dm_operands.specs.Sides.{case_path}
 use Rattle.dm_operands.specs.Named.{AreNamed}
+use Rattle.dm_operands.proofs.FromLaws.{from-start}
 use Rattle.dm_operands.proofs.NameLaws.{self-self, path-found}
 use Rattle.dm_operands.proofs.BindingLaws.{Names, bound_side, Knows, knows, bound-miss, fields-marked, fields-kept}
 use Rattle.dm_operands.proofs.ArmLaws.{two_values, both_sides, both-known}
@@ -24,7 +25,7 @@ use Rattle.dm_operators.specs.Bodies as bodies
 use Rattle.dm_operators.specs.Bodies.{quoted, in_ok, right_name, binary_part, arm, binary_given, value_given, answer_given, is_unit_form, binary_body}
 use Rattle.dm_operators.proofs.TableLaws.{means-method, known-value}
 use Rattle.dm_operators.proofs.ConstructorLaws.{ArePartsOf, leads, constructor-run}
-use Rattle.dm_operators.proofs.OperandLaws.{self-right, right-right, AreStanding, all-at, keeps_all, places-stand, right-stands, GivesValue, binary-parts}
+use Rattle.dm_operators.proofs.OperandLaws.{self-right, right-right, AreStanding, keeps_all, places-stand, right-stands, GivesValue, binary-parts}
 use Rattle.dm_operators.proofs.BinaryArms.{left_in, AreOpen, operands, same-case, other-case, any-case}
 
 -- ---- errors, and `Ok`
@@ -84,7 +85,7 @@ module _ (s : Setting) (o : Operator) (is : IsGiving s o) where
   value-run form x u env ys at full lx ly known right =
       let kept = is.open_cases x.variant u at in
       let gives : GivesValue s o = record { foreign = is.named.foreign; unlisted = known-value o is.operator is.value } in
-      let left = places-stand s env (start x) mine self_name 0 (field_list u.fields) x.fields known (all-at x.fields) lx in
+      let left = places-stand s env (start x) mine self_name 0 (field_list u.fields) x.fields known (from-start x.fields) lx in
       constructor-run s (plain env) (start x) (binary_part form o) (case_path s.decl u.ident) x.variant
       (leads s.decl (case_path s.decl u.ident) x.variant (path-found s.decl x.variant u is.named at)) u (mark_case (skips o) u).fields _
       (record { at = at; are = fields-kept (skips o) u kept; names = λ gs e. is.named.fields x.variant u gs at e }) full
@@ -142,7 +143,7 @@ module _ (s : Setting) (o : Operator) (is : IsGiving s o) where
       let right_known : Knows right_name theirs env 0 (map (mark_field keeps_all) (field_list u.fields)) =
       subst (λ fs. Knows right_name theirs (all fs) 0 (map (mark_field keeps_all) (field_list u.fields))) (sym fields_are) known.1 in
       let right_stands = places-stand s env (start x) theirs right_name 0 (field_list u.fields) y.fields right_known
-      (λ k. ap (λ ys. slice_get ys (0 + k)) right ∙ all-at y.fields k) ly in
+      (λ k. ap (λ ys. slice_get ys (0 + k)) right ∙ from-start y.fields k) ly in
       same-case s o is.named is.open_cases x y u (start x) at same ∙
       ap (λ b. run_body s b (plain env) (start x)) (value-given structural (mark_case (skips o) u)) ∙
       answer-run x u env y.fields at (λ full. value-run structural x u env y.fields at full lx ly mine_known right_stands)

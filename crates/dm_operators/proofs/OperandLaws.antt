@@ -1,16 +1,15 @@
 -- What operations on the operands' fields give.
-use Rattle.std.proofs.Common.{◌≡◌, ℕ, zero, suc, ◌+◌, List, [], ◌∷◌, length, map, Bool, true, false, cond, Some, codes, slice_get, refl, ap, ◌∙◌, arith}
+use Rattle.std.proofs.Common.{◌≡◌, ℕ, ◌+◌, List, [], ◌∷◌, length, map, Bool, true, false, cond, Some, codes, slice_get, refl, ap, arith}
 use Rattle.dm_ast.specs.Declarations.{FieldTree}
 use Rattle.dm_output.specs.Output.{ExprTree}
 use Rattle.dm_output.specs.Values.{Text, Side, mine, theirs, another, of_side, Thing, atom, apply, truth, number, text, input_text, value, place, discriminant, tuple_of, success, failure, present, missing, done, pass, written, listing, Things, no_things, thing_then}
 use Rattle.dm_output.specs.Fits.{Env, plain, bound, names_type}
 use Rattle.dm_output.specs.Calls.{Setting, State, as_term, as_terms, known, unknown}
-use Rattle.dm_generics.specs.Numerals.{numeral}
-use Rattle.dm_generics.proofs.NumeralLaws.{numeral_injective}
 use Rattle.dm_operands.specs.Marked.{MarkedField, mark_field}
 use Rattle.dm_operands.specs.Numbered.{self_name}
 use Rattle.dm_operands.specs.Bodies.{name}
-use Rattle.dm_operands.proofs.NameLaws.{Differ, Apart, bytes_differ}
+use Rattle.dm_operands.proofs.FromLaws.{AreFrom, from-first, from-rest}
+use Rattle.dm_operands.proofs.NameLaws.{Differ, Apart, numerals-differ}
 use Rattle.dm_operands.proofs.BindingLaws.{Names, Knows}
 pub use Rattle.dm_operators.specs.Attributes.{keeps_all}
 use Rattle.dm_operators.specs.Operators as ops
@@ -26,10 +25,10 @@ pub self-right : Apart self_name right_name
 self-right i j = refl
 
 pub right-right : Differ right_name
-right-right i j ne = bytes_differ (numeral i) (numeral j) (λ e. ne (numeral_injective i j e))
+right-right = numerals-differ
 
 pub inner-inner : Differ inner_name
-inner-inner i j ne = bytes_differ (numeral i) (numeral j) (λ e. ne (numeral_injective i j e))
+inner-inner = numerals-differ
 
 -- ---- terms
 
@@ -61,19 +60,6 @@ mutual
 
 -- ---- operands
 
--- the terms from number n on
-abbrev pub AreAt : List Thing → ℕ → List Thing → Type 0
-AreAt all n xs = (k : ℕ) → slice_get all (n + k) ≡ slice_get xs k
-
-pub first-at : (all : List Thing) (n : ℕ) (x : Thing) (xs : List Thing) → AreAt all n (x ∷ xs) → slice_get all n ≡ Some x
-first-at all n x xs at = ap (slice_get all) (omega arith) ∙ at zero
-
-pub rest-at : (all : List Thing) (n : ℕ) (x : Thing) (xs : List Thing) → AreAt all n (x ∷ xs) → AreAt all (n + 1) xs
-rest-at all n x xs at = λ k. ap (slice_get all) (omega arith) ∙ at (suc k)
-
-pub all-at : (xs : List Thing) → AreAt xs 0 xs
-all-at xs = λ k. ap (slice_get xs) (omega arith)
-
 -- the fields of a side as they are now
 abbrev pub side_fields : Setting → State → Side → List Thing
 side_fields s st mine = st.fields
@@ -92,14 +78,14 @@ AreStanding s env st e n (t ∷ ts) = Stands s (e n) env st t × AreStanding s e
 -- the fields of a side, where all of them are bound
 pub places-stand : (s : Setting) (env : Names) (st : State) (side : Side) (naming : ℕ → Text) (n : ℕ)
     (fs : List FieldTree) (xs : List Thing) →
-    Knows naming side env n (map (mark_field keeps_all) fs) → AreAt (side_fields s st side) n xs → length xs ≡ length fs →
+    Knows naming side env n (map (mark_field keeps_all) fs) → AreFrom (side_fields s st side) n xs → length xs ≡ length fs →
     AreStanding s (plain env) st (λ k. name (naming k)) n xs
 places-stand s env st side naming n fs [] knows at len = tt
 places-stand s env st side naming n [] (x ∷ xs) knows at len = absurd (omega arith)
 places-stand s env st side naming n (f ∷ fs) (x ∷ xs) knows at len =
     let known = knows.0 refl in (
-      (place side n, rw known refl, place-term s st side n x (first-at (side_fields s st side) n x xs at)),
-      places-stand s env st side naming (n + 1) fs xs knows.1 (rest-at (side_fields s st side) n x xs at) (omega arith),
+      (place side n, rw known refl, place-term s st side n x (from-first (side_fields s st side) n x xs at)),
+      places-stand s env st side naming (n + 1) fs xs knows.1 (from-rest (side_fields s st side) n x xs at) (omega arith),
     )
 
 -- the right side itself, as often as there are fields

@@ -19,6 +19,7 @@ use Rattle.dm_operands.specs.Marked.{MarkedField, form_of, mark_field, mark_case
 use Rattle.dm_operands.specs.Bodies.{name}
 use Rattle.dm_operands.specs.Sides.{side_pattern}
 use Rattle.dm_operands.specs.Named.{AreNamed, AreFieldsNamed}
+use Rattle.dm_operands.proofs.FromLaws.{AreFrom, from-start, from-first, from-rest}
 use Rattle.dm_operands.proofs.NameLaws.{bytes_same, path-found, only-case, AreFound, are-found}
 use Rattle.dm_operands.proofs.BindingLaws.{Names, bound_side, Knows, knows, fields-marked, fields-kept, looked_at, looked-in, AreNamedIn, named-in, fits-side, misses-side}
 use Rattle.dm_operands.proofs.ArmLaws.{arm-takes, arm-passes, arms-run}
@@ -33,7 +34,7 @@ use Rattle.dm_operators.specs.Implementations.{method_in}
 use Rattle.dm_operators.specs.Laws.{AreFew}
 use Rattle.dm_operators.proofs.TableLaws.{means-method, known-value, unary-value}
 use Rattle.dm_operators.proofs.ConstructorLaws.{ArePartsOf, leads, constructor-run}
-use Rattle.dm_operators.proofs.OperandLaws.{inner-inner, keeps_all, AreAt, first-at, rest-at, all-at, place-term, GivesValue, unary-parts}
+use Rattle.dm_operators.proofs.OperandLaws.{inner-inner, keeps_all, place-term, GivesValue, unary-parts}
 use Rattle.dm_operators.proofs.BinaryArms.{every_case, AreOpen, all-arms}
 use Rattle.dm_operators.proofs.BinaryLaws.{start, ok-run, unary-unit-run, unit-form, value-case, IsGiving}
 use Rattle.dm_operators.proofs.ValueMethods.{method-gives}
@@ -72,15 +73,6 @@ AreMembers k all n [] = Unit {0}
 AreMembers k all n (f ∷ fs) = (within all (field_number all (member_of k n (mark_field keeps_all f))) ≡ Some n) ×
     AreMembers k all (n + 1) fs
 
-abbrev AreFrom : List FieldTree → ℕ → List FieldTree → Type 0
-AreFrom all n fs = (k : ℕ) → slice_get all (n + k) ≡ slice_get fs k
-
-from-first : (all : List FieldTree) (n : ℕ) (f : FieldTree) (fs : List FieldTree) → AreFrom all n (f ∷ fs) → slice_get all n ≡ Some f
-from-first all n f fs from = ap (slice_get all) (omega arith) ∙ from zero
-
-from-rest : (all : List FieldTree) (n : ℕ) (f : FieldTree) (fs : List FieldTree) → AreFrom all n (f ∷ fs) → AreFrom all (n + 1) fs
-from-rest all n f fs from = λ k. ap (slice_get all) (omega arith) ∙ from (suc k)
-
 named-members : (all : List FieldTree) (n : ℕ) (fs : List FieldTree) → AreFound all n fs → AreFrom all n fs →
     AreMembers forms.Named all n fs
 named-members all n [] found from = tt
@@ -105,9 +97,9 @@ all-members : (k : FieldsTree) → is_unit k ≡ false → length (field_list k)
     ((gs : List FieldTree) → brace_fields k ≡ Some gs → AreFieldsNamed gs) →
     AreMembers (form_of k) (field_list k) 0 (field_list k)
 all-members (named gs) full few names =
-    let from : AreFrom gs.items 0 gs.items = λ k. ap (slice_get gs.items) (omega arith) in
+    let from = from-start gs.items in
     named-members gs.items 0 gs.items (are-found gs.items 0 gs.items (names gs.items refl) from) from
-all-members (unnamed gs) full few names = numbered-members gs.items 0 gs.items (omega arith) (λ k. ap (slice_get gs.items) (omega arith))
+all-members (unnamed gs) full few names = numbered-members gs.items 0 gs.items (omega arith) (from-start gs.items)
 all-members unit full few names = absurd cc
 
 -- ---- all cases
@@ -145,7 +137,7 @@ module _ (s : Setting) (o : Operator) (is : IsGiving s o) (form : o.form ≡ ops
 
   -- self's fields behind a dot
   members-stand : (x : Value) (u : Case) (k : Form) (n : ℕ) (fs : List FieldTree) (xs : List Thing) → is_enum s.decl ≡ false →
-      slice_get (cases s.decl) x.variant ≡ Some u → AreMembers k (field_list u.fields) n fs → AreAt x.fields n xs → length xs ≡ length fs →
+      slice_get (cases s.decl) x.variant ≡ Some u → AreMembers k (field_list u.fields) n fs → AreFrom x.fields n xs → length xs ≡ length fs →
       ArePartsOf s (plain (self_alone x)) (start x) (λ m f. member (name (codes "self")) (member_of k m f)) n
       (map (mark_field (skips o)) fs) xs
   members-stand x u k n [] [] struct at are from len = tt
@@ -156,8 +148,8 @@ module _ (s : Setting) (o : Operator) (is : IsGiving s o) (form : o.form ≡ ops
       (member_of k n (mark_field keeps_all f))) ≡ Some n = are.0 in
       let found : calls.member_of s.decl (member_of k n (mark_field (skips o) f)) (value_of mine x) ≡ Some (place mine n) =
       by-member k n f number in (
-        (place mine n, ap (λ r. going r (start x)) found, place-term s (start x) mine n t (first-at x.fields n t ts from)),
-        members-stand x u k (n + 1) fs ts struct at are.1 (rest-at x.fields n t ts from) (omega arith),
+        (place mine n, ap (λ r. going r (start x)) found, place-term s (start x) mine n t (from-first x.fields n t ts from)),
+        members-stand x u k (n + 1) fs ts struct at are.1 (from-rest x.fields n t ts from) (omega arith),
       )
     where
       by-member : (k : Form) (n : ℕ) (f : FieldTree) → within (field_list u.fields)
@@ -177,7 +169,7 @@ module _ (s : Setting) (o : Operator) (is : IsGiving s o) (form : o.form ≡ ops
       let names : (gs : List FieldTree) → brace_fields u.fields ≡ Some gs → AreFieldsNamed gs =
       λ gs e. is.named.fields x.variant u gs at e in
       let parts = members-stand x u k 0 (field_list u.fields) x.fields struct at
-      (all-members u.fields full few names) (all-at x.fields) len in
+      (all-members u.fields full few names) (from-start x.fields) len in
       constructor-run s (plain (self_alone x)) (start x) (own_part o k) (plain_path (s.decl.ident ∷ [])) x.variant
       (leads s.decl (plain_path (s.decl.ident ∷ [])) x.variant (own-path s.decl x.variant u struct at)) u (mark_case (skips o) u).fields _
       (record { at = at; are = fields-kept (skips o) u (skips-none u.attrs); names = names }) full
@@ -190,15 +182,15 @@ module _ (s : Setting) (o : Operator) (is : IsGiving s o) (form : o.form ≡ ops
 
   inner-stand : (x : Value) (env : Names) (n : ℕ) (fs : List FieldTree) (xs : List Thing) →
       Knows inner_name mine env n (map (mark_field (skips o)) fs) →
-      AreAt x.fields n xs → length xs ≡ length fs →
+      AreFrom x.fields n xs → length xs ≡ length fs →
       ArePartsOf s (plain env) (start x) (λ m f. name (inner_name m)) n (map (mark_field (skips o)) fs) xs
   inner-stand x env n [] [] known from len = tt
   inner-stand x env n [] (t ∷ ts) known from len = absurd (omega arith)
   inner-stand x env n (f ∷ fs) [] known from len = absurd (omega arith)
   inner-stand x env n (f ∷ fs) (t ∷ ts) known from len =
       let here = known.0 (skips-none f.attrs) in (
-        (place mine n, rw here refl, place-term s (start x) mine n t (first-at x.fields n t ts from)),
-        inner-stand x env (n + 1) fs ts known.1 (rest-at x.fields n t ts from) (omega arith),
+        (place mine n, rw here refl, place-term s (start x) mine n t (from-first x.fields n t ts from)),
+        inner-stand x env (n + 1) fs ts known.1 (from-rest x.fields n t ts from) (omega arith),
       )
 
   -- what its arm gives
@@ -227,7 +219,7 @@ module _ (s : Setting) (o : Operator) (is : IsGiving s o) (form : o.form ≡ ops
             (map (λ t. operation o (t ∷ [])) x.fields)) (sym (all-fields u))
             (unary-parts s (plain env) (start x) o gives (λ m f. name (inner_name m)) 0
             (map (mark_field (skips o)) (field_list u.fields)) x.fields
-            (inner-stand x env 0 (field_list u.fields) x.fields known (all-at x.fields) len))))
+            (inner-stand x env 0 (field_list u.fields) x.fields known (from-start x.fields) len))))
       ]) refl
 
   -- the pattern of a case

@@ -1,5 +1,5 @@
 -- What a chain of tests gives, at any state.
-use Rattle.std.proofs.Common.{◌≡◌, ℕ, zero, suc, ◌+◌, List, [], ◌∷◌, length, map, Bool, true, false, cond, ◌&&◌, ◌||◌, Option, Some, None, slice_get, refl, ap, ◌∙◌, arith}
+use Rattle.std.proofs.Common.{◌≡◌, ℕ, ◌+◌, List, [], ◌∷◌, length, map, Bool, true, false, cond, ◌&&◌, ◌||◌, Option, Some, None, slice_get, refl, arith}
 use Rattle.dm_ast.specs.Declarations.{FieldTree}
 use Rattle.dm_output.specs.Output.{ExprTree, exprs_of}
 use Rattle.dm_output.specs.Values.{mine, theirs, Thing, truth, place}
@@ -13,6 +13,7 @@ use Rattle.dm_partial_eq.specs.Direct.{all_kept}
 use Rattle.dm_partial_eq.specs.Emitted.{says, neutral_of, join_of, test, tests, chain}
 use Rattle.dm_operands.specs.Marked.{MarkedField, mark_field}
 use Rattle.dm_operands.specs.Numbered.{self_name, other_name}
+use Rattle.dm_operands.proofs.FromLaws.{AreFrom, from-first, from-rest}
 use Rattle.dm_operands.proofs.BindingLaws.{Names, Knows, eqb-same}
 
 -- an expression gives this truth, and leaves the state as it is
@@ -84,14 +85,14 @@ marks fs = map (mark_field is_skipped) fs
 
 -- the tests of the kept fields from n on
 pub run-tests : (c : Comparing) (s : Setting) (env : Names) (st : State) (n : ℕ) (fs : List FieldTree) (os : List Bool) →
-    ((k : ℕ) → slice_get s.outcomes (n + k) ≡ slice_get os k) → length os ≡ length fs →
+    AreFrom s.outcomes n os → length os ≡ length fs →
     Knows self_name mine env n (marks fs) → Knows other_name theirs env n (marks fs) →
     Says s (join_of c (exprs_of (tests c n (marks fs)))) (plain env) st (says c (all_kept fs os))
-run-tests c s env st n [] os at len a b = join-none s (plain env) st c
-run-tests c s env st n (f ∷ fs) [] at len a b = absurd (omega arith)
-run-tests c s env st n (f ∷ fs) (o ∷ os) at len a b =
-    let more = run-tests c s env st (n + 1) fs os (λ k. ap (slice_get s.outcomes) (omega arith) ∙ at (suc k)) (omega arith) a.1 b.1 in
-    let here : slice_get s.outcomes n ≡ Some o = ap (slice_get s.outcomes) (omega arith) ∙ at zero in
+run-tests c s env st n [] os from len a b = join-none s (plain env) st c
+run-tests c s env st n (f ∷ fs) [] from len a b = absurd (omega arith)
+run-tests c s env st n (f ∷ fs) (o ∷ os) from len a b =
+    let more = run-tests c s env st (n + 1) fs os (from-rest s.outcomes n o os from) (omega arith) a.1 b.1 in
+    let here = from-first s.outcomes n o os from in
     (elim (is_skipped f.attrs) as (λ skip. (skip ≡ false → bound (plain env) (self_name n) ≡ Some (place mine n)) →
     (skip ≡ false → bound (plain env) (other_name n) ≡ Some (place theirs n)) →
     Says s (join_of c (exprs_of (cond skip (tests c (n + 1) (marks fs)) (test c n ∷ tests c (n + 1) (marks fs))))) (plain env) st

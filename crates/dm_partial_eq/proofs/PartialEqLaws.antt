@@ -18,6 +18,7 @@ use Rattle.dm_partial_eq.specs.Emitted.{says, join_of, tests, chain, compared_ar
 use Rattle.dm_operands.specs.Numbered.{self_name, other_name}
 use Rattle.dm_operands.specs.Marked.{MarkedCase, mark_case, marked}
 use Rattle.dm_operands.specs.Named.{AreNamed}
+use Rattle.dm_operands.proofs.FromLaws.{from-start}
 use Rattle.dm_operands.proofs.NameLaws.{self-other, self-self, other-other, only-case}
 use Rattle.dm_operands.proofs.BindingLaws.{Names, eqb-same}
 use Rattle.dm_operands.proofs.ArmLaws.{two_values, both_sides, both-known, IsOpen, pair-arms-run}
@@ -84,7 +85,7 @@ module _ (c : Comparing) (s : Setting) (st : State) where
       let inside : Names = both_sides self_name other_name (marks fs) env in
       let known = both-known self_name other_name (marks fs) env self-self other-other self-other in
       run-chain c s (tests c 0 (marks fs)) (plain inside) st (says c (all_kept fs s.outcomes))
-      (run-tests c s inside st 0 fs s.outcomes (λ k. ap (slice_get s.outcomes) (omega arith)) len known.0 known.1)
+      (run-tests c s inside st 0 fs s.outcomes (from-start s.outcomes) len known.0 known.1)
 
   -- the arm of a case
   arm-given : (u : Case) (env : Names) → is_compared (marked_case u) ≡ true → length s.outcomes ≡ length (field_list u.fields) →
