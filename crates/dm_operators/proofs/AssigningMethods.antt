@@ -1,5 +1,5 @@
 -- The method of an assigning operator leaves self as the operator means.
-use Rattle.std.proofs.Common.{◌≡◌, ◌≢◌, ℕ, ℤ, ◌+◌, List, [], ◌∷◌, length, map, Bool, true, false, cond, eqb, Option, Some, codes, slice_get, refl, sym, ap, ◌∙◌, subst, arith}
+use Rattle.std.proofs.Common.{◌≡◌, ◌≢◌, ℕ, ◌+◌, List, [], ◌∷◌, length, map, Bool, true, false, cond, eqb, Option, Some, codes, slice_get, refl, sym, ap, ◌∙◌, subst, arith}
 use Rattle.std.proofs.lemmas.Bool.{eqb-true}
 use Rattle.dm_ast.specs.Declarations.{Declaration, FieldTree}
 use Rattle.dm_output.specs.Output.{wild, no_expr, arms_of, block_body, expr_body, no_stmts, stmts_of, block}
@@ -7,7 +7,7 @@ use Rattle.dm_output.specs.declared.item.Receiver.TheVariants as receiver
 use Rattle.dm_output.specs.Values.{Value, value_of, mine, theirs, Thing, place, done, Case, cases, field_list, fits_case, IsValue, Input, value_input, term_input}
 use Rattle.dm_output.specs.Fits.{plain, bound}
 use Rattle.dm_output.specs.Calls.{Setting, State, goes, then}
-use Rattle.dm_output.specs.Run.{run, run_arms, run_body, answered, with_receiver, with_param, input_thing, constants_of, setting_of, run_method}
+use Rattle.dm_output.specs.Run.{run, run_arms, run_body, constants_of, setting_of, run_method}
 use Rattle.dm_operands.specs.Marked.{MarkedField, MarkedCase, mark_field, mark_case}
 use Rattle.dm_operands.specs.Numbered.{self_name}
 use Rattle.dm_operands.specs.Named.{AreNamed}
@@ -19,14 +19,13 @@ use Rattle.dm_operators.specs.Operators.{Form, structural, scalar, Operator, IsO
 use Rattle.dm_operators.specs.Attributes.{skips, cases_for}
 use Rattle.dm_operators.specs.Meaning.{combined, with_fields, fields_in, changed, after_two, of_any, IsTerm}
 use Rattle.dm_operators.specs.Bodies as bodies
-use Rattle.dm_operators.specs.Bodies.{right_name, arm, binary_given, answer_given, assigning_calls, calls_block, different, binary_body, body_expr}
-use Rattle.dm_operators.specs.Heads.{method_param}
+use Rattle.dm_operators.specs.Bodies.{right_name, arm, binary_given, answer_given, assigning_calls, calls_block, different, binary_body}
 use Rattle.dm_operators.specs.Implementations.{method_in}
 use Rattle.dm_operators.proofs.TableLaws.{known-assigning}
 use Rattle.dm_operators.proofs.OperandLaws.{self-right, right-right, keeps_all, place-term, term-kept}
 use Rattle.dm_operators.proofs.BinaryArms.{left_in, AreOpen, operands, same-case, other-case, any-case}
 use Rattle.dm_operators.proofs.BinaryLaws.{start, value-case}
-use Rattle.dm_operators.proofs.MethodForms.{method_by, method-by}
+use Rattle.dm_operators.proofs.MethodForms.{body_run, method-answers}
 use Rattle.dm_operators.proofs.AssigningLaws.{Assigns, AreRight, calls-run}
 
 -- ---- right operands
@@ -143,18 +142,9 @@ module _ (s : Setting) (o : Operator) (is : IsAssigning s o) where
 -- self afterwards has the fields that its body leaves
 method-leaves : (form : Form) (o : Operator) (d : Declaration) (os : List Bool) (x : Value) (y : Input) (ts : List Thing) →
     o.assigning ≡ true → constants_of y ≡ [] →
-    run (setting_of d os (Some receiver.RefMut) y) (body_expr form o d (cases_for o d))
-    (plain (with_receiver (Some receiver.RefMut) x (with_param (method_param form) (input_thing (Some receiver.RefMut) y)))) (start x) ≡
-    Some (goes done (ended ts)) →
+    body_run true form o d os x y ≡ Some (goes done (ended ts)) →
     run_method d os (method_in form o d (cases_for o d)) x y ≡ Some (with_fields x ts)
-method-leaves form o d os x y ts assigns none body =
-    let s : Setting = setting_of d os (Some receiver.RefMut) y in
-    let m = method_by true form o d (cases_for o d) in
-    let env = plain (with_receiver (Some receiver.RefMut) x (with_param (method_param form) (input_thing (Some receiver.RefMut) y))) in
-    ap (λ m'. run_method d os m' x y) (method-by true form o d (cases_for o d) assigns) ∙
-    ap (λ (ns : List ℤ). answered s m x.variant (run s (body_expr form o d (cases_for o d)) env
-    (record { fields = x.fields; numbers = ns }))) none ∙
-    ap (answered s m x.variant) body
+method-leaves form o d os x y ts assigns none body = method-answers true form o d os x y (Some (goes done (ended ts))) assigns none body
 
 module _ (o : Operator) (d : Declaration) (named : AreNamed d) (open_cases : AreOpen o d) (operator : IsOperator o)
     (assigns : o.assigning ≡ true) where

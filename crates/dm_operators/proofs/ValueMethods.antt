@@ -1,40 +1,31 @@
 -- The methods of operators that give a value: with a receiver by value, and what is returned.
-use Rattle.std.proofs.Common.{◌≡◌, ◌≢◌, ℕ, ℤ, List, [], length, Bool, true, false, cond, eqb, Option, Some, slice_get, refl, sym, ap, ◌∙◌, subst}
+use Rattle.std.proofs.Common.{◌≡◌, ◌≢◌, ℕ, List, [], length, Bool, true, false, cond, eqb, Option, Some, slice_get, refl, sym, ap, ◌∙◌, subst}
 use Rattle.std.proofs.lemmas.Bool.{eqb-true}
 use Rattle.dm_ast.specs.Declarations.{Declaration}
 use Rattle.dm_output.specs.declared.item.Receiver.TheVariants as receiver
 use Rattle.dm_output.specs.Values.{Value, value_of, theirs, another, Thing, value, failure, Things, Case, cases, is_enum, field_list, fits_case, IsValue, Input, value_input, term_input}
 use Rattle.dm_output.specs.Fits.{plain}
 use Rattle.dm_output.specs.Calls.{Setting, State, goes, as_term}
-use Rattle.dm_output.specs.Run.{run, answered, with_receiver, with_param, input_thing, constants_of, setting_of, run_method}
+use Rattle.dm_output.specs.Run.{run, constants_of, setting_of, run_method}
 use Rattle.dm_operands.specs.Named.{AreNamed}
 use Rattle.dm_operands.proofs.BindingLaws.{eqb-same}
 use Rattle.dm_operators.specs.Operators.{Form, structural, scalar, Operator, IsOperator}
 use Rattle.dm_operators.specs.Attributes.{cases_for}
 use Rattle.dm_operators.specs.Meaning.{binary_unit, mismatch, ok_if, is_unit_in, case_of, changed, of_two, of_any, IsTerm}
 use Rattle.dm_operators.specs.Bodies.{body_expr}
-use Rattle.dm_operators.specs.Heads.{method_param}
 use Rattle.dm_operators.specs.Implementations.{method_in}
 use Rattle.dm_operators.proofs.BinaryArms.{AreOpen, operands}
-use Rattle.dm_operators.proofs.MethodForms.{method_by, method-by}
+use Rattle.dm_operators.proofs.MethodForms.{body_run, method-answers}
 use Rattle.dm_operators.proofs.BinaryLaws.{start, value-case, IsGiving, same-run, other-run, any-run}
 
 -- it gives what its body gives, where that is a term
 pub method-gives : (form : Form) (o : Operator) (d : Declaration) (os : List Bool) (x : Value) (y : Input) (t : Thing) →
     o.assigning ≡ false → constants_of y ≡ [] →
     as_term (setting_of d os (Some receiver.Value) y) (start x) t ≡ t →
-    run (setting_of d os (Some receiver.Value) y) (body_expr form o d (cases_for o d))
-    (plain (with_receiver (Some receiver.Value) x (with_param (method_param form) (input_thing (Some receiver.Value) y))))
-    (start x) ≡ Some (goes t (start x)) →
+    body_run false form o d os x y ≡ Some (goes t (start x)) →
     run_method d os (method_in form o d (cases_for o d)) x y ≡ Some t
 method-gives form o d os x y t gives none term body =
-    let s : Setting = setting_of d os (Some receiver.Value) y in
-    let m = method_by false form o d (cases_for o d) in
-    let env = plain (with_receiver (Some receiver.Value) x (with_param (method_param form) (input_thing (Some receiver.Value) y))) in
-    ap (λ m'. run_method d os m' x y) (method-by false form o d (cases_for o d) gives) ∙
-    ap (λ (ns : List ℤ). answered s m x.variant (run s (body_expr form o d (cases_for o d)) env
-    (record { fields = x.fields; numbers = ns }))) none ∙
-    ap (answered s m x.variant) body ∙ ap (λ (u : Thing). Some u) term
+    method-answers false form o d os x y (Some (goes t (start x))) gives none body ∙ ap (λ (u : Thing). Some u) term
 
 -- what the operator of two values means is a term
 two-term : (s : Setting) (st : State) (a b c : Bool) (p q : Thing) (n : ℕ) (xs : Things) →
