@@ -8,6 +8,11 @@ use Rattle.dm_bounds.specs.Needed.{Asking}
 use Rattle.dm_where_clauses.specs.declared.needed.Predicate.{Predicate}
 use Rattle.dm_where_clauses.specs.Shown.{shown}
 
+-- what is added for the items from number i on is still to come behind what is there now
+abbrev pub IsAdding : {Y X : Type 0} → Asking → (X → List PredicateTree) → (Y → X) → List Y → ℕ → List Predicate → List Predicate → Type 0
+IsAdding asking adds view ys i now first =
+    map (shown asking) now ++ flat_map adds (map view (drop i ys)) ≡ map (shown asking) first ++ flat_map adds (map view ys)
+
 -- what is added for an item stands before what is added for the rest
 pub needed_joined : {X A : Type 0} (f : X → List A) (front : List A) (x : X) (rest : List X) →
     (front ++ f x) ++ flat_map f rest ≡ front ++ flat_map f (x ∷ rest)
