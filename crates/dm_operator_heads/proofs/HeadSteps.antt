@@ -1,11 +1,13 @@
 -- What parts of heads are laid out as.
-use Rattle.std.proofs.Common.{◌≡◌, List, [], ◌∷◌, codes, sym, ap, ◌∙◌}
+use Rattle.std.proofs.Common.{◌≡◌, List, [], ◌∷◌, codes, Result, sym, ap, ◌∙◌}
+use Rattle.std.specs.Prelude.{OnOk}
 use Rattle.std.proofs.lemmas.List.{map-append}
 use Rattle.dm_stream.specs.Layout.{Laid, nowhere}
 use Rattle.dm_stream.specs.Trees.{Trees, no_trees, join}
 use Rattle.dm_ast.specs.Tree.{TypeTree, ArgumentTree, type_arg}
 use Rattle.dm_ast.specs.Implementors.{plain_path}
 use Rattle.dm_ast.specs.TypeTokens.{type_trees, path_trees, arguments_trees}
+use Rattle.dm_layout.proofs.Fixing.{on-ok}
 use Rattle.dm_output.specs.Tokens.{punct, comma, semicolon, assoc_trees}
 use Rattle.dm_print_types.specs.Laying.{lay, fix}
 use Rattle.dm_print_types.proofs.Laying.{lay-join, print_steps}
@@ -27,6 +29,13 @@ last-laid s t p =
 pub trait-laid : (s : Laid) (o : Operator) (gs : List ArgumentTree) →
     lay (lay s (path_trees nowhere (trait_with o []))) (arguments_trees nowhere (angled gs)) ≡ lay s (path_trees nowhere (trait_with o gs))
 trait-laid s o gs = sym (lay-join (lay s (path_trees nowhere (trait_with o []))) (arguments_trees nowhere (angled gs)) no_trees)
+
+-- a type behind what stands before it, and `>` behind the type
+pub given-laid : {T E : Type 0} (r : Result T E) (t : TypeTree) (start front typed new last : Laid) → front ≡ start →
+    typed ≡ lay front (type_trees t) → OnOk r (new ≡ lay typed (punct 62)) → lay (lay start (type_trees t)) (punct 62) ≡ last →
+    OnOk r (new ≡ last)
+given-laid r t start front typed new last before behind closed is =
+    on-ok r (λ e. e ∙ ap (λ (l : Laid). lay l (punct 62)) (behind ∙ ap (λ (l : Laid). lay l (type_trees t)) before) ∙ is) closed
 
 pub output-laid : (s : Laid) (t : TypeTree) →
     lay (lay (fix s (codes "< Output =")) (type_trees t)) (punct 62) ≡
