@@ -1,4 +1,4 @@
-use Rattle.dm_operands.proofs.PlaceLaws.{variant_refused, variant_passes, variant_added}
+use Rattle.dm_operands.proofs.PlaceLaws.{marked_so, variant_refused, variant_passes, variant_added}
 use Rattle.dm_operands.proofs.places.cases_of_variants.Goals as goal
 
 pub returns-in-Err : goal.returns-in-Err
@@ -12,6 +12,6 @@ loop-variant-preserved c =
     let i = c.loop-variant.variant-index in
     let x = c.variant-item.result in (
       variant_passes all i x c.loop-variant-test.true c.variant-item.is c.loop-variant.invariant.0 c.in-Ok.ensures.0,
-      variant_added all i x c.loop-variant-test.true c.variant-item.is c.loop-variant.out.items c.add.new.out.items c.in-Ok.next c.in_ok-add-in-Ok.ensures
+      variant_added all i x c.loop-variant-test.true c.variant-item.is marked_so c.loop-variant.out.items c.add.new.out.items c.in-Ok.next c.in_ok-add-in-Ok.ensures
           c.in-Ok.ensures.1 c.loop-variant.invariant.1,
     )
