@@ -13,7 +13,7 @@ use Rattle.dm_ast.specs.declared.plain.Attribute.{Attribute}
 use Rattle.dm_ast.specs.declared.plain.AttrArgs.{AttrArgs}
 use Rattle.dm_ast.specs.declared.plain.AttrArgs.TheVariants as args
 use Rattle.dm_attr.specs.declared.spanning.Spanning.{Spanning}
-use Rattle.dm_attr.specs.Answers.{Allows}
+use Rattle.dm_attr.specs.Answers.{Allows, IsGiven}
 use Rattle.dm_attr.specs.Examined.{is_examined}
 use Rattle.dm_attr.specs.Folding.{Folds, spanned}
 use Rattle.dm_attr.specs.Kinds.{unread_at, whole_or_unread, ReadsWhole, read_to_end, contents_in, ReadsIn, ReadsContents, MergesNever}
@@ -88,20 +88,11 @@ module _ {T : Type 0} (value_of : Trees → Option T) where
       subst (λ s. Says (reading_refusal (reads_in value_of) xs) (is_yes (once_among (reads_in value_of) xs)) s)
       (sym (folded name attrs answer h)) (says xs)
 
-  pub under_ok : (name : List ℕ) (attrs : List Attribute) (o : Option (Spanning T)) (b : Bool) → FoldsOnce name attrs (Ok o) → b ≡ is_some o →
-      IsOnceUnder (reads_in value_of) name attrs (Ok b)
-  under_ok name attrs o b h is = let s = fold_says name attrs (Ok o) h in (s.0, is ∙ s.1)
-
-  under_err : (name : List ℕ) (attrs : List Attribute) (e : Error) → Allows (FoldsOnce name attrs) e →
-      IsOnceUnder (reads_in value_of) name attrs (Err e)
-  under_err name attrs NoMemory h = tt
-  under_err name attrs (Refused s) h = fold_says name attrs (Err s) h
-
-  -- and it is passed on
-  pub under_passed : (name : List ℕ) (attrs : List Attribute) (e : Error) → Allows (FoldsOnce name attrs) e → (s : Result Bool Error) →
-      IsErrAnd s (λ d. d ≡ e) → IsOnceUnder (reads_in value_of) name attrs s
-  under_passed name attrs e h (Ok b) i = absurd i
-  under_passed name attrs e h (Err d) i = rw i (under_err name attrs e h)
+  pub under : (name : List ℕ) (attrs : List Attribute) (answer : Result Bool Error) → IsGiven {Y = Spanning T} (FoldsOnce name attrs) answer →
+      IsOnceUnder (reads_in value_of) name attrs answer
+  under name attrs (Ok b) (o, h, is) = let s = fold_says name attrs (Ok o) h in (s.0, is ∙ s.1)
+  under name attrs (Err NoMemory) h = tt
+  under name attrs (Err (Refused r)) h = fold_says name attrs (Err r) h
 
   -- ---- none may be given
 

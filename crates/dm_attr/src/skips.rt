@@ -1,17 +1,33 @@
 //! What the attributes of one name say of a place where one may be given, and of which places `PartialEq` leaves out.
 
-ghost use Rattle.std.specs.Prelude.{◌≡◌, option_map};
+ghost use Rattle.std.specs.Prelude.{◌≡◌, None, option_map};
 ghost use Rattle.dm_stream.specs.declared.error.Error.TheVariants.{Refused};
 ghost use Rattle.dm_stream.specs.declared.error.Kind.TheVariants.{AttrNotAllowed};
+ghost use Rattle.dm_attr.specs.Answers.{IsGiven};
+ghost use Rattle.dm_attr.specs.Folding.{Folds};
+ghost use Rattle.dm_attr.specs.Meanings.{knows_none};
 ghost use Rattle.dm_attr.specs.SkipRefusals as spec;
 
 use crate::fold::parse_attrs;
 use crate::forward::Forward;
+use crate::parse_multiple::ParseMultiple;
 use crate::skip::Skip;
 use crate::spanning::Spanning;
 use dm_ast::Attribute;
 use dm_stream::{Error, Kind, Read, Refusal, Span};
 use std::alloc::Global;
+
+/// Whether attributes of this name give a value of this kind, with the refusals of `parse_attrs`.
+fn is_given<'a, T: ParseMultiple<'a>>(
+    alloc: Global,
+    attrs: &[Attribute<'a>],
+    name: &str,
+) -> Read<bool>
+    ensures { IsGiven (Folds (λ a. T.reads_attr a knows_none) T.merges name.now attrs.now None) result }
+{
+    let found: Option<Spanning<T>> = parse_attrs(alloc, attrs, name)?;
+    Ok(found.is_some())
+}
 
 /// Whether an attribute of this name is `skip` or `ignore` in any delimiters, as in derive_more.
 ///
@@ -20,16 +36,14 @@ use std::alloc::Global;
 pub fn is_skipped_under(alloc: Global, attrs: &[Attribute<'_>], name: &str) -> Result<bool, Error>
     ensures { spec.IsSkipUnder name.now attrs.now result }
 {
-    let found: Option<Spanning<Skip>> = parse_attrs(alloc, attrs, name)?;
-    Ok(found.is_some())
+    is_given::<Skip>(alloc, attrs, name)
 }
 
 /// Whether an attribute of this name is `forward` in any delimiters, with the refusals of [is_skipped_under].
 pub fn is_forwarded_under(alloc: Global, attrs: &[Attribute<'_>], name: &str) -> Result<bool, Error>
     ensures { spec.IsForwardUnder name.now attrs.now result }
 {
-    let found: Option<Spanning<Forward>> = parse_attrs(alloc, attrs, name)?;
-    Ok(found.is_some())
+    is_given::<Forward>(alloc, attrs, name)
 }
 
 fn not_allowed(span: Span) -> Error
