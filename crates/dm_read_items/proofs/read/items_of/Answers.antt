@@ -6,19 +6,15 @@ use Rattle.dm_reread.specs.ReadBack.{read_output}
 use Rattle.dm_read_items.proofs.ReadSteps.{kept_within, refused_within, unlike_unread}
 use Rattle.dm_read_items.proofs.read.items_of.Goals as goal
 
-pub returns-in-Ok-clause-items : goal.returns-in-Ok-clause-items
-returns-in-Ok-clause-items c = λ text t.
+pub returns-in-Ok : goal.returns-in-Ok
+returns-in-Ok c =
     let ts = c.args.stream.now.trees in
     let e = ap read_output (sym (c.new.ensures ∙ c.cursor.ensures.left)) ∙ c.in-Ok.ensures in
     let d = c.first_deep-deep.ensures ∙ ap₂ (λ a b. deep_in (items_levels (map item_view a)) b) c.as_slice.ensures c.entries.ensures in
-    kept_within text ts c.in-Ok.found c.first_deep-deep.result t e d c.within.result c.within.ensures
-
-pub returns-in-Ok-clause-unread : goal.returns-in-Ok-clause-unread
-returns-in-Ok-clause-unread c = λ text t.
-    let ts = c.args.stream.now.trees in
-    let e = ap read_output (sym (c.new.ensures ∙ c.cursor.ensures.left)) ∙ c.in-Ok.ensures in
-    let d = c.first_deep-deep.ensures ∙ ap₂ (λ a b. deep_in (items_levels (map item_view a)) b) c.as_slice.ensures c.entries.ensures in
-    refused_within text ts c.in-Ok.found c.first_deep-deep.result t e d c.within.result c.within.ensures
+    record {
+      items = λ text t. kept_within text ts c.in-Ok.found c.first_deep-deep.result t e d c.within.result c.within.ensures;
+      unread = λ text t. refused_within text ts c.in-Ok.found c.first_deep-deep.result t e d c.within.result c.within.ensures;
+    }
 
 pub returns-in-Err-clause-unread : goal.returns-in-Err-clause-unread
 returns-in-Err-clause-unread c = λ text t.
