@@ -1,16 +1,16 @@
 -- An implementation by its parts, and implementations in turn.
-use Rattle.std.proofs.Common.{◌≡◌, ℕ, zero, suc, List, Option, Some, None, option_map, refl, ap, ◌∙◌}
-use Rattle.dm_stream.specs.Trees.{Trees, no_trees, token, group}
+use Rattle.std.proofs.Common.{◌≡◌, ℕ, suc, List, Option, Some, None, option_map, refl, ap, ◌∙◌}
+use Rattle.dm_stream.specs.Trees.{Trees}
 use Rattle.dm_output.specs.Output.{AssocTree, MethodTree, ItemTree}
 use Rattle.dm_output.specs.declared.item.ItemAttr.{ItemAttr}
 use Rattle.dm_reread.specs.Next.{Next, in_braces, next}
 use Rattle.dm_reread.specs.Leaves.{Answer}
 use Rattle.dm_reread.specs.Reading.{then}
-use Rattle.dm_reread.specs.Items.{HeadTree, braces_of_item, impl_after, read_attrs, read_item, items_from, items_with}
+use Rattle.dm_reread.specs.Items.{HeadTree, braces_of_item, impl_after, read_attrs, read_item, items_with}
 use Rattle.dm_reread.specs.ReadBack.{item_leaves}
 use Rattle.dm_reread.specs.Whole.{size}
-use Rattle.dm_read_places.specs.Repeating.{after_turn, repeat}
-use Rattle.dm_read_heads.proofs.Turned.{AllParts, PartTurn, whole_part_on}
+use Rattle.dm_read_places.specs.Repeating.{repeat}
+use Rattle.dm_read_heads.proofs.Turned.{behind_same, AllParts, parts_are}
 use Rattle.dm_read_members.specs.Rows.{Members, all_assocs, all_methods, all_members, braced, behind_impl, unmarked, made_item, item_turn}
 
 abbrev Items : Type 0
@@ -65,27 +65,12 @@ module _ (as' : List ItemAttr) where
   impl_on None = refl
   impl_on (Some us) = head_on (item_leaves.head us)
 
-attrs_on : (o : Answer (List ItemAttr)) →
-    then {B = Items} o (λ a. then (impl_after (next a.1)) (λ us. then (item_leaves.head us) (λ h. braces_of_item item_leaves a.0 h.0 (next h.1)))) ≡
-    then {B = Items} o (λ a. then {A = Parts} {B = Items} (unmarked a.1) (λ b. Some (made_item a.0 b.0, b.1)))
-attrs_on None = refl
-attrs_on (Some a) = impl_on a.0 (impl_after (next a.1))
-
 pub item_is : (ts : Trees) →
     read_item item_leaves ts ≡
     then {B = Items} (read_attrs (suc (size ts)) ts) (λ a. then {A = Parts} {B = Items} (unmarked a.1) (λ b. Some (made_item a.0 b.0, b.1)))
-item_is ts = attrs_on (read_attrs (suc (size ts)) ts)
+item_is ts = behind_same (λ a. impl_on a.0 (impl_after (next a.1))) (read_attrs (suc (size ts)) ts)
 
 -- ---- turns
 
-module _ (n : ℕ) (more : (ts : Trees) → items_with item_leaves n ts ≡ AllParts (repeat item_turn n ts)) where
-  items_on : (ts : Trees) →
-      items_from item_leaves (items_with item_leaves n) ts ≡
-      AllParts (then {A = PartTurn ItemTree} (item_turn n ts) (λ u. after_turn (repeat item_turn n) u.0 u.1))
-  items_on no_trees = refl
-  items_on (token k ts) = whole_part_on item_turn n (items_with item_leaves n) more (read_item item_leaves (token k ts))
-  items_on (group d from inside upto ts) = whole_part_on item_turn n (items_with item_leaves n) more (read_item item_leaves (group d from inside upto ts))
-
 pub items_are : (n : ℕ) (ts : Trees) → items_with item_leaves n ts ≡ AllParts (repeat item_turn n ts)
-items_are zero ts = refl
-items_are (suc n) ts = items_on n (items_are n) ts
+items_are = parts_are (read_item item_leaves) (items_with item_leaves) (λ ts. refl) (λ n ts. refl)

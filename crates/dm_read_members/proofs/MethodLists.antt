@@ -1,7 +1,7 @@
 -- A method by its parts, and methods in turn.
-use Rattle.std.proofs.Common.{◌≡◌, ℕ, zero, suc, Bool, true, false, List, Option, Some, None, refl, ◌∙◌}
+use Rattle.std.proofs.Common.{◌≡◌, ℕ, suc, Bool, true, false, List, Option, Some, None, refl, ◌∙◌}
 use Rattle.dm_stream.specs.declared.tokens.Ident.{Ident}
-use Rattle.dm_stream.specs.Trees.{Trees, no_trees, token, group}
+use Rattle.dm_stream.specs.Trees.{Trees}
 use Rattle.dm_ast.specs.Keywords.{is_name}
 use Rattle.dm_ast.specs.Tree.{TypeTree}
 use Rattle.dm_output.specs.Output.{BlockTree, MethodTree}
@@ -9,12 +9,12 @@ use Rattle.dm_output.specs.declared.item.ItemAttr.{ItemAttr}
 use Rattle.dm_reread.specs.Next.{k_const, k_fn, Next, a_name, a_word, next}
 use Rattle.dm_reread.specs.Leaves.{Answer}
 use Rattle.dm_reread.specs.Reading.{then, provided}
-use Rattle.dm_reread.specs.Items.{Inputs, inputs_after, output_after, body_after, name_of_method, fn_from, const_or_fn, read_attrs, read_method, methods_from, read_methods}
+use Rattle.dm_reread.specs.Items.{Inputs, inputs_after, output_after, body_after, name_of_method, fn_from, const_or_fn, read_attrs, read_method, read_methods}
 use Rattle.dm_reread.specs.ReadBack.{leaves}
 use Rattle.dm_reread.specs.Whole.{size}
-use Rattle.dm_read_places.specs.Repeating.{after_turn, repeat}
+use Rattle.dm_read_places.specs.Repeating.{repeat}
 use Rattle.dm_read_places.specs.Turns.{declared_at}
-use Rattle.dm_read_heads.proofs.Turned.{AllParts, PartTurn, whole_part_on}
+use Rattle.dm_read_heads.proofs.Turned.{behind_same, AllParts, parts_are}
 use Rattle.dm_read_heads.specs.Members.{Signature, signature_at}
 use Rattle.dm_read_members.specs.Rows.{fn_at, const_fn, Behind, behind_fn, unnamed, made_method, method_turn}
 
@@ -100,27 +100,12 @@ module _ (as' : List ItemAttr) where
   unnamed_on (a_word k_fn ts) = fn_on false (a_word k_fn ts)
   unnamed_on _ = refl
 
-attrs_on : (o : Answer (List ItemAttr)) →
-    then {B = Methods} o (λ a. const_or_fn leaves a.0 (next a.1)) ≡
-    then {B = Methods} o (λ a. then {A = Unnamed} {B = Methods} (unnamed a.1) (λ b. Some (made_method a.0 b.0, b.1)))
-attrs_on None = refl
-attrs_on (Some a) = unnamed_on a.0 (next a.1)
-
 pub method_is : (ts : Trees) →
     read_method leaves ts ≡
     then {B = Methods} (read_attrs (suc (size ts)) ts) (λ a. then {A = Unnamed} {B = Methods} (unnamed a.1) (λ b. Some (made_method a.0 b.0, b.1)))
-method_is ts = attrs_on (read_attrs (suc (size ts)) ts)
+method_is ts = behind_same (λ a. unnamed_on a.0 (next a.1)) (read_attrs (suc (size ts)) ts)
 
 -- ---- turns
 
-module _ (n : ℕ) (more : (ts : Trees) → read_methods leaves n ts ≡ AllParts (repeat method_turn n ts)) where
-  methods_on : (ts : Trees) →
-      methods_from leaves (read_methods leaves n) ts ≡
-      AllParts (then {A = PartTurn MethodTree} (method_turn n ts) (λ u. after_turn (repeat method_turn n) u.0 u.1))
-  methods_on no_trees = refl
-  methods_on (token k ts) = whole_part_on method_turn n (read_methods leaves n) more (read_method leaves (token k ts))
-  methods_on (group d from inside upto ts) = whole_part_on method_turn n (read_methods leaves n) more (read_method leaves (group d from inside upto ts))
-
 pub methods_are : (n : ℕ) (ts : Trees) → read_methods leaves n ts ≡ AllParts (repeat method_turn n ts)
-methods_are zero ts = refl
-methods_are (suc n) ts = methods_on n (methods_are n) ts
+methods_are = parts_are (read_method leaves) (read_methods leaves) (λ ts. refl) (λ n ts. refl)

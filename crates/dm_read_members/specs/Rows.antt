@@ -3,7 +3,7 @@ use Rattle.std.specs.Prelude.{cond, ℕ, suc, [], ◌∷◌, Bool, true, false, 
 use Rattle.dm_stream.specs.declared.tokens.Ident.{Ident}
 use Rattle.dm_stream.specs.declared.tokens.Entry.{Entry}
 use Rattle.dm_stream.specs.declared.tokens.Entry.TheVariants as entry
-use Rattle.dm_stream.specs.Trees.{Trees, no_trees}
+use Rattle.dm_stream.specs.Trees.{Trees}
 use Rattle.dm_output.specs.Output.{BlockTree, AssocTree, MethodTree, ItemTree}
 use Rattle.dm_output.specs.declared.item.ItemAttr.{ItemAttr}
 use Rattle.dm_reread.specs.Next.{k_const, k_fn, Next, in_braces, a_word, next}
@@ -13,7 +13,7 @@ use Rattle.dm_reread.specs.Items.{HeadTree, body_after, impl_after, read_method,
 use Rattle.dm_reread.specs.ReadBack.{leaves, item_leaves}
 use Rattle.dm_reread.specs.Whole.{size}
 use Rattle.dm_read_places.specs.declared.list.Turn.{Turn}
-use Rattle.dm_read_places.specs.declared.list.Turn.TheVariants.{One, End}
+use Rattle.dm_read_places.specs.ToEnd.{turn_to_end}
 use Rattle.dm_read_heads.specs.Members.{Signature, named_signature}
 
 -- ---- how many trees there are
@@ -56,8 +56,7 @@ made_method as' b =
     record { attrs = as'; is_const = b.0; name = b.1.0.0; receiver = b.1.0.1.0.0; param = b.1.0.1.0.1; output = b.1.0.1.1; body = b.1.1 }
 
 abbrev pub method_turn : ℕ → Trees → Answer (Turn MethodTree (Unit {0}))
-method_turn n no_trees = Some (End tt, no_trees)
-method_turn n ts = then (read_method leaves ts) (λ a. Some (One a.0, a.1))
+method_turn n = turn_to_end (read_method leaves)
 
 -- ---- implementations
 
@@ -93,5 +92,4 @@ made_item as' b =
     record { attrs = as'; params = b.0.params; trait_path = b.0.trait_path; ty = b.0.ty; predicates = b.0.predicates; assocs = b.1.0; methods = b.1.1 }
 
 abbrev pub item_turn : ℕ → Trees → Answer (Turn ItemTree (Unit {0}))
-item_turn n no_trees = Some (End tt, no_trees)
-item_turn n ts = then (read_item item_leaves ts) (λ a. Some (One a.0, a.1))
+item_turn n = turn_to_end (read_item item_leaves)

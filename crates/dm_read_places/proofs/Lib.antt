@@ -3,6 +3,7 @@ pub mod Seeing
 pub mod KeywordLengths
 pub mod Repeats
 pub mod Lists
+pub mod ToEnd
 pub mod Expecting
 pub mod PathSteps
 pub mod Same
