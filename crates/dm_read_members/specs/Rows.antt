@@ -14,7 +14,8 @@ use Rattle.dm_reread.specs.ReadBack.{leaves, item_leaves}
 use Rattle.dm_reread.specs.Whole.{size}
 use Rattle.dm_read_places.specs.declared.list.Turn.{Turn}
 use Rattle.dm_read_places.specs.ToEnd.{turn_to_end}
-use Rattle.dm_read_heads.specs.Members.{Signature, named_signature}
+use Rattle.dm_read_heads.specs.Heads.{item_of}
+use Rattle.dm_read_heads.specs.Members.{Signature, named_signature, method_of}
 
 -- ---- how many trees there are
 
@@ -52,8 +53,7 @@ unnamed ts = then (const_fn (next ts)) (λ c. then (behind_fn c.1) (λ b. Some (
 
 -- the parts together
 abbrev pub made_method : List ItemAttr → Bool × Behind → MethodTree
-made_method as' b =
-    record { attrs = as'; is_const = b.0; name = b.1.0.0; receiver = b.1.0.1.0.0; param = b.1.0.1.0.1; output = b.1.0.1.1; body = b.1.1 }
+made_method as' b = method_of as' b.0 b.1.0.0 b.1.0.1 b.1.1
 
 abbrev pub method_turn : ℕ → Trees → Answer (Turn MethodTree (Unit {0}))
 method_turn n = turn_to_end (read_method leaves)
@@ -88,8 +88,7 @@ abbrev pub unmarked : Trees → Answer (HeadTree × Members)
 unmarked ts = then (impl_after (next ts)) behind_impl
 
 abbrev pub made_item : List ItemAttr → HeadTree × Members → ItemTree
-made_item as' b =
-    record { attrs = as'; params = b.0.params; trait_path = b.0.trait_path; ty = b.0.ty; predicates = b.0.predicates; assocs = b.1.0; methods = b.1.1 }
+made_item as' b = item_of as' b.0 b.1.0 b.1.1
 
 abbrev pub item_turn : ℕ → Trees → Answer (Turn ItemTree (Unit {0}))
 item_turn n = turn_to_end (read_item item_leaves)
