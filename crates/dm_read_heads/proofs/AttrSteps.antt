@@ -4,9 +4,9 @@ use Rattle.std.proofs.lemmas.Grind.{common_steps}
 use Rattle.std.specs.Str.{bytes_eq}
 use Rattle.dm_stream.specs.declared.tokens.Delim.TheVariants.{Paren, Bracket, Brace}
 use Rattle.dm_stream.specs.declared.tokens.Ident.{Ident}
-use Rattle.dm_stream.specs.declared.tokens.Punct.{Punct}
 use Rattle.dm_stream.specs.declared.tokens.Span.{Span}
-use Rattle.dm_stream.specs.declared.tokens.Spacing.TheVariants.{Joint}
+use Rattle.dm_stream.specs.declared.tokens.Spacing.{Spacing}
+use Rattle.dm_stream.specs.declared.tokens.Spacing.TheVariants.{Joint, Alone}
 use Rattle.dm_stream.specs.declared.tokens.Token.TheVariants as t
 use Rattle.dm_stream.specs.Layout.{nowhere}
 use Rattle.dm_stream.specs.Trees.{Trees, no_trees, token, group, join}
@@ -19,7 +19,7 @@ use Rattle.dm_read_places.specs.declared.front.Sign.TheVariants as sign
 use Rattle.dm_read_places.specs.declared.list.Turn.TheVariants.{End}
 use Rattle.dm_read_places.specs.Fronts.{is_sign, is_group_next}
 use Rattle.dm_read_heads.proofs.AttrLists.{attrs_are}
-use Rattle.dm_read_heads.specs.Attrs.{behind_word, behind_lone, behind_joint, in_last_parens, inside_of, behind_dead_code, behind_clippy, holds, attr_at, attr_turn_at}
+use Rattle.dm_read_heads.specs.Attrs.{behind_word, is_spaced, behind_punct, in_last_parens, inside_of, behind_dead_code, behind_clippy, holds, attr_at, attr_turn_at}
 
 -- ---- a tree in front of others
 
@@ -39,24 +39,20 @@ or_false : (x : Bool) → (x || false) ≡ x
 or_false true = refl
 or_false false = refl
 
-lone_then : (ch : ℕ) (us ts : Trees) → same_words (join (spell.punct ch) us) ts ≡ holds (behind_lone ch ts) (same_words us)
-lone_then ch us no_trees = refl
-lone_then ch us (token (t.Ident i) ts) = refl
-lone_then ch us (token (t.Punct p) ts) =
-    ap (λ x. (x && (ch == p.ch)) && same_words us ts) (or_false (is_alone p.spacing)) ∙
-    kept (is_alone p.spacing && (ch == p.ch)) ts (same_words us)
-lone_then ch us (token (t.Literal l) ts) = refl
-lone_then ch us (token (t.Lifetime l) ts) = refl
-lone_then ch us (group d from inside upto ts) = refl
+spaced_same : (s q : Spacing) → ((is_alone s && is_alone q) || not (is_alone s || is_alone q)) ≡ is_spaced s q
+spaced_same Alone q = or_false (is_alone q)
+spaced_same Joint q = refl
 
-joint_first : (ch : ℕ) (s : Span) (us ts : Trees) →
-    same_words (token (t.Punct (record { ch = ch; spacing = Joint; span = s })) us) ts ≡ holds (behind_joint ch ts) (same_words us)
-joint_first ch s us no_trees = refl
-joint_first ch s us (token (t.Ident i) ts) = refl
-joint_first ch s us (token (t.Punct p) ts) = kept (not (is_alone p.spacing) && (ch == p.ch)) ts (same_words us)
-joint_first ch s us (token (t.Literal l) ts) = refl
-joint_first ch s us (token (t.Lifetime l) ts) = refl
-joint_first ch s us (group d from inside upto ts) = refl
+punct_then : (s : Spacing) (ch : ℕ) (at : Span) (us ts : Trees) →
+    same_words (token (t.Punct (record { ch = ch; spacing = s; span = at })) us) ts ≡ holds (behind_punct s ch ts) (same_words us)
+punct_then s ch at us no_trees = refl
+punct_then s ch at us (token (t.Ident i) ts) = refl
+punct_then s ch at us (token (t.Punct p) ts) =
+    ap (λ x. (x && (ch == p.ch)) && same_words us ts) (spaced_same s p.spacing) ∙
+    kept (is_spaced s p.spacing && (ch == p.ch)) ts (same_words us)
+punct_then s ch at us (token (t.Literal l) ts) = refl
+punct_then s ch at us (token (t.Lifetime l) ts) = refl
+punct_then s ch at us (group d from inside upto ts) = refl
 
 and_true : (x : Bool) → (x && true) ≡ x
 and_true true = refl
@@ -68,9 +64,9 @@ and_false false = refl
 
 -- what is left behind one tree is what another test is of
 module _ (us : Trees) where
-  lone_behind : (ch : ℕ) (o : Option Trees) → holds o (same_words (join (spell.punct ch) us)) ≡ holds (then o (behind_lone ch)) (same_words us)
+  lone_behind : (ch : ℕ) (o : Option Trees) → holds o (same_words (join (spell.punct ch) us)) ≡ holds (then o (behind_punct Alone ch)) (same_words us)
   lone_behind ch None = refl
-  lone_behind ch (Some ts) = lone_then ch us ts
+  lone_behind ch (Some ts) = punct_then Alone ch nowhere us ts
 
   parens_last : (ts : Trees) → same_words (spell.enclosed Paren us) ts ≡ holds (in_last_parens ts) (same_words us)
   parens_last no_trees = refl
@@ -86,9 +82,9 @@ module _ (us : Trees) where
   parens_behind (Some ts) = parens_last ts
 
   joint_behind : (o : Option Trees) →
-      holds o (same_words (join (spell.joint 58 58) us)) ≡ holds (then o (λ x. then (behind_joint 58 x) (behind_lone 58))) (same_words us)
+      holds o (same_words (join (spell.joint 58 58) us)) ≡ holds (then o (λ x. then (behind_punct Joint 58 x) (behind_punct Alone 58))) (same_words us)
   joint_behind None = refl
-  joint_behind (Some ts) = joint_first 58 nowhere (join (spell.punct 58) us) ts ∙ lone_behind 58 (behind_joint 58 ts)
+  joint_behind (Some ts) = punct_then Joint 58 nowhere (join (spell.punct 58) us) ts ∙ lone_behind 58 (behind_punct Joint 58 ts)
 
 -- ---- a word alone
 
@@ -97,17 +93,12 @@ nothing_left no_trees = refl
 nothing_left (token k ts) = refl
 nothing_left (group d from inside upto ts) = refl
 
-end_behind : (b : Bool) (ts : Trees) → (b && same_words no_trees ts) ≡ holds (provided b (Some ts)) at_end
-end_behind true ts = nothing_left ts
-end_behind false ts = refl
+last_behind : (o : Option Trees) → holds o (same_words no_trees) ≡ holds o at_end
+last_behind None = refl
+last_behind (Some ts) = nothing_left ts
 
 word_last : (w : List ℕ) (ts : Trees) → same_words (spell.word w) ts ≡ holds (behind_word w ts) at_end
-word_last w no_trees = refl
-word_last w (token (t.Ident i) ts) = end_behind (not i.raw && bytes_eq w i.name) ts
-word_last w (token (t.Punct p) ts) = refl
-word_last w (token (t.Literal l) ts) = refl
-word_last w (token (t.Lifetime l) ts) = refl
-word_last w (group d from inside upto ts) = refl
+word_last w ts = word_then w no_trees ts ∙ last_behind (behind_word w ts)
 
 pub word_found : (w : List ℕ) (ts us : Trees) → behind_word w ts ≡ Some us → same_words (spell.word w) ts ≡ at_end us
 word_found w ts us e = word_last w ts ∙ ap (λ o. holds o at_end) e

@@ -1,8 +1,12 @@
 -- What an attribute's brackets hold, tree by tree.
-use Rattle.std.specs.Prelude.{ℕ, ◌==◌, ◌&&◌, not, Bool, false, List, codes, Option, Some, None}
+use Rattle.std.specs.Prelude.{◌≡◌, ℕ, ◌==◌, ◌&&◌, not, Bool, false, List, codes, Option, Some, None, MatchOption}
 use Rattle.std.specs.Str.{bytes_eq}
+use Rattle.dm_stream.specs.declared.cursor.Cursor.{Cursor}
 use Rattle.dm_stream.specs.declared.tokens.Delim.TheVariants.{Paren}
+use Rattle.dm_stream.specs.declared.tokens.Spacing.{Spacing}
+use Rattle.dm_stream.specs.declared.tokens.Spacing.TheVariants.{Joint, Alone}
 use Rattle.dm_stream.specs.declared.tokens.Token.TheVariants as t
+use Rattle.dm_stream.specs.Cursors.{left}
 use Rattle.dm_stream.specs.Trees.{Trees, no_trees, token, group}
 use Rattle.dm_output.specs.declared.item.ItemAttr.{ItemAttr}
 use Rattle.dm_reread.specs.Next.{Next, hash, in_brackets, next}
@@ -12,20 +16,24 @@ use Rattle.dm_reread.specs.Items.{all_attrs, attr_among}
 use Rattle.dm_read_places.specs.declared.list.Turn.{Turn}
 use Rattle.dm_read_places.specs.declared.list.Turn.TheVariants.{One, End}
 
+-- a place before these trees, or none where there are none
+abbrev pub Gives : Option Trees → Option Cursor → Type 0
+Gives o place = MatchOption place (o ≡ None) (λ c. o ≡ Some (left c))
+
 -- what stands behind a word
 abbrev pub behind_word : List ℕ → Trees → Option Trees
 behind_word word (token (t.Ident i) ts) = provided (not i.raw && bytes_eq word i.name) (Some ts)
 behind_word word _ = None
 
--- what stands behind a punct that stands alone
-abbrev pub behind_lone : ℕ → Trees → Option Trees
-behind_lone ch (token (t.Punct p) ts) = provided (is_alone p.spacing && (ch == p.ch)) (Some ts)
-behind_lone ch _ = None
+-- whether a punct is spaced as one that is wanted
+abbrev pub is_spaced : Spacing → Spacing → Bool
+is_spaced Alone s = is_alone s
+is_spaced Joint s = not (is_alone s)
 
--- what stands behind a punct that touches what follows
-abbrev pub behind_joint : ℕ → Trees → Option Trees
-behind_joint ch (token (t.Punct p) ts) = provided (not (is_alone p.spacing) && (ch == p.ch)) (Some ts)
-behind_joint ch _ = None
+-- what stands behind a punct that stands alone, or touches what follows
+abbrev pub behind_punct : Spacing → ℕ → Trees → Option Trees
+behind_punct spacing ch (token (t.Punct p) ts) = provided (is_spaced spacing p.spacing && (ch == p.ch)) (Some ts)
+behind_punct spacing ch _ = None
 
 -- the inside of parentheses that nothing follows
 abbrev pub in_last_parens : Trees → Option Trees
@@ -38,11 +46,11 @@ inside_of word ts = then (behind_word word ts) in_last_parens
 
 -- what stands behind `dead_code ,`
 abbrev pub behind_dead_code : Trees → Option Trees
-behind_dead_code ts = then (behind_word (codes "dead_code") ts) (behind_lone 44)
+behind_dead_code ts = then (behind_word (codes "dead_code") ts) (behind_punct Alone 44)
 
 -- what stands behind `clippy ::`
 abbrev pub behind_clippy : Trees → Option Trees
-behind_clippy ts = then (behind_word (codes "clippy") ts) (λ us. then (behind_joint 58 us) (behind_lone 58))
+behind_clippy ts = then (behind_word (codes "clippy") ts) (λ us. then (behind_punct Joint 58 us) (behind_punct Alone 58))
 
 -- whether there is something for which a test holds
 abbrev pub holds : {A : Type 0} → Option A → (A → Bool) → Bool

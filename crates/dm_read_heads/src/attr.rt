@@ -1,7 +1,7 @@
 //! Attributes, by the words in their brackets.
 #![tactic(auto, using(crate::proofs::AttrSteps::attr_steps))]
 
-ghost use Rattle.std.specs.Prelude.{◌≡◌, ◌<◌, suc, map, None, Some, MatchOption, IfSome};
+ghost use Rattle.std.specs.Prelude.{◌≡◌, ◌<◌, suc, map, IfSome};
 ghost use Rattle.dm_stream.specs.Cursors.{left, sound};
 ghost use Rattle.dm_stream.specs.declared.tokens.Delim.TheVariants.{Paren};
 ghost use Rattle.dm_stream.specs.Trees.{join};
@@ -32,9 +32,18 @@ fn is_alone(spacing: Spacing) -> bool
     }
 }
 
+fn is_spaced(wanted: Spacing, spacing: Spacing) -> bool
+    ensures { result ≡ spec.is_spaced wanted spacing }
+{
+    match wanted {
+        Spacing::Alone => is_alone(spacing),
+        Spacing::Joint => !is_alone(spacing),
+    }
+}
+
 fn behind_word<'t, 'a>(wanted: &str, c: Cursor<'t, 'a>) -> Option<Cursor<'t, 'a>>
     requires { sound c }
-    ensures gives { MatchOption result (spec.behind_word wanted.now (left c.entry) ≡ None) (λ r. spec.behind_word wanted.now (left c.entry) ≡ Some (left r)) }
+    ensures gives { spec.Gives (spec.behind_word wanted.now (left c.entry)) result }
     ensures sound { IfSome result (λ r. sound r) }
 {
     let (found, rest) = c.ident()?;
@@ -44,25 +53,13 @@ fn behind_word<'t, 'a>(wanted: &str, c: Cursor<'t, 'a>) -> Option<Cursor<'t, 'a>
     Some(rest)
 }
 
-fn behind_lone<'t, 'a>(ch: char, c: Cursor<'t, 'a>) -> Option<Cursor<'t, 'a>>
+fn behind_punct<'t, 'a>(spacing: Spacing, ch: char, c: Cursor<'t, 'a>) -> Option<Cursor<'t, 'a>>
     requires { sound c }
-    ensures gives { MatchOption result (spec.behind_lone ch (left c.entry) ≡ None) (λ r. spec.behind_lone ch (left c.entry) ≡ Some (left r)) }
+    ensures gives { spec.Gives (spec.behind_punct spacing ch (left c.entry)) result }
     ensures sound { IfSome result (λ r. sound r) }
 {
     let (found, rest) = c.punct()?;
-    if !(is_alone(found.spacing) && ch == found.ch) {
-        return None;
-    }
-    Some(rest)
-}
-
-fn behind_joint<'t, 'a>(ch: char, c: Cursor<'t, 'a>) -> Option<Cursor<'t, 'a>>
-    requires { sound c }
-    ensures gives { MatchOption result (spec.behind_joint ch (left c.entry) ≡ None) (λ r. spec.behind_joint ch (left c.entry) ≡ Some (left r)) }
-    ensures sound { IfSome result (λ r. sound r) }
-{
-    let (found, rest) = c.punct()?;
-    if !(!is_alone(found.spacing) && ch == found.ch) {
+    if !(is_spaced(spacing, found.spacing) && ch == found.ch) {
         return None;
     }
     Some(rest)
@@ -70,7 +67,7 @@ fn behind_joint<'t, 'a>(ch: char, c: Cursor<'t, 'a>) -> Option<Cursor<'t, 'a>>
 
 fn in_last_parens<'t, 'a>(c: Cursor<'t, 'a>) -> Option<Cursor<'t, 'a>>
     requires { sound c }
-    ensures gives { MatchOption result (spec.in_last_parens (left c.entry) ≡ None) (λ r. spec.in_last_parens (left c.entry) ≡ Some (left r)) }
+    ensures gives { spec.Gives (spec.in_last_parens (left c.entry)) result }
     ensures sound { IfSome result (λ r. sound r) }
 {
     let (inside, rest) = c.group(Delim::Paren)?;
@@ -82,7 +79,7 @@ fn in_last_parens<'t, 'a>(c: Cursor<'t, 'a>) -> Option<Cursor<'t, 'a>>
 
 fn inside_of<'t, 'a>(wanted: &str, c: Cursor<'t, 'a>) -> Option<Cursor<'t, 'a>>
     requires { sound c }
-    ensures gives { MatchOption result (spec.inside_of wanted.now (left c.entry) ≡ None) (λ r. spec.inside_of wanted.now (left c.entry) ≡ Some (left r)) }
+    ensures gives { spec.Gives (spec.inside_of wanted.now (left c.entry)) result }
     ensures sound { IfSome result (λ r. sound r) }
 {
     in_last_parens(behind_word(wanted, c)?)
@@ -90,19 +87,20 @@ fn inside_of<'t, 'a>(wanted: &str, c: Cursor<'t, 'a>) -> Option<Cursor<'t, 'a>>
 
 fn behind_dead_code<'t, 'a>(c: Cursor<'t, 'a>) -> Option<Cursor<'t, 'a>>
     requires { sound c }
-    ensures gives { MatchOption result (spec.behind_dead_code (left c.entry) ≡ None) (λ r. spec.behind_dead_code (left c.entry) ≡ Some (left r)) }
+    ensures gives { spec.Gives (spec.behind_dead_code (left c.entry)) result }
     ensures sound { IfSome result (λ r. sound r) }
 {
-    behind_lone(',', behind_word("dead_code", c)?)
+    behind_punct(Spacing::Alone, ',', behind_word("dead_code", c)?)
 }
 
 fn behind_clippy<'t, 'a>(c: Cursor<'t, 'a>) -> Option<Cursor<'t, 'a>>
     requires { sound c }
-    ensures gives { MatchOption result (spec.behind_clippy (left c.entry) ≡ None) (λ r. spec.behind_clippy (left c.entry) ≡ Some (left r)) }
+    ensures gives { spec.Gives (spec.behind_clippy (left c.entry)) result }
     ensures sound { IfSome result (λ r. sound r) }
 {
     let rest = behind_word("clippy", c)?;
-    behind_lone(':', behind_joint(':', rest)?)
+    let second = behind_punct(Spacing::Joint, ':', rest)?;
+    behind_punct(Spacing::Alone, ':', second)
 }
 
 // ---- attributes
