@@ -240,11 +240,7 @@ fn is_plain(param: &GenericParam<'_>) -> bool
 fn is_lifetime(param: &GenericParam<'_>) -> bool
     ensures { result ≡ plain.is_lifetime (param_view param.now) }
 {
-    match param {
-        GenericParam::Lifetime(_) => true,
-        GenericParam::Ty(_) => false,
-        GenericParam::Const(_) => false,
-    }
+    matches!(param, GenericParam::Lifetime(_))
 }
 
 /// Whether a parameter is as implementations have it, where lifetimes may still come or not.
