@@ -22,44 +22,14 @@ pub(crate) enum Chosen {
     Consts,
 }
 
-fn is_lifetime(param: &GenericParam<'_>) -> bool
-    ensures { result ≡ implementors.is_lifetime (param_view param.now) }
-{
-    match param {
-        GenericParam::Lifetime(_) => true,
-        GenericParam::Ty(_) => false,
-        GenericParam::Const(_) => false,
-    }
-}
-
-fn is_type(param: &GenericParam<'_>) -> bool
-    ensures { result ≡ spec.is_type (param_view param.now) }
-{
-    match param {
-        GenericParam::Lifetime(_) => false,
-        GenericParam::Ty(_) => true,
-        GenericParam::Const(_) => false,
-    }
-}
-
-fn is_const(param: &GenericParam<'_>) -> bool
-    ensures { result ≡ spec.is_const (param_view param.now) }
-{
-    match param {
-        GenericParam::Lifetime(_) => false,
-        GenericParam::Ty(_) => false,
-        GenericParam::Const(_) => true,
-    }
-}
-
 fn is_chosen(param: &GenericParam<'_>, chosen: Chosen) -> bool
     ensures { result ≡ spec.chosen chosen (param_view param.now) }
 {
     match chosen {
-        Chosen::Lifetimes => is_lifetime(param),
-        Chosen::Others => !is_lifetime(param),
-        Chosen::Types => is_type(param),
-        Chosen::Consts => is_const(param),
+        Chosen::Lifetimes => matches!(param, GenericParam::Lifetime(_)),
+        Chosen::Others => !matches!(param, GenericParam::Lifetime(_)),
+        Chosen::Types => matches!(param, GenericParam::Ty(_)),
+        Chosen::Consts => matches!(param, GenericParam::Const(_)),
     }
 }
 
