@@ -8,7 +8,6 @@ ghost use Rattle.dm_ast.specs.Tree.{
   segment_view,
   arguments_view,
   argument_view,
-  segment as segment_tree,
   path_tree,
   segment_then,
   no_segments,
@@ -17,6 +16,7 @@ ghost use Rattle.dm_ast.specs.Tree.{
 ghost use Rattle.dm_ast.specs.Declarations.{declaration_view, generics_view, param_view, predicate_view};
 ghost use Rattle.dm_ast.specs.Implementors as spec;
 
+use crate::bounds::segment;
 use crate::lists::one;
 use crate::parameters::impl_params;
 use crate::types::{name_type, plain_type};
@@ -108,12 +108,6 @@ fn arguments<'a>(alloc: Global, params: &[GenericParam<'a>]) -> Made<PathArgumen
             trailing: false,
         },
     ))
-}
-
-fn segment<'a>(ident: Ident<'a>, arguments: PathArguments<'a>) -> PathSegment<'a>
-    ensures { segment_view result ≡ segment_tree ident.entry (arguments_view arguments.entry) }
-{
-    PathSegment { ident, arguments }
 }
 
 /// A path of one segment.
