@@ -3,6 +3,7 @@
 use crate::clone_emitted::CloneEmitted;
 use crate::copy_expr::{copy_arm, copy_block, copy_body, copy_expr, copy_stmt};
 use crate::copy_parts::field_of;
+use crate::node::tree_of;
 use dm_output::{Arm, ArmBody, Block, Expr, NamedExpr, Stmt};
 use dm_stream::Made;
 use std::alloc::Global;
@@ -16,10 +17,7 @@ impl<'a> CloneEmitted for Expr<'a> {
     ghost shape = { expr_view };
 
     fn clone_in(&self, alloc: Global) -> Made<Self> {
-        match copy_expr(self, alloc) {
-            Ok(node) => Ok(node.into_tree()),
-            Err(error) => Err(error),
-        }
+        tree_of(copy_expr(self, alloc))
     }
 }
 
@@ -33,10 +31,7 @@ impl<'a> CloneEmitted for NamedExpr<'a> {
     ghost shape = { named_expr_view };
 
     fn clone_in(&self, alloc: Global) -> Made<Self> {
-        match field_of(self, alloc, copy_expr(&self.value, alloc)) {
-            Ok(node) => Ok(node.into_tree()),
-            Err(error) => Err(error),
-        }
+        tree_of(field_of(self, alloc, copy_expr(&self.value, alloc)))
     }
 }
 
@@ -49,10 +44,7 @@ impl<'a> CloneEmitted for Block<'a> {
     ghost shape = { block_view };
 
     fn clone_in(&self, alloc: Global) -> Made<Self> {
-        match copy_block(self, alloc) {
-            Ok(node) => Ok(node.into_tree()),
-            Err(error) => Err(error),
-        }
+        tree_of(copy_block(self, alloc))
     }
 }
 
@@ -65,10 +57,7 @@ impl<'a> CloneEmitted for Stmt<'a> {
     ghost shape = { stmt_view };
 
     fn clone_in(&self, alloc: Global) -> Made<Self> {
-        match copy_stmt(self, alloc) {
-            Ok(node) => Ok(node.into_tree()),
-            Err(error) => Err(error),
-        }
+        tree_of(copy_stmt(self, alloc))
     }
 }
 
@@ -81,10 +70,7 @@ impl<'a> CloneEmitted for Arm<'a> {
     ghost shape = { arm_view };
 
     fn clone_in(&self, alloc: Global) -> Made<Self> {
-        match copy_arm(self, alloc) {
-            Ok(node) => Ok(node.into_tree()),
-            Err(error) => Err(error),
-        }
+        tree_of(copy_arm(self, alloc))
     }
 }
 
@@ -97,9 +83,6 @@ impl<'a> CloneEmitted for ArmBody<'a> {
     ghost shape = { body_view };
 
     fn clone_in(&self, alloc: Global) -> Made<Self> {
-        match copy_body(self, alloc) {
-            Ok(node) => Ok(node.into_tree()),
-            Err(error) => Err(error),
-        }
+        tree_of(copy_body(self, alloc))
     }
 }

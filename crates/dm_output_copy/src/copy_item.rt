@@ -9,7 +9,7 @@ ghost use Rattle.dm_output_copy.specs.Parts.{item_parts, method_parts};
 
 use crate::clone_emitted::CloneEmitted;
 use crate::copy_expr::copy_block;
-use crate::node::{made, with_part};
+use crate::node::{made, tree_of, with_part};
 use dm_ast::{GenericParam, Path, Ty, WherePredicate};
 use dm_copy::{CloneIn, both};
 use dm_expansion::Expansion;
@@ -28,10 +28,7 @@ impl<'a> CloneEmitted for Item<'a> {
     ghost shape = { item_view };
 
     fn clone_in(&self, alloc: Global) -> Made<Self> {
-        match copy_item(self, alloc) {
-            Ok(node) => Ok(node.into_tree()),
-            Err(error) => Err(error),
-        }
+        tree_of(copy_item(self, alloc))
     }
 }
 
@@ -131,10 +128,7 @@ impl<'a> CloneEmitted for Method<'a> {
     ghost shape = { method_view };
 
     fn clone_in(&self, alloc: Global) -> Made<Self> {
-        match copy_method(self, alloc) {
-            Ok(node) => Ok(node.into_tree()),
-            Err(error) => Err(error),
-        }
+        tree_of(copy_method(self, alloc))
     }
 }
 

@@ -5,7 +5,7 @@ ghost use Rattle.dm_output.specs.declared.pattern.Pattern.TheViews.{out-NamedPat
 ghost use Rattle.dm_output.specs.Views.{pattern_view, named_view};
 
 use crate::clone_emitted::CloneEmitted;
-use crate::node::{made, made_of_two, with_part};
+use crate::node::{made, made_of_two, tree_of, with_part};
 use dm_copy::{CloneIn, both};
 use dm_gather::Gathers;
 use dm_output::{NamedPattern, Pattern};
@@ -24,10 +24,7 @@ impl<'a> CloneEmitted for Pattern<'a> {
     ghost shape = { pattern_view };
 
     fn clone_in(&self, alloc: Global) -> Made<Self> {
-        match copy_pattern(self, alloc) {
-            Ok(node) => Ok(node.into_tree()),
-            Err(error) => Err(error),
-        }
+        tree_of(copy_pattern(self, alloc))
     }
 }
 
@@ -40,10 +37,7 @@ impl<'a> CloneEmitted for NamedPattern<'a> {
     ghost shape = { named_view };
 
     fn clone_in(&self, alloc: Global) -> Made<Self> {
-        match field_of(self, alloc, copy_pattern(&self.pattern, alloc)) {
-            Ok(node) => Ok(node.into_tree()),
-            Err(error) => Err(error),
-        }
+        tree_of(field_of(self, alloc, copy_pattern(&self.pattern, alloc)))
     }
 }
 

@@ -3,7 +3,7 @@
 ghost use Rattle.std.specs.Prelude.{◌≡◌, [], ◌∷◌, ◌++◌, Ok, IfOk, IsOkAnd};
 
 use dm_copy::both;
-use dm_gather::Gathers;
+use dm_gather::{Gathers, Node};
 use dm_stream::Made;
 use std::alloc::Global;
 
@@ -65,6 +65,16 @@ pub(crate) fn with_part<T: Drop, L: Gathers<T>>(parts: L, part: Made<T>) -> Made
             parts.gather(part)?;
             Ok(parts)
         }
+        Err(error) => Err(error),
+    }
+}
+
+/// The tree of a node.
+pub(crate) fn tree_of<T: Drop>(node: Made<Node<T>>) -> Made<T>
+    ensures { IfOk result (λ t. node ≡ Ok t) }
+{
+    match node {
+        Ok(node) => Ok(node.into_tree()),
         Err(error) => Err(error),
     }
 }
