@@ -18,26 +18,7 @@ sign_of n =
 
 sign_back : (s : Sign) → sign_of (number s) ≡ s
 sign_back sign.OrOr = refl
-sign_back sign.AndAnd = refl
-sign_back sign.Equals = refl
-sign_back sign.Differs = refl
-sign_back sign.Star = refl
-sign_back sign.Amp = refl
-sign_back sign.Dot = refl
-sign_back sign.Asks = refl
-sign_back sign.Bangs = refl
-sign_back sign.Plus = refl
-sign_back sign.Less = refl
-sign_back sign.Hash = refl
-sign_back sign.Bar = refl
-sign_back sign.Comma = refl
-sign_back sign.Colon = refl
-sign_back sign.Semicolon = refl
-sign_back sign.Assigns = refl
-sign_back sign.Leads = refl
-sign_back sign.Arrow = refl
-sign_back sign.Colons = refl
-sign_back sign.Dots = refl
+sign_back _ = refl
 
 pub one_sign : (s t : Sign) → (number s == number t) ≡ true → s ≡ t
 one_sign s t e = sym (sign_back s) ∙ ap sign_of (eqb-true (number s) (number t) e) ∙ sign_back t
@@ -51,21 +32,7 @@ keyword_of_number n =
 
 keyword_back : (k : Keyword) → keyword_of_number (keyword_number k) ≡ k
 keyword_back keyword.Match = refl
-keyword_back keyword.Unsafe = refl
-keyword_back keyword.True = refl
-keyword_back keyword.False = refl
-keyword_back keyword.Let = refl
-keyword_back keyword.If = refl
-keyword_back keyword.Ref = refl
-keyword_back keyword.Mut = refl
-keyword_back keyword.Wild = refl
-keyword_back keyword.Return = refl
-keyword_back keyword.Use = refl
-keyword_back keyword.As = refl
-keyword_back keyword.Const = refl
-keyword_back keyword.Type = refl
-keyword_back keyword.Fn = refl
-keyword_back keyword.Impl = refl
+keyword_back _ = refl
 
 pub one_keyword : (k l : Keyword) → (keyword_number k == keyword_number l) ≡ true → k ≡ l
 one_keyword k l e =
@@ -74,21 +41,7 @@ one_keyword k l e =
 -- a keyword is told from another by its word
 pub other_keyword : (f k : Keyword) → (keyword_number f == keyword_number k) ≡ false → same_keyword k (keyword_word f) ≡ false
 other_keyword keyword.Match k e = e
-other_keyword keyword.Unsafe k e = e
-other_keyword keyword.True k e = e
-other_keyword keyword.False k e = e
-other_keyword keyword.Let k e = e
-other_keyword keyword.If k e = e
-other_keyword keyword.Ref k e = e
-other_keyword keyword.Mut k e = e
-other_keyword keyword.Wild k e = e
-other_keyword keyword.Return k e = e
-other_keyword keyword.Use k e = e
-other_keyword keyword.As k e = e
-other_keyword keyword.Const k e = e
-other_keyword keyword.Type k e = e
-other_keyword keyword.Fn k e = e
-other_keyword keyword.Impl k e = e
+other_keyword _ k e = e
 
 pub ruleset sign_steps = (common_steps, one_sign)
 

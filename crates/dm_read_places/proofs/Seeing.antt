@@ -1,5 +1,5 @@
 -- What comes first, by what the calls of a cursor say.
-use Rattle.std.proofs.Common.{◌≡◌, ℕ, ◌==◌, Bool, true, false, cond, ◌&&◌, Some, None, refl, sym, ap, ◌∙◌, subst}
+use Rattle.std.proofs.Common.{◌≡◌, ℕ, ◌==◌, Bool, true, false, cond, ◌&&◌, ◌||◌, Some, None, refl, sym, ap, ◌∙◌, subst}
 use Rattle.std.proofs.lemmas.Grind.{common_steps}
 use Rattle.dm_stream.specs.declared.tokens.Delim.{Delim}
 use Rattle.dm_stream.specs.declared.tokens.Delim.TheVariants.{Paren, Bracket, Brace}
@@ -27,26 +27,7 @@ use Rattle.dm_read_places.specs.Fronts.{number, sign_next, same_sign, is_sign, i
 
 sign_found : (f s : Sign) (ts : Trees) → is_sign s (sign_next f ts) ≡ same_sign f s
 sign_found sign.OrOr s ts = refl
-sign_found sign.AndAnd s ts = refl
-sign_found sign.Equals s ts = refl
-sign_found sign.Differs s ts = refl
-sign_found sign.Star s ts = refl
-sign_found sign.Amp s ts = refl
-sign_found sign.Dot s ts = refl
-sign_found sign.Asks s ts = refl
-sign_found sign.Bangs s ts = refl
-sign_found sign.Plus s ts = refl
-sign_found sign.Less s ts = refl
-sign_found sign.Hash s ts = refl
-sign_found sign.Bar s ts = refl
-sign_found sign.Comma s ts = refl
-sign_found sign.Colon s ts = refl
-sign_found sign.Semicolon s ts = refl
-sign_found sign.Assigns s ts = refl
-sign_found sign.Leads s ts = refl
-sign_found sign.Arrow s ts = refl
-sign_found sign.Colons s ts = refl
-sign_found sign.Dots s ts = refl
+sign_found _ s ts = refl
 
 pub other_sign : (f s : Sign) (n : Next) (ts : Trees) → n ≡ sign_next f ts → (number f == number s) ≡ false → is_sign s n ≡ false
 other_sign f s n ts e h = ap (is_sign s) e ∙ sign_found f s ts ∙ h
@@ -76,11 +57,7 @@ second_punct a ts us p e = ap (joint_next a) (punct_front ts us p e)
 
 pub no_second_punct : (a : ℕ) (ts : Trees) → first_punct ts ≡ None → is_any_sign (joint_next a ts) ≡ false
 no_second_punct a (token (t.Punct p) us) e = absurd (cc)
-no_second_punct a (token (t.Ident i) us) e = refl
-no_second_punct a (token (t.Literal l) us) e = refl
-no_second_punct a (token (t.Lifetime l) us) e = refl
-no_second_punct a no_trees e = refl
-no_second_punct a (group d from inside upto us) e = refl
+no_second_punct a _ e = refl
 
 pub punct_first : (ts us : Trees) (p : Punct) → first_punct ts ≡ Some (p, us) → next ts ≡ punct_next p.spacing p.ch us
 punct_first ts us p e = ap next (punct_front ts us p e)
@@ -91,8 +68,7 @@ word_signs _ i ts = refl
 
 group_signs : (d : Delim) (us ts : Trees) → is_any_sign (group_next d us ts) ≡ false
 group_signs Paren us ts = refl
-group_signs Brace us ts = refl
-group_signs Bracket us ts = refl
+group_signs _ us ts = refl
 
 pub no_punct_first : (ts : Trees) → first_punct ts ≡ None → is_any_sign (next ts) ≡ false
 no_punct_first (token (t.Punct p) us) e = absurd (cc)
@@ -102,16 +78,13 @@ no_punct_first (token (t.Lifetime l) us) e = refl
 no_punct_first no_trees e = refl
 no_punct_first (group d from inside upto us) e = group_signs d inside us
 
+abbrev is_other : Next → Bool
+is_other other = true
+is_other _ = false
+
 -- a punct is a sign, or nothing that is read
 abbrev is_mark : Next → Bool
-is_mark ended = false
-is_mark (in_parens inside ts) = false
-is_mark (in_braces inside ts) = false
-is_mark (in_brackets inside ts) = false
-is_mark (literal l ts) = false
-is_mark (a_name i ts) = false
-is_mark (a_word w ts) = false
-is_mark _ = true
+is_mark n = is_any_sign n || is_other n
 
 either_mark : (b : Bool) (m n : Next) → is_mark m ≡ true → is_mark n ≡ true → is_mark (cond b m n) ≡ true
 either_mark true m n h k = h
@@ -173,21 +146,7 @@ word_first ts us i e = ap next (ident_front ts us i e)
 
 word_keyword : (k : Keyword) (i : Ident) (ts : Trees) → word_next (keyword_word k) i ts ≡ a_word (keyword_word k) ts
 word_keyword keyword.Match i ts = refl
-word_keyword keyword.Unsafe i ts = refl
-word_keyword keyword.True i ts = refl
-word_keyword keyword.False i ts = refl
-word_keyword keyword.Let i ts = refl
-word_keyword keyword.If i ts = refl
-word_keyword keyword.Ref i ts = refl
-word_keyword keyword.Mut i ts = refl
-word_keyword keyword.Wild i ts = refl
-word_keyword keyword.Return i ts = refl
-word_keyword keyword.Use i ts = refl
-word_keyword keyword.As i ts = refl
-word_keyword keyword.Const i ts = refl
-word_keyword keyword.Type i ts = refl
-word_keyword keyword.Fn i ts = refl
-word_keyword keyword.Impl i ts = refl
+word_keyword _ i ts = refl
 
 pub keyword_first : (ts us : Trees) (i : Ident) (w : Kind) (k : Keyword) → first_ident ts ≡ Some (i, us) → word_of w ≡ words.kind i →
     w ≡ kinds.Keyword k →
@@ -289,18 +248,15 @@ word_group Bracket _ i ts = refl
 
 literal_group : (d : Delim) (l : Literal) (ts : Trees) → is_group_next d (literal l ts) ≡ false
 literal_group Paren l ts = refl
-literal_group Brace l ts = refl
-literal_group Bracket l ts = refl
+literal_group _ l ts = refl
 
 other_group : (d : Delim) → is_group_next d other ≡ false
 other_group Paren = refl
-other_group Brace = refl
-other_group Bracket = refl
+other_group _ = refl
 
 ended_group : (d : Delim) → is_group_next d ended ≡ false
 ended_group Paren = refl
-ended_group Brace = refl
-ended_group Bracket = refl
+ended_group _ = refl
 
 delim_other : (d e : Delim) (inside us : Trees) (upto : Span) → group_if (same_delim e d) inside upto us ≡ None →
     is_group_next d (group_next e inside us) ≡ false
