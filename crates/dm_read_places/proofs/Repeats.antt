@@ -1,7 +1,8 @@
 -- A turn of a list that goes on, and one that ends it.
-use Rattle.std.proofs.Common.{◌≡◌, ℕ, suc, List, [], ◌∷◌, ◌++◌, Some, None, option_map, refl, sym, ap, ◌∙◌, append_assoc, append-nil}
+use Rattle.std.proofs.Common.{◌≡◌, ℕ, suc, List, [], ◌∷◌, ◌++◌, map, Some, None, option_map, refl, sym, ap, ◌∙◌, append_assoc, append-nil}
 use Rattle.std.proofs.lemmas.Grind.{common_steps}
 use Rattle.dm_stream.specs.Trees.{Trees}
+use Rattle.dm_read.proofs.Loops.{map_added}
 use Rattle.dm_read_places.specs.declared.list.Turn.{Turn}
 use Rattle.dm_read_places.specs.declared.list.Turn.TheVariants.{One, End}
 use Rattle.dm_reread.specs.Leaves.{Answer}
@@ -27,6 +28,21 @@ module _ {A B : Type 0} (turn : ℕ → Trees → Answer (Turn A B)) where
 
   pub refuses : (n : ℕ) (xs : List A) (ts : Trees) → turn n ts ≡ None → option_map (behind_parts xs) (repeat turn (suc n) ts) ≡ None
   refuses n xs ts h = ap (λ t. option_map (behind_parts xs) (then t (λ s. after_turn (repeat turn n) s.0 s.1))) h
+
+  -- a loop that holds the parts, of which one is added
+  pub part_held : {X : Type 0} (view : X → A) {all : Answer (List A × B)} (held new : List X) (x : X) {n : ℕ} (m : ℕ) {ts us : Trees} → n ≡ suc m →
+      all ≡ option_map (behind_parts (map view held)) (repeat turn n ts) → turn m ts ≡ Some (One (view x), us) → new ≡ held ++ x ∷ [] →
+      all ≡ option_map (behind_parts (map view new)) (repeat turn m us)
+  part_held view held new x m {ts} {us} left is_all is_turn added =
+      is_all ∙ ap (λ k. option_map (behind_parts (map view held)) (repeat turn k ts)) left ∙
+      goes_on m (map view held) (view x) ts us is_turn ∙
+      ap (λ xs. option_map (behind_parts xs) (repeat turn m us)) (sym (map_added view held new x added))
+
+  -- the same loop at the end
+  pub end_held : {X : Type 0} (view : X → A) {all : Answer (List A × B)} (held : List X) (e : B) {n : ℕ} (m : ℕ) {ts us : Trees} → n ≡ suc m →
+      all ≡ option_map (behind_parts (map view held)) (repeat turn n ts) → turn m ts ≡ Some (End e, us) → all ≡ Some ((map view held, e), us)
+  end_held view held e m {ts} {us} left is_all is_turn =
+      is_all ∙ ap (λ k. option_map (behind_parts (map view held)) (repeat turn k ts)) left ∙ ends m (map view held) e ts us is_turn
 
   pub front : (o : Answer (List A × B)) → o ≡ option_map (behind_parts []) o
   front None = refl
