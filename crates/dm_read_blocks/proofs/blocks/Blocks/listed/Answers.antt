@@ -1,26 +1,20 @@
 -- A turn that goes on, and one that ends the list.
-use Rattle.std.proofs.Common.{◌≡◌, ◌∙◌, suc, ◌-◌, map, option_map, Some, sym, ap, arith}
+use Rattle.std.proofs.Common.{◌≡◌, ◌∙◌, suc, ◌-◌, Some, ap, arith}
 use Rattle.dm_output.specs.Views.{arm_view}
-use Rattle.dm_read.proofs.Loops.{map_added}
-use Rattle.dm_read_places.specs.Repeating.{turn_view, repeat, behind_parts}
-use Rattle.dm_read_places.proofs.Repeats.{goes_on, ends}
+use Rattle.dm_read_places.specs.Repeating.{turn_view}
+use Rattle.dm_read_places.proofs.Repeats.{part_held, end_held}
 use Rattle.dm_read_blocks.specs.Turns.{arm_turn}
 use Rattle.dm_read_blocks.proofs.blocks.Blocks.listed.Goals as goal
 
 pub loop-left-preserved : goal.loop-left-preserved
 loop-left-preserved g c =
-    let parts = map arm_view c.loop-left.found in
     let left : c.loop-left.left ≡ suc (c.loop-left.left - 1) = omega arith in
-    let added = map_added arm_view c.loop-left.found c.gather.new.self c.in-Ok-One.arm c.in_ok-gather-in-Ok-One.ensures.added in
     let turn = c.in-Ok-One.ensures ∙ ap (λ t. Some (turn_view arm_view (λ u. u) t, c.arm_turn.new.place)) c.in-Ok-One.field-0-is in
-    c.loop-left.invariant ∙ ap (λ n. option_map (behind_parts parts) (repeat arm_turn n c.loop-left.place)) left ∙
-    goes_on arm_turn (c.loop-left.left - 1) parts (arm_view c.in-Ok-One.arm) c.loop-left.place c.arm_turn.new.place turn ∙
-    ap (λ xs. option_map (behind_parts xs) (repeat arm_turn (c.loop-left.left - 1) c.arm_turn.new.place)) (sym added)
+    part_held arm_turn arm_view c.loop-left.found c.gather.new.self c.in-Ok-One.arm (c.loop-left.left - 1) left c.loop-left.invariant turn
+    c.in_ok-gather-in-Ok-One.ensures.added
 
 pub returns-in-Ok-End : goal.returns-in-Ok-End
 returns-in-Ok-End g c =
-    let parts = map arm_view c.loop-left.found in
     let left : c.loop-left.left ≡ suc (c.loop-left.left - 1) = omega arith in
     let turn = c.in-Ok-End.ensures ∙ ap (λ t. Some (turn_view arm_view (λ u. u) t, c.arm_turn.new.place)) c.in-Ok-End.field-0-is in
-    c.loop-left.invariant ∙ ap (λ n. option_map (behind_parts parts) (repeat arm_turn n c.loop-left.place)) left ∙
-    ends arm_turn (c.loop-left.left - 1) parts c.in-Ok-End.none c.loop-left.place c.arm_turn.new.place turn
+    end_held arm_turn arm_view c.loop-left.found c.in-Ok-End.none (c.loop-left.left - 1) left c.loop-left.invariant turn
