@@ -7,3 +7,4 @@ pub mod ToEnd
 pub mod Expecting
 pub mod PathSteps
 pub mod Same
+pub mod Thens
