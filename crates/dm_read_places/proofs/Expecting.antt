@@ -1,7 +1,7 @@
 -- What has to come next, and doesn't.
 use Rattle.std.proofs.Common.{◌≡◌, true, false, Some, None, refl}
 use Rattle.std.proofs.lemmas.Grind.{common_steps}
-use Rattle.dm_stream.specs.Trees.{Trees, no_trees, token, group}
+use Rattle.dm_stream.specs.Trees.{Trees, no_trees}
 use Rattle.dm_ast.specs.Spelling.{at_end}
 use Rattle.dm_read_places.specs.declared.front.Sign.TheVariants as sign
 use Rattle.dm_reread.specs.Next.{k_as, k_wild, Next, comma, colon, semicolon, leads, assigns, plus, literal, a_name, a_word}
@@ -52,12 +52,10 @@ not_declared _ e = refl
 
 pub all_read : (ts : Trees) → at_end ts ≡ true → ts ≡ no_trees
 all_read no_trees e = refl
-all_read (token k ts) e = absurd (cc)
-all_read (group d from inside upto ts) e = absurd (cc)
+all_read _ e = absurd (cc)
 
 pub whole_open : {A : Type 0} (x : A) (ts : Trees) → at_end ts ≡ false → whole (Some (x, ts)) ≡ None
 whole_open x no_trees e = absurd (cc)
-whole_open x (token k ts) e = refl
-whole_open x (group d from inside upto ts) e = refl
+whole_open x _ e = refl
 
 pub ruleset expect_steps = (common_steps, no_comma, no_colon, no_semicolon, no_leads, no_assigns, no_plus, no_as, no_wild, no_int, not_declared, all_read)

@@ -1,8 +1,8 @@
 -- The rows of paths.
-use Rattle.std.proofs.Common.{◌≡◌, Bool, false, Some, None, refl}
+use Rattle.std.proofs.Common.{◌≡◌, Bool, false, Some, None, refl, sym}
 use Rattle.std.proofs.lemmas.Grind.{common_steps}
 use Rattle.dm_stream.specs.Trees.{Trees}
-use Rattle.dm_ast.specs.Tree.{PathTree, SegmentTree, SegmentTrees, segment, absent, segment_then, path_tree}
+use Rattle.dm_ast.specs.Tree.{PathTree, SegmentTrees, segment_then, path_tree}
 use Rattle.dm_read_places.specs.declared.front.Sign.TheVariants as sign
 use Rattle.dm_read_places.specs.declared.list.Turn.TheVariants.{End}
 use Rattle.dm_reread.specs.Next.{Next, colons, a_name}
@@ -11,6 +11,7 @@ use Rattle.dm_reread.specs.Reading.{then, Readers, path_from, plain_path}
 use Rattle.dm_read_places.specs.Fronts.{is_sign, is_name_next}
 use Rattle.dm_read_places.specs.Turns.{segment_at, segment_turn_at}
 use Rattle.dm_read_places.proofs.Lists.{segments_are}
+use Rattle.dm_read_places.proofs.Thens.{then_on}
 
 pub no_segment : (n : Next) → is_name_next n ≡ false → segment_at n ≡ None
 no_segment (a_name i ts) e = absurd (cc)
@@ -24,15 +25,12 @@ pub no_colons : (r : Readers) (n : Next) → is_sign sign.Colons n ≡ false →
 no_colons r (colons us) e = absurd (cc)
 no_colons r _ e = refl
 
-behind_first : (b : Bool) (s : SegmentTree) (o : Answer SegmentTrees) →
-    then {A = SegmentTrees × Trees} {B = PathTree × Trees} (then o (λ x. Some (segment_then s x.0, x.1))) (λ x. Some (path_tree b x.0, x.1)) ≡
-    then o (λ x. Some (path_tree b (segment_then s x.0), x.1))
-behind_first b s None = refl
-behind_first b s (Some x) = refl
+abbrev PathOf : Bool → Answer SegmentTrees → Answer PathTree
+PathOf b o = then o (λ x. Some (path_tree b x.0, x.1))
 
 pub path_is : (r : Readers) (b : Bool) (n : Next) →
     path_from r b n ≡ then (segment_at n) (λ a. then (r.segments a.1) (λ s. Some (path_tree b (segment_then a.0 s.0), s.1)))
-path_is r b (a_name i ts) = behind_first b (segment i absent) (r.segments ts)
+path_is r b (a_name i ts) = sym (then_on (PathOf b) refl (r.segments ts) _ _ (λ x. refl))
 path_is r b _ = refl
 
 pub ruleset path_steps = (common_steps, no_segment, segments_end, no_colons, path_is, segments_are)
