@@ -4,7 +4,7 @@ use Rattle.std.proofs.lemmas.Grind.{common_steps}
 use Rattle.dm_stream.specs.declared.tokens.Ident.{Ident}
 use Rattle.dm_stream.specs.declared.tokens.Punct.{Punct}
 use Rattle.dm_stream.specs.declared.tokens.Token.TheVariants as t
-use Rattle.dm_stream.specs.Trees.{Trees, no_trees, token, group}
+use Rattle.dm_stream.specs.Trees.{Trees, no_trees, token}
 use Rattle.dm_stream.specs.Cursors.{first_punct, first_ident}
 use Rattle.dm_ast.specs.Spelling.{at_end}
 use Rattle.dm_read.proofs.Seeing.{punct_front, ident_front}
@@ -19,20 +19,12 @@ use Rattle.dm_read_formats.proofs.FormatLists.{fmts_are}
 -- ---- a name in front of `=`
 
 pub no_alias_name : (ts : Trees) → first_ident ts ≡ None → alias_of ts ≡ None
-no_alias_name no_trees e = refl
 no_alias_name (token (t.Ident i) us) e = absurd (cc)
-no_alias_name (token (t.Punct p) us) e = refl
-no_alias_name (token (t.Literal l) us) e = refl
-no_alias_name (token (t.Lifetime l) us) e = refl
-no_alias_name (group d from inside upto us) e = refl
+no_alias_name _ e = refl
 
 mark_missing : (i : Ident) (us : Trees) → first_punct us ≡ None → alias_of (token (t.Ident i) us) ≡ None
-mark_missing i no_trees e = refl
 mark_missing i (token (t.Punct p) vs) e = absurd (cc)
-mark_missing i (token (t.Ident j) vs) e = refl
-mark_missing i (token (t.Literal l) vs) e = refl
-mark_missing i (token (t.Lifetime l) vs) e = refl
-mark_missing i (group d from inside upto vs) e = refl
+mark_missing i _ e = refl
 
 pub no_alias_mark : (ts us : Trees) (i : Ident) → first_ident ts ≡ Some (i, us) → first_punct us ≡ None → alias_of ts ≡ None
 no_alias_mark ts us i e f = ap alias_of (ident_front ts us i e) ∙ mark_missing i us f
@@ -55,8 +47,7 @@ no_alias ts us vs i p e f h = alias_is ts us vs i p e f ∙ ap (λ b. cond b (So
 
 pub formats_end : (ts : Trees) → at_end ts ≡ true → fmt_turn_at ts (next ts) ≡ Some (End tt, ts)
 formats_end no_trees e = refl
-formats_end (token k ts) e = absurd (cc)
-formats_end (group d from inside upto ts) e = absurd (cc)
+formats_end _ e = absurd (cc)
 
 pub formats_more : (ts : Trees) (m : Next) → (m ≡ ended → ⊥) → fmt_turn_at ts m ≡ one_fmt_arg m
 formats_more ts ended f = absurd (f refl)

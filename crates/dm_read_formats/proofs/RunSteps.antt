@@ -16,12 +16,8 @@ use Rattle.dm_read_formats.specs.Values.{closes}
 -- ---- the tree in front
 
 pub no_punct_closes : (ts : Trees) → first_punct ts ≡ None → closes ts ≡ true
-no_punct_closes no_trees e = refl
 no_punct_closes (token (t.Punct p) us) e = absurd (cc)
-no_punct_closes (token (t.Ident i) us) e = refl
-no_punct_closes (token (t.Literal l) us) e = refl
-no_punct_closes (token (t.Lifetime l) us) e = refl
-no_punct_closes (group d from inside upto us) e = refl
+no_punct_closes _ e = refl
 
 pub punct_closes : (ts us : Trees) (p : Punct) → first_punct ts ≡ Some (p, us) →
     closes ts ≡ ((not (nat_eq p.ch 60) || is_there (pair_at 60 62 ts)) && not (nat_eq p.ch 124))
@@ -55,8 +51,7 @@ open_here (group d from inside upto ws) us vs e h = absurd (cc)
 
 pub closed_end : (ts : Trees) → first_tree ts ≡ None → is_closed ts ≡ true
 closed_end no_trees e = refl
-closed_end (token k us) e = absurd (cc)
-closed_end (group d from inside upto us) e = absurd (cc)
+closed_end _ e = absurd (cc)
 
 -- ---- runs
 
