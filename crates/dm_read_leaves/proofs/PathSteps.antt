@@ -4,12 +4,11 @@ use Rattle.std.proofs.lemmas.Grind.{common_steps}
 use Rattle.dm_stream.specs.declared.tokens.Ident.{Ident}
 use Rattle.dm_stream.specs.declared.tokens.Punct.{Punct}
 use Rattle.dm_stream.specs.declared.tokens.Token.TheVariants as t
-use Rattle.dm_stream.specs.Trees.{Trees, no_trees, token, group}
+use Rattle.dm_stream.specs.Trees.{Trees, token}
 use Rattle.dm_stream.specs.Cursors.{first_punct, first_ident}
 use Rattle.dm_stream.specs.Sizes.{size}
 use Rattle.dm_expr.specs.Cuts.{after, and_then, pair_at, split_at}
-use Rattle.dm_ast.specs.Spelling.{at_end}
-use Rattle.dm_ast.specs.Tree.{TypeTree, type_tree, path, paren, tuple, slice, array, reference, pointer, bare_fn, trait_object, impl_trait, infer, never, macro_type, no_self, some_self, MaybeSelf, PathTree}
+use Rattle.dm_ast.specs.Tree.{TypeTree, type_tree, path, some_self, MaybeSelf, PathTree}
 use Rattle.dm_ast.specs.TypeTokens.{type_trees}
 use Rattle.dm_output.specs.Tokens.{path_expr_trees}
 use Rattle.dm_reread.specs.Leaves.{Answer}
@@ -18,34 +17,23 @@ use Rattle.dm_reread.specs.TypeLeaves.{read_type}
 use Rattle.dm_reread.specs.PathLeaves.{names_at, path_at, qualified_in}
 use Rattle.dm_reread.specs.ExactLeaves.{passed, has_entries, exactly, exact_qualified}
 use Rattle.dm_read.proofs.Seeing.{punct_front, ident_front}
+use Rattle.dm_read_places.proofs.Expecting.{whole_open}
 use Rattle.dm_read_leaves.specs.Leaves.{is_separated, unranged_type, cut_type, exact_cut}
 
 -- ---- names behind `::`
 
 pub no_first : (ts : Trees) → first_punct ts ≡ None → names_at ts ≡ Some (0, ts)
-no_first no_trees e = refl
 no_first (token (t.Punct p) us) e = absurd (cc)
-no_first (token (t.Ident i) us) e = refl
-no_first (token (t.Literal l) us) e = refl
-no_first (token (t.Lifetime l) us) e = refl
-no_first (group d from inside upto us) e = refl
+no_first _ e = refl
 
 second_missing : (p : Punct) (us : Trees) → first_punct us ≡ None → names_at (token (t.Punct p) us) ≡ Some (0, token (t.Punct p) us)
-second_missing p no_trees e = refl
 second_missing p (token (t.Punct q) vs) e = absurd (cc)
-second_missing p (token (t.Ident i) vs) e = refl
-second_missing p (token (t.Literal l) vs) e = refl
-second_missing p (token (t.Lifetime l) vs) e = refl
-second_missing p (group d from inside upto vs) e = refl
+second_missing p _ e = refl
 
 name_missing : (p q : Punct) (vs : Trees) → first_ident vs ≡ None →
     names_at (token (t.Punct p) (token (t.Punct q) vs)) ≡ Some (0, token (t.Punct p) (token (t.Punct q) vs))
-name_missing p q no_trees e = refl
-name_missing p q (token (t.Punct r) ws) e = refl
 name_missing p q (token (t.Ident i) ws) e = absurd (cc)
-name_missing p q (token (t.Literal l) ws) e = refl
-name_missing p q (token (t.Lifetime l) ws) e = refl
-name_missing p q (group d from inside upto ws) e = refl
+name_missing p q _ e = refl
 
 pub no_second : (ts us : Trees) (p : Punct) → first_punct ts ≡ Some (p, us) → first_punct us ≡ None → names_at ts ≡ Some (0, ts)
 no_second ts us p e f = subst (λ z. names_at z ≡ Some (0, z)) (sym (punct_front ts us p e)) (second_missing p us f)
@@ -98,19 +86,7 @@ no_path ts e = ap (λ o. and_then o names_at) e
 pub same_tokens : (x : TypeTree) (q : MaybeSelf × PathTree) → qualified_in x ≡ Some q → type_trees (unranged_type x) ≡ path_expr_trees q.0 q.1
 same_tokens (type_tree (path (some_self u n) p) range) q e =
     let f : (some_self u n, p) ≡ q = cc in ap (λ (r : MaybeSelf × PathTree). path_expr_trees r.0 r.1) f
-same_tokens (type_tree (path no_self p) range) q e = absurd (cc)
-same_tokens (type_tree (paren u) range) q e = absurd (cc)
-same_tokens (type_tree (tuple us b) range) q e = absurd (cc)
-same_tokens (type_tree (slice u) range) q e = absurd (cc)
-same_tokens (type_tree (array u o) range) q e = absurd (cc)
-same_tokens (type_tree (reference l b u) range) q e = absurd (cc)
-same_tokens (type_tree (pointer b u) range) q e = absurd (cc)
-same_tokens (type_tree (bare_fn f) range) q e = absurd (cc)
-same_tokens (type_tree (trait_object bs b) range) q e = absurd (cc)
-same_tokens (type_tree (impl_trait bs b) range) q e = absurd (cc)
-same_tokens (type_tree infer range) q e = absurd (cc)
-same_tokens (type_tree never range) q e = absurd (cc)
-same_tokens (type_tree (macro_type p d s) range) q e = absurd (cc)
+same_tokens _ q e = absurd (cc)
 
 same_path : (x : TypeTree) → qualified_in (unranged_type x) ≡ qualified_in x
 same_path (type_tree (path (some_self u n) p) range) = refl
@@ -162,9 +138,4 @@ qualified_is ts = path_cut ts (split_at (path_at ts) ts)
 pub no_exact_cut : (ts : Trees) → cut_type ts ≡ None → exactly type_trees ts (cut_type ts) ≡ None
 no_exact_cut ts e = ap (exactly type_trees ts) e
 
-pub whole_left : (x : TypeTree) (ts : Trees) → at_end ts ≡ false → whole (Some (x, ts)) ≡ None
-whole_left x no_trees e = absurd (cc)
-whole_left x (token k ts) e = refl
-whole_left x (group d from inside upto ts) e = refl
-
-pub ruleset path_steps = (common_steps, no_first, no_second, no_third, a_name_more, no_name_more, three_size, path_is, no_path, no_exact_cut, whole_left, qualified_is)
+pub ruleset path_steps = (common_steps, no_first, no_second, no_third, a_name_more, no_name_more, three_size, path_is, no_path, no_exact_cut, whole_open, qualified_is)
