@@ -22,32 +22,28 @@ use Rattle.dm_reread.specs.Reading.{then, provided, whole, Readers, comma_after,
 use Rattle.dm_read_places.specs.Fronts.{is_sign, is_keyword, is_literal_next, is_group_next}
 use Rattle.dm_read_places.specs.Turns.{rows, declared_at}
 use Rattle.dm_read_places.proofs.Expecting.{whole_open}
-use Rattle.dm_read_patterns.specs.PatternTurns.{bar_turn_at, pattern_turn, named_pattern_part, dots_turn, one_named_pattern, named_pattern_turn_at}
-use Rattle.dm_read_patterns.specs.PatternRows.{before_comma, behind_colon, field, last, pair, text, declared_name, name_or_path}
+use Rattle.dm_read_places.proofs.Thens.{then_on}
+use Rattle.dm_read_patterns.specs.PatternTurns.{bar_turn_at, pattern_turn, dots_turn, one_named_pattern, named_pattern_turn_at}
+use Rattle.dm_read_patterns.specs.PatternRows.{before_comma, field, pair, text, declared_name, name_or_path}
 use Rattle.dm_read_patterns.proofs.PatternLists.{bars_are, patterns_are, named_patterns_are}
 
 -- ---- turns
 
 pub pattern_end : (n : ℕ) (ts : Trees) → at_end ts ≡ true → pattern_turn n ts ≡ Some (End tt, ts)
 pattern_end n no_trees e = refl
-pattern_end n (token k ts) e = absurd (cc)
-pattern_end n (group d from inside upto ts) e = absurd (cc)
+pattern_end n _ e = absurd (cc)
 
 abbrev PartTurn : Type 0
 PartTurn = Turn PatternTree (Unit {0}) × Trees
 
+-- a part, where it was read
+abbrev OnePart : Answer PatternTree → Option PartTurn
+OnePart o = then o (λ a. Some (One a.0, a.1))
+
 one_before : (o : Answer PatternTree) →
     then {B = PartTurn} o (λ a. then (comma_after (next a.1)) (λ us. Some (One a.0, us))) ≡
-    then {A = PatternTree × Trees} {B = PartTurn} (then o (λ a. then (comma_after (next a.1)) (λ us. Some (a.0, us))))
-    (λ a. Some (One a.0, a.1))
-one_before None = refl
-one_before (Some a) = by (comma_after (next a.1))
-  where
-    by : (o : Option Trees) →
-        then {B = PartTurn} o (λ us. Some (One a.0, us)) ≡
-        then {A = PatternTree × Trees} {B = PartTurn} (then o (λ us. Some (a.0, us))) (λ a. Some (One a.0, a.1))
-    by None = refl
-    by (Some us) = refl
+    OnePart (then o (λ a. then (comma_after (next a.1)) (λ us. Some (a.0, us))))
+one_before o = then_on OnePart refl o _ _ (λ a. then_on OnePart refl (comma_after (next a.1)) _ _ (λ us. refl))
 
 pub pattern_more : (n : ℕ) (ts : Trees) → at_end ts ≡ false →
     pattern_turn n ts ≡ then {A = PatternTree × Trees} {B = PartTurn} (before_comma n ts) (λ a. Some (One a.0, a.1))
@@ -61,55 +57,32 @@ bars_end n ts _ e = refl
 
 pub fields_end : (n : ℕ) (ts : Trees) → at_end ts ≡ true → named_pattern_turn_at n ts (next ts) ≡ Some (End false, ts)
 fields_end n no_trees e = refl
-fields_end n (token k ts) e = absurd (cc)
-fields_end n (group d from inside upto ts) e = absurd (cc)
+fields_end n _ e = absurd (cc)
 
 pub dots_end : (ts : Trees) → ts ≡ no_trees → dots_turn ts ≡ Some (End true, ts)
 dots_end no_trees e = refl
-dots_end (token k ts) e = absurd (cc)
-dots_end (group d from inside upto ts) e = absurd (cc)
+dots_end _ e = absurd (cc)
 
 pub dots_open : (ts : Trees) → at_end ts ≡ false → dots_turn ts ≡ None
 dots_open no_trees e = absurd (cc)
-dots_open (token k ts) e = refl
-dots_open (group d from inside upto ts) e = refl
+dots_open _ e = refl
 
 abbrev FieldTurn : Type 0
 FieldTurn = Turn (Ident × PatternTree) Bool × Trees
 
-field_before : (i : Ident) (o : Answer PatternTree) →
-    then {B = FieldTurn} o (λ a. then (comma_after (next a.1)) (λ us. Some (One (i, a.0), us))) ≡
-    then {A = PatternTree × Trees} {B = FieldTurn} (then o (λ a. then (comma_after (next a.1)) (λ us. Some (a.0, us)))) (λ a. Some (One (i, a.0), a.1))
-field_before i None = refl
-field_before i (Some a) = by (comma_after (next a.1))
-  where
-    by : (o : Option Trees) →
-        then {B = FieldTurn} o (λ us. Some (One (i, a.0), us)) ≡
-        then {A = PatternTree × Trees} {B = FieldTurn} (then o (λ us. Some (a.0, us))) (λ a. Some (One (i, a.0), a.1))
-    by None = refl
-    by (Some us) = refl
+-- a field, and one of this name, where it was read
+abbrev OneField : Answer (Ident × PatternTree) → Option FieldTurn
+OneField o = then o (λ a. Some (One a.0, a.1))
 
-field_colon : (n : ℕ) (i : Ident) (o : Option Trees) →
-    then {B = FieldTurn} o (λ ts. then ((rows n).pattern ts) (λ a. then (comma_after (next a.1)) (λ us. Some (One (i, a.0), us)))) ≡
-    then {A = PatternTree × Trees} {B = FieldTurn} (then o (before_comma n)) (λ a. Some (One (i, a.0), a.1))
-field_colon n i None = refl
-field_colon n i (Some ts) = field_before i ((rows n).pattern ts)
-
-named_out : (i : Ident) (o : Answer PatternTree) →
-    then {A = PatternTree × Trees} {B = FieldTurn} o (λ a. Some (One (i, a.0), a.1)) ≡
-    then {A = (Ident × PatternTree) × Trees} {B = FieldTurn} (then o (λ a. Some ((i, a.0), a.1))) (λ a. Some (One a.0, a.1))
-named_out i None = refl
-named_out i (Some a) = refl
-
-field_named : (n : ℕ) (o : Answer Ident) →
-    then o (λ s. named_pattern_part n s.0 (next s.1)) ≡
-    then {A = (Ident × PatternTree) × Trees} {B = FieldTurn} (then o (λ s. then (behind_colon n s.1) (λ a. Some ((s.0, a.0), a.1)))) (λ a. Some (One a.0, a.1))
-field_named n None = refl
-field_named n (Some s) = field_colon n s.0 (colon_after (next s.1)) ∙ named_out s.0 (behind_colon n s.1)
+abbrev NamedField : Ident → Answer PatternTree → Option FieldTurn
+NamedField i o = OneField (then o (λ a. Some ((i, a.0), a.1)))
 
 field_here : (n : ℕ) (ts : Trees) →
     one_named_pattern n (next ts) ≡ then {A = (Ident × PatternTree) × Trees} {B = FieldTurn} (field n ts) (λ a. Some (One a.0, a.1))
-field_here n ts = field_named n (declared_at (next ts))
+field_here n ts =
+    then_on OneField refl (declared_at (next ts)) _ _ (λ s.
+    then_on (NamedField s.0) refl (colon_after (next s.1)) _ _ (λ us.
+    then_on (NamedField s.0) refl ((rows n).pattern us) _ _ (λ a. then_on (NamedField s.0) refl (comma_after (next a.1)) _ _ (λ vs. refl))))
 
 not_ended : (n : ℕ) (ts : Trees) (m : Next) → is_sign sign.Dots m ≡ false → (m ≡ ended → ⊥) → named_pattern_turn_at n ts m ≡ one_named_pattern n m
 not_ended n ts ended e f = absurd (f refl)
@@ -143,27 +116,16 @@ no_group_behind r p ts (in_parens inside us) e f = absurd (cc)
 no_group_behind r p ts (in_braces inside us) e f = absurd (cc)
 no_group_behind r p ts _ e f = refl
 
-pair_last : (a : PatternTree) (ts : Trees) (o : Option Trees) (f : Trees → Option PatternTree) →
-    then o (λ us. then (f us) (λ c. Some (pair_pattern a c, ts))) ≡
-    then {A = PatternTree} {B = PatternTree × Trees} (then (then o f) (λ c. Some (pair_pattern a c))) (λ e. Some (e, ts))
-pair_last a ts None f = refl
-pair_last a ts (Some us) f = by (f us)
-  where
-    by : (o : Option PatternTree) →
-        then o (λ c. Some (pair_pattern a c, ts)) ≡
-        then {A = PatternTree} {B = PatternTree × Trees} (then o (λ c. Some (pair_pattern a c))) (λ e. Some (e, ts))
-    by None = refl
-    by (Some c) = refl
+-- a pattern, and the trees that are left
+abbrev Left : Trees → Option PatternTree → Answer PatternTree
+Left ts o = then o (λ e. Some (e, ts))
 
 pub pair_is : (n : ℕ) (inside ts : Trees) →
     pair_from (rows n) inside ts ≡ then {A = PatternTree} {B = PatternTree × Trees} (pair n inside) (λ e. Some (e, ts))
-pair_is n inside ts = by ((rows n).pattern inside)
-  where
-    by : (o : Answer PatternTree) →
-        then o (λ a. then (comma_after (next a.1)) (λ us. then (whole ((rows n).pattern us)) (λ c. Some (pair_pattern a.0 c, ts)))) ≡
-        then {A = PatternTree} {B = PatternTree × Trees} (then o (λ a. then (last n a.1) (λ c. Some (pair_pattern a.0 c)))) (λ e. Some (e, ts))
-    by None = refl
-    by (Some a) = pair_last a.0 ts (comma_after (next a.1)) (λ us. whole ((rows n).pattern us))
+pair_is n inside ts =
+    then_on (Left ts) refl ((rows n).pattern inside) _ _ (λ a.
+    then_on (λ o. Left ts (then o (λ c. Some (pair_pattern a.0 c)))) refl (comma_after (next a.1)) _ _ (λ us.
+    then_on (Left ts) refl (whole ((rows n).pattern us)) _ _ (λ c. refl)))
 
 pub text_is : (r : Readers) (l : Literal) (ts : Trees) →
     read_pattern r (literal l ts) ≡ then {A = PatternTree} {B = PatternTree × Trees} (text l) (λ e. Some (e, ts))
