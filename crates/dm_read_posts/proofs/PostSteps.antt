@@ -1,10 +1,10 @@
 -- The rows of members, methods and `?`.
-use Rattle.std.proofs.Common.{◌≡◌, ℕ, not, Bool, true, false, Option, Some, None, refl}
+use Rattle.std.proofs.Common.{◌≡◌, ℕ, not, Bool, true, false, Some, None, refl}
 use Rattle.std.proofs.lemmas.Grind.{common_steps}
 use Rattle.dm_stream.specs.declared.tokens.Delim.TheVariants.{Paren}
 use Rattle.dm_stream.specs.declared.tokens.Ident.{Ident}
 use Rattle.dm_stream.specs.declared.tokens.Literal.{Literal}
-use Rattle.dm_stream.specs.Trees.{Trees, no_trees, token, group}
+use Rattle.dm_stream.specs.Trees.{Trees, no_trees}
 use Rattle.dm_ast.specs.Spelling.{at_end}
 use Rattle.dm_output.specs.declared.expr.Member.TheVariants as m
 use Rattle.dm_output.specs.Output.{ExprTrees}
@@ -14,6 +14,7 @@ use Rattle.dm_read_places.specs.declared.front.Sign.TheVariants as sign
 use Rattle.dm_read_places.specs.declared.list.Turn.TheVariants.{End}
 use Rattle.dm_read_places.specs.Fronts.{is_sign, is_name_next, is_group_next}
 use Rattle.dm_read_places.specs.Turns.{rows}
+use Rattle.dm_read_places.proofs.Thens.{then_on}
 use Rattle.dm_read_posts.specs.Posts.{PostTree, member_post, call_post, map_err_post}
 use Rattle.dm_read_posts.specs.Turns.{method_post, map_err_of, map_of, member_at, post_behind, post_turn_at}
 use Rattle.dm_read_posts.specs.Rows.{plain_args}
@@ -26,15 +27,11 @@ given_args : (b : Bool) (i : Ident) (es : ExprTrees) →
 given_args true i es = refl
 given_args false i es = refl
 
-call_args : (i : Ident) (o : Option (ExprTrees × Bool)) →
-    then o (λ a. provided (not a.1) (Some (call_post i a.0))) ≡
-    then {A = ExprTrees} {B = PostTree} (then o (λ a. provided (not a.1) (Some a.0))) (λ es. Some (call_post i es))
-call_args i None = refl
-call_args i (Some a) = given_args (not a.1) i a.0
-
 pub method_is : (n : ℕ) (i : Ident) (ts : Trees) →
     method_post n i ts ≡ then {A = ExprTrees} {B = PostTree} (plain_args n ts) (λ es. Some (call_post i es))
-method_is n i ts = call_args i (read_args (rows n) false ts)
+method_is n i ts =
+    then_on (λ o. then {A = ExprTrees} {B = PostTree} o (λ es. Some (call_post i es))) refl (read_args (rows n) false ts) _ _
+    (λ a. given_args (not a.1) i a.0)
 
 pub no_bar : (n : ℕ) (i : Ident) (ts : Trees) (k : Next) → is_sign sign.Bar k ≡ false → map_of n i ts k ≡ method_post n i ts
 no_bar n i ts (bar us) e = absurd (cc)
@@ -50,13 +47,11 @@ no_second_bar r _ e = refl
 
 pub no_tokens : (n : ℕ) (i : Ident) (ts : Trees) → at_end ts ≡ true → map_err_of n i ts ≡ method_post n i ts
 no_tokens n i no_trees e = refl
-no_tokens n i (token k ts) e = absurd (cc)
-no_tokens n i (group d from inside upto ts) e = absurd (cc)
+no_tokens n i _ e = absurd (cc)
 
 pub some_tokens : (n : ℕ) (i : Ident) (ts : Trees) → at_end ts ≡ false → map_err_of n i ts ≡ Some (map_err_post ts)
 some_tokens n i no_trees e = absurd (cc)
-some_tokens n i (token k ts) e = refl
-some_tokens n i (group d from inside upto ts) e = refl
+some_tokens n i _ e = refl
 
 -- ---- what stands behind `.`
 
