@@ -2,7 +2,7 @@
 use Rattle.std.proofs.Common.{◌≡◌, ℕ, true, false, Some, None, refl}
 use Rattle.std.proofs.lemmas.Grind.{common_steps}
 use Rattle.dm_stream.specs.declared.tokens.Delim.TheVariants.{Brace}
-use Rattle.dm_stream.specs.Trees.{Trees, no_trees, token, group}
+use Rattle.dm_stream.specs.Trees.{Trees, no_trees}
 use Rattle.dm_ast.specs.Spelling.{at_end}
 use Rattle.dm_output.specs.Output.{no_expr, ArmTree, ArmBodyTree, expr_body, ExprTree}
 use Rattle.dm_reread.specs.Next.{k_if, Next, in_braces, a_word}
@@ -17,14 +17,12 @@ use Rattle.dm_read_blocks.proofs.ArmLists.{arms_are}
 
 pub arms_end : (n : ℕ) (ts : Trees) → at_end ts ≡ true → arm_turn n ts ≡ Some (End tt, ts)
 arms_end n no_trees e = refl
-arms_end n (token k ts) e = absurd (cc)
-arms_end n (group d from inside upto ts) e = absurd (cc)
+arms_end n _ e = absurd (cc)
 
 pub arms_more : (n : ℕ) (ts : Trees) → at_end ts ≡ false →
     arm_turn n ts ≡ then {A = ArmTree × Trees} {B = Turn ArmTree (Unit {0}) × Trees} (one_arm n ts) (λ a. Some (One a.0, a.1))
 arms_more n no_trees e = absurd (cc)
-arms_more n (token k ts) e = refl
-arms_more n (group d from inside upto ts) e = refl
+arms_more n _ e = refl
 
 pub no_guard : (r : Readers) (ts : Trees) (m : Next) → is_keyword keyword.If m ≡ false → read_guard r ts m ≡ Some (no_expr, ts)
 no_guard r ts (a_word k_if us) e = absurd (cc)

@@ -1,10 +1,10 @@
 -- The rows of blocks.
-use Rattle.std.proofs.Common.{◌≡◌, ◌∙◌, ℕ, Bool, true, false, Option, Some, None, Result, Ok, Err, refl, subst}
+use Rattle.std.proofs.Common.{◌≡◌, ◌∙◌, ℕ, Bool, true, false, Option, Some, Result, Ok, Err, refl, subst}
 use Rattle.std.proofs.lemmas.Grind.{common_steps}
 use Rattle.dm_stream.specs.declared.error.Error.{Error}
 use Rattle.dm_stream.specs.declared.error.Error.TheVariants as error
 use Rattle.dm_stream.specs.declared.tokens.Ident.{Ident}
-use Rattle.dm_stream.specs.Trees.{Trees, no_trees, token, group}
+use Rattle.dm_stream.specs.Trees.{Trees, no_trees}
 use Rattle.dm_ast.specs.Keywords.{is_name}
 use Rattle.dm_ast.specs.Spelling.{at_end}
 use Rattle.dm_output.specs.declared.expr.Stmt.{Stmt}
@@ -18,7 +18,8 @@ use Rattle.dm_read_places.specs.declared.list.Turn.{Turn}
 use Rattle.dm_read_places.specs.declared.list.Turn.TheVariants.{One, End}
 use Rattle.dm_read_places.specs.Fronts.{is_keyword}
 use Rattle.dm_read_places.specs.Reads.{Reads}
-use Rattle.dm_read_places.specs.Turns.{rows, declared_at}
+use Rattle.dm_read_places.specs.Turns.{declared_at}
+use Rattle.dm_read_places.proofs.Thens.{then_on}
 use Rattle.dm_read_blocks.specs.Turns.{let_value, let_of, stmt_turn, value_end, value_turn, block_turn_at}
 use Rattle.dm_read_statements.specs.Statements.{ended_stmt}
 use Rattle.dm_read_blocks.specs.Rows.{assigned, named_let}
@@ -31,8 +32,7 @@ StmtTurn = Turn StmtTree MaybeExpr × Trees
 
 pub block_end : (n : ℕ) (ts : Trees) → at_end ts ≡ true → block_turn_at n ts (next ts) ≡ Some (End no_expr, ts)
 block_end n no_trees e = refl
-block_end n (token k ts) e = absurd (cc)
-block_end n (group d from inside upto ts) e = absurd (cc)
+block_end n _ e = absurd (cc)
 
 pub value_here : (n : ℕ) (ts : Trees) (m : Next) → is_keyword keyword.Let m ≡ false → is_keyword keyword.Use m ≡ false →
     is_keyword keyword.Const m ≡ false →
@@ -43,24 +43,17 @@ value_here n ts (a_word k_use us) e f g h = absurd (cc)
 value_here n ts (a_word k_const us) e f g h = absurd (cc)
 value_here n ts _ e f g h = refl
 
-semicolon_turn : (s : StmtTree) (o : Option Trees) →
-    then {B = StmtTurn} o (λ us. Some (One s, us)) ≡
-    then {A = StmtTree × Trees} {B = StmtTurn} (then o (λ us. Some (s, us))) (λ x. Some (One x.0, x.1))
-semicolon_turn s None = refl
-semicolon_turn s (Some us) = refl
+abbrev OneStmt : Answer StmtTree → Option StmtTurn
+OneStmt o = then o (λ x. Some (One x.0, x.1))
 
 pub stmt_is : (o : Answer StmtTree) →
     stmt_turn o ≡ then {A = StmtTree × Trees} {B = StmtTurn} (ended_stmt o) (λ x. Some (One x.0, x.1))
-stmt_is None = refl
-stmt_is (Some s) = semicolon_turn s.0 (semicolon_after (next s.1))
+stmt_is o = then_on OneStmt refl o _ _ (λ s. then_on OneStmt refl (semicolon_after (next s.1)) _ _ (λ us. refl))
 
 -- ---- statements
 
-value_of : (i : Ident) (o : Option Trees) (f : Trees → Answer ExprTree) →
-    then o (λ us. then (f us) (λ a. Some (let_stmt i a.0, a.1))) ≡
-    then {A = ExprTree × Trees} {B = StmtTree × Trees} (then o f) (λ a. Some (let_stmt i a.0, a.1))
-value_of i None f = refl
-value_of i (Some us) f = refl
+abbrev Bound : Ident → Answer ExprTree → Answer StmtTree
+Bound i o = then o (λ a. Some (let_stmt i a.0, a.1))
 
 name_in : (n : ℕ) (m : Next) → is_keyword keyword.Wild m ≡ false →
     let_of n m ≡
@@ -70,7 +63,7 @@ name_in n (a_name i ts) e = by (is_name i)
     by : (b : Bool) →
         provided b (let_value n i ts) ≡
         then {A = Ident × Trees} {B = StmtTree × Trees} (provided b (Some (i, ts))) (λ s. then (assigned n s.1) (λ a. Some (let_stmt s.0 a.0, a.1)))
-    by true = value_of i (assigns_after (next ts)) (λ us. (rows n).expr true us)
+    by true = then_on (Bound i) refl (assigns_after (next ts)) _ _ (λ us. refl)
     by false = refl
 name_in n (a_word k_wild ts) e = absurd (cc)
 name_in n _ e = refl
@@ -91,8 +84,7 @@ let_reads n old mid new r e m h = let_here n old new r e (subst (λ z. Reads stm
 
 pub value_last : (a : ExprTree) (ts : Trees) → at_end ts ≡ true → value_end a ts (next ts) ≡ Some (End (some_expr a), ts)
 value_last a no_trees e = refl
-value_last a (token k ts) e = absurd (cc)
-value_last a (group d from inside upto ts) e = absurd (cc)
+value_last a _ e = absurd (cc)
 
 pub value_more : (a : ExprTree) (ts : Trees) (m : Next) → (m ≡ ended → ⊥) →
     value_end a ts m ≡ then {A = Trees} {B = StmtTurn} (semicolon_after m) (λ us. Some (One (do_stmt a), us))
