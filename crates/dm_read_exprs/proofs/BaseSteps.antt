@@ -1,5 +1,5 @@
 -- The rows of what no operator stands in or behind.
-use Rattle.std.proofs.Common.{◌≡◌, ℕ, Bool, true, false, Option, Some, None, refl, ap, ◌∙◌}
+use Rattle.std.proofs.Common.{◌≡◌, ℕ, Bool, true, false, Some, refl, ap, ◌∙◌}
 use Rattle.dm_stream.specs.declared.tokens.Delim.TheVariants.{Paren}
 use Rattle.dm_stream.specs.declared.tokens.Literal.{Literal}
 use Rattle.dm_stream.specs.Trees.{Trees}
@@ -10,6 +10,7 @@ use Rattle.dm_reread.specs.Reading.{then, provided, is_str, match_of, read_base}
 use Rattle.dm_read_places.specs.declared.front.Keyword.TheVariants as keyword
 use Rattle.dm_read_places.specs.Fronts.{is_keyword, is_group_next}
 use Rattle.dm_read_places.specs.Turns.{rows}
+use Rattle.dm_read_places.proofs.Thens.{then_on}
 use Rattle.dm_read_blocks.specs.Rows.{braced_arms}
 use Rattle.dm_read_bases.specs.Rows.{leaf}
 use Rattle.dm_read_exprs.specs.Rows.{match_from}
@@ -17,22 +18,16 @@ use Rattle.dm_read_statements.proofs.GroupSteps.{group_steps}
 
 -- ---- `match`
 
-arms_of : (a : ExprTree) (ts : Trees) (o : Option ArmTrees) →
-    then {B = ExprTree × Trees} o (λ s. Some (match_expr a s, ts)) ≡
-    then {A = ArmTrees × Trees} {B = ExprTree × Trees} (then o (λ s. Some (s, ts))) (λ s. Some (match_expr a s.0, s.1))
-arms_of a ts None = refl
-arms_of a ts (Some s) = refl
+abbrev Matched : ExprTree → Answer ArmTrees → Answer ExprTree
+Matched a o = then o (λ s. Some (match_expr a s.0, s.1))
 
-arms_behind : (n : ℕ) (a : ExprTree) (m : Next) →
-    match_of (rows n) a m ≡ then {A = ArmTrees × Trees} {B = ExprTree × Trees} (braced_arms n m) (λ s. Some (match_expr a s.0, s.1))
-arms_behind n a (in_braces inside ts) = arms_of a ts ((rows n).arms inside)
+arms_behind : (n : ℕ) (a : ExprTree) (m : Next) → match_of (rows n) a m ≡ Matched a (braced_arms n m)
+arms_behind n a (in_braces inside ts) = then_on (Matched a) refl ((rows n).arms inside) _ _ (λ s. refl)
 arms_behind n a _ = refl
 
 value_behind : (n : ℕ) (o : Answer ExprTree) →
-    then o (λ a. match_of (rows n) a.0 (next a.1)) ≡
-    then {B = ExprTree × Trees} o (λ a. then (braced_arms n (next a.1)) (λ s. Some (match_expr a.0 s.0, s.1)))
-value_behind n None = refl
-value_behind n (Some a) = arms_behind n a.0 (next a.1)
+    then o (λ a. match_of (rows n) a.0 (next a.1)) ≡ then o (λ a. Matched a.0 (braced_arms n (next a.1)))
+value_behind n o = then_on (λ e. e) refl o _ _ (λ a. arms_behind n a.0 (next a.1))
 
 pub match_is : (n : ℕ) (b : Bool) (ts us : Trees) (m : Next) → m ≡ a_word k_match us → read_base (rows n) b ts m ≡ match_from n us
 match_is n b ts us m e = ap (read_base (rows n) b ts) e ∙ value_behind n ((rows n).expr false us)
