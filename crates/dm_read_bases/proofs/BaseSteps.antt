@@ -5,7 +5,7 @@ use Rattle.dm_stream.specs.declared.error.Error.{Error}
 use Rattle.dm_stream.specs.declared.error.Error.TheVariants as error
 use Rattle.dm_stream.specs.Trees.{Trees}
 use Rattle.dm_expr.specs.Cuts.{split_at}
-use Rattle.dm_ast.specs.Tree.{TypeTree, type_tree, path, paren, tuple, slice, array, reference, pointer, bare_fn, trait_object, impl_trait, infer, never, macro_type, MaybeSelf, no_self, some_self, PathTree}
+use Rattle.dm_ast.specs.Tree.{TypeTree, type_tree, path, MaybeSelf, no_self, some_self, PathTree}
 use Rattle.dm_output.specs.Output.{ExprTree, path_expr, opaque_call, ExprTrees, no_exprs, expr_then}
 use Rattle.dm_output.specs.Tokens.{path_expr_trees}
 use Rattle.dm_output.specs.Views.{expr_view}
@@ -20,6 +20,7 @@ use Rattle.dm_read_places.specs.declared.front.Sign.TheVariants as sign
 use Rattle.dm_read_places.specs.Fronts.{is_sign, is_literal_next, is_group_next}
 use Rattle.dm_read_places.specs.Reads.{Reads}
 use Rattle.dm_read_places.specs.Turns.{rows}
+use Rattle.dm_read_places.proofs.Thens.{then_on}
 use Rattle.dm_read_formats.proofs.FormatLists.{leaves_are}
 use Rattle.dm_read_bases.specs.Rows.{braced_path, behind_path, tuple_only, parts, opaque_called, leaf, with_path}
 use Rattle.dm_read_statements.proofs.GroupSteps.{group_steps}
@@ -74,19 +75,7 @@ pub data IsSelf : MaybeSelf → Type 0 where
 self_in : (x : TypeTree) (q : MaybeSelf × PathTree) → qualified_in x ≡ Some q → IsSelf q.0
 self_in (type_tree (path (some_self u n) p) range) q e =
     let f : (some_self u n, p) ≡ q = cc in subst (λ (r : MaybeSelf × PathTree). IsSelf r.0) f (is_self u n)
-self_in (type_tree (path no_self p) range) q e = absurd (cc)
-self_in (type_tree (paren u) range) q e = absurd (cc)
-self_in (type_tree (tuple us b) range) q e = absurd (cc)
-self_in (type_tree (slice u) range) q e = absurd (cc)
-self_in (type_tree (array u o) range) q e = absurd (cc)
-self_in (type_tree (reference l b u) range) q e = absurd (cc)
-self_in (type_tree (pointer b u) range) q e = absurd (cc)
-self_in (type_tree (bare_fn f) range) q e = absurd (cc)
-self_in (type_tree (trait_object bs b) range) q e = absurd (cc)
-self_in (type_tree (impl_trait bs b) range) q e = absurd (cc)
-self_in (type_tree infer range) q e = absurd (cc)
-self_in (type_tree never range) q e = absurd (cc)
-self_in (type_tree (macro_type p d s) range) q e = absurd (cc)
+self_in _ q e = absurd (cc)
 
 abbrev Path : Type 0
 Path = (MaybeSelf × PathTree) × Trees
@@ -187,8 +176,7 @@ tuple_left ts (expr_then a (expr_then c es)) false = refl
 parts_left : (ts : Trees) (o : Option (ExprTrees × Bool)) →
     then o (λ a. tuple_of ts a.0 a.1) ≡
     then {A = ExprTree} {B = ExprTree × Trees} (then o (λ a. tuple_only a.1 a.0)) (λ e. Some (e, ts))
-parts_left ts None = refl
-parts_left ts (Some a) = tuple_left ts a.0 a.1
+parts_left ts o = then_on (λ p. then {A = ExprTree} {B = ExprTree × Trees} p (λ e. Some (e, ts))) refl o _ _ (λ a. tuple_left ts a.0 a.1)
 
 pub parts_are : (n : ℕ) (inside ts : Trees) (m : Next) → is_group_next Paren m ≡ false →
     group_from (rows n) inside ts m ≡ then {A = ExprTree} {B = ExprTree × Trees} (parts n inside) (λ e. Some (e, ts))
