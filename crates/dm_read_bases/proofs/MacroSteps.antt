@@ -13,6 +13,7 @@ use Rattle.dm_output.specs.Output.{ExprTree, write_expr, FmtTree}
 use Rattle.dm_reread.specs.Next.{Next, a_name, next}
 use Rattle.dm_reread.specs.Reading.{then, provided, comma_after, read_fmt, is_macro_path, write_from, macro_of}
 use Rattle.dm_read_places.specs.Turns.{rows, declared_at}
+use Rattle.dm_read_places.proofs.Thens.{then_on}
 use Rattle.dm_read_bases.specs.Macros.{segment_is, fmt_behind_comma, named_write, format_args_from}
 
 -- ---- the names of macros
@@ -85,64 +86,50 @@ not_three called (x ∷ y ∷ z ∷ w ∷ l) false e n = by (segment_view x) (se
     by (segment i (angle d xs u)) r q = refl
     by (segment i (parens xs u o)) r q = refl
 
+abbrev is_segment : List ℕ → PathSegment → Bool
+is_segment word x = segment_is word (segment_view x)
+
 -- the three segments, by what indexing gives
+by_index : (called : List ℕ) (l : List PathSegment) (x y z : PathSegment) (b : Bool) → b ≡ false → length l ≡ 3 →
+    Called called b l ≡
+    ((is_segment (codes "derive_more") (get_or l 0 x) && is_segment (codes "core") (get_or l 1 y)) && is_segment called (get_or l 2 z))
+by_index called (p ∷ q ∷ r ∷ []) x y z false e n = three_by called (segment_view p) (segment_view q) (segment_view r)
+by_index called _ x y z _ e n = absurd (cc)
+
 pub three_are : (called : List ℕ) (l : List PathSegment) (x y z : PathSegment) (b : Bool) → b ≡ false → length l ≡ 3 → x ≡ get_or l 0 x →
     y ≡ get_or l 1 y → z ≡ get_or l 2 z →
     Called called b l ≡
     ((segment_is (codes "derive_more") (segment_view x) && segment_is (codes "core") (segment_view y)) && segment_is called (segment_view z))
-three_are called l x y z true e n f g h = absurd (cc)
-three_are called [] x y z false e n f g h = absurd (cc)
-three_are called (p ∷ []) x y z false e n f g h = absurd (cc)
-three_are called (p ∷ q ∷ []) x y z false e n f g h = absurd (cc)
-three_are called (p ∷ q ∷ r ∷ []) x y z false e n f g h =
-    let f1 : x ≡ p = f in
-    let g1 : y ≡ q = g in
-    let h1 : z ≡ r = h in
-    rw (f1, g1, h1) (three_by called (segment_view p) (segment_view q) (segment_view r))
-three_are called (p ∷ q ∷ r ∷ s ∷ l) x y z false e n f g h = absurd (cc)
+three_are called l x y z b e n f g h =
+    by_index called l x y z b e n ∙
+    ap (λ s. (is_segment (codes "derive_more") s && is_segment (codes "core") (get_or l 1 y)) && is_segment called (get_or l 2 z)) (sym f) ∙
+    ap (λ s. (is_segment (codes "derive_more") x && is_segment (codes "core") s) && is_segment called (get_or l 2 z)) (sym g) ∙
+    ap (λ s. (is_segment (codes "derive_more") x && is_segment (codes "core") y) && is_segment called s) (sym h)
 
 -- the first segment is another, or the second
 pub first_apart : (called : List ℕ) (l : List PathSegment) (x : PathSegment) (b : Bool) → b ≡ false → length l ≡ 3 → x ≡ get_or l 0 x →
     segment_is (codes "derive_more") (segment_view x) ≡ false →
     Called called b l ≡ false
-first_apart called l x true e n f h = absurd (cc)
-first_apart called [] x false e n f h = absurd (cc)
-first_apart called (p ∷ []) x false e n f h = absurd (cc)
-first_apart called (p ∷ q ∷ []) x false e n f h = absurd (cc)
-first_apart called (p ∷ q ∷ r ∷ []) x false e n f h =
-    let g : x ≡ p = f in
-    three_by called (segment_view p) (segment_view q) (segment_view r) ∙
-    ap (λ c. (c && segment_is (codes "core") (segment_view q)) && segment_is called (segment_view r))
-    (ap (λ s. segment_is (codes "derive_more") (segment_view s)) (sym g) ∙ h)
-first_apart called (p ∷ q ∷ r ∷ s ∷ l) x false e n f h = absurd (cc)
+first_apart called l x b e n f h =
+    by_index called l x x x b e n ∙
+    ap (λ c. (c && is_segment (codes "core") (get_or l 1 x)) && is_segment called (get_or l 2 x)) (ap (is_segment (codes "derive_more")) (sym f) ∙ h)
 
 pub second_apart : (called : List ℕ) (l : List PathSegment) (y : PathSegment) (b : Bool) → b ≡ false → length l ≡ 3 → y ≡ get_or l 1 y →
     segment_is (codes "core") (segment_view y) ≡ false →
     Called called b l ≡ false
-second_apart called l y true e n f h = absurd (cc)
-second_apart called [] y false e n f h = absurd (cc)
-second_apart called (p ∷ []) y false e n f h = absurd (cc)
-second_apart called (p ∷ q ∷ []) y false e n f h = absurd (cc)
-second_apart called (p ∷ q ∷ r ∷ []) y false e n f h =
-    let g : y ≡ q = f in
-    let first = segment_is (codes "derive_more") (segment_view p) in
-    three_by called (segment_view p) (segment_view q) (segment_view r) ∙
-    ap (λ c. (first && c) && segment_is called (segment_view r)) (ap (λ s. segment_is (codes "core") (segment_view s)) (sym g) ∙ h) ∙
-    ap (λ c. c && segment_is called (segment_view r)) (and_false first)
-second_apart called (p ∷ q ∷ r ∷ s ∷ l) y false e n f h = absurd (cc)
+second_apart called l y b e n f h =
+    let first = is_segment (codes "derive_more") (get_or l 0 y) in
+    let third = is_segment called (get_or l 2 y) in
+    by_index called l y y y b e n ∙ ap (λ c. (first && c) && third) (ap (is_segment (codes "core")) (sym f) ∙ h) ∙
+    ap (λ c. c && third) (and_false first)
 
 pub ruleset three_steps = (syntax.view_steps, leading_path, not_three, first_apart, second_apart, three_are)
 
 -- ---- calls
 
-abbrev Written : Type 0
-Written = Option ExprTree
-
-write_comma : (n : ℕ) (i : Ident) (o : Option Trees) →
-    then o (λ us. then (read_fmt (rows n) (next us)) (λ f. Some (write_expr i f))) ≡
-    then {A = FmtTree} {B = ExprTree} (then o (λ us. read_fmt (rows n) (next us))) (λ f. Some (write_expr i f))
-write_comma n i None = refl
-write_comma n i (Some us) = refl
+-- `write!` with this name, and a format behind it
+abbrev Written : Ident → Option FmtTree → Option ExprTree
+Written i o = then o (λ f. Some (write_expr i f))
 
 write_is : (n : ℕ) (m : Next) →
     write_from (rows n) m ≡ then {A = Ident × Trees} {B = ExprTree} (declared_at m) (λ s. then (fmt_behind_comma n s.1) (λ f. Some (write_expr s.0 f)))
@@ -151,7 +138,7 @@ write_is n (a_name i ts) = by (is_name i)
     by : (b : Bool) →
         provided b (then (comma_after (next ts)) (λ us. then (read_fmt (rows n) (next us)) (λ f. Some (write_expr i f)))) ≡
         then {A = Ident × Trees} {B = ExprTree} (provided b (Some (i, ts))) (λ s. then (fmt_behind_comma n s.1) (λ f. Some (write_expr s.0 f)))
-    by true = write_comma n i (comma_after (next ts))
+    by true = then_on (Written i) refl (comma_after (next ts)) _ _ (λ us. refl)
     by false = refl
 write_is n _ = refl
 
