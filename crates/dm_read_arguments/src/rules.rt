@@ -24,7 +24,7 @@ pub struct Exprs<F> {
     pub expr: F,
 }
 
-impl<F: Copy + for<'t, 'b> Fn(&mut Place<'t, 'b>, Wanted) -> Read<ExprNode<'b>>> Exprs<F> {
+impl<F: Copy> Exprs<F> {
     /// The rules with other fuel.
     pub fn with(&self, fuel: usize) -> Exprs<F>
         ensures { result ≡ record { fuel = fuel; room = self.now.room; expr = self.now.expr } }
@@ -35,7 +35,9 @@ impl<F: Copy + for<'t, 'b> Fn(&mut Place<'t, 'b>, Wanted) -> Read<ExprNode<'b>>>
             expr: self.expr,
         }
     }
+}
 
+impl<F: Copy + for<'t, 'b> Fn(&mut Place<'t, 'b>, Wanted) -> Read<ExprNode<'b>>> Exprs<F> {
     /// What is wanted of an expression in this one.
     fn wanted(&self, sort: Sort) -> Wanted
         ensures { result ≡ record { fuel = self.now.fuel; room = self.now.room; sort = sort } }

@@ -18,11 +18,7 @@ impl<F: Copy> Blocks<F> {
         ensures { result ≡ record { parts = record { fuel = fuel; room = self.now.parts.room; expr = self.now.parts.expr } } }
     {
         Blocks {
-            parts: Exprs {
-                fuel,
-                room: self.parts.room,
-                expr: self.parts.expr,
-            },
+            parts: self.parts.with(fuel),
         }
     }
 }

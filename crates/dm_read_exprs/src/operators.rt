@@ -17,11 +17,7 @@ impl<F: Copy> Operators<F> {
         ensures { result ≡ record { parts = record { fuel = fuel; room = self.now.parts.room; expr = self.now.parts.expr } } }
     {
         Operators {
-            parts: Exprs {
-                fuel,
-                room: self.parts.room,
-                expr: self.parts.expr,
-            },
+            parts: self.parts.with(fuel),
         }
     }
 }

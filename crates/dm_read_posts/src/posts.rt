@@ -38,11 +38,7 @@ impl<F: Copy> Posts<F> {
         ensures { result ≡ record { parts = record { fuel = fuel; room = self.now.parts.room; expr = self.now.parts.expr } } }
     {
         Posts {
-            parts: Exprs {
-                fuel,
-                room: self.parts.room,
-                expr: self.parts.expr,
-            },
+            parts: self.parts.with(fuel),
         }
     }
 }
