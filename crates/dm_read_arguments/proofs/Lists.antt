@@ -1,7 +1,7 @@
 -- The plain reader's lists are turns: arguments and fields.
 use Rattle.std.proofs.Common.{◌≡◌, ℕ, zero, suc, Bool, true, false, List, Option, Some, option_map, refl}
 use Rattle.dm_stream.specs.declared.tokens.Ident.{Ident}
-use Rattle.dm_stream.specs.Trees.{Trees, no_trees, token, group}
+use Rattle.dm_stream.specs.Trees.{Trees, no_trees}
 use Rattle.dm_ast.specs.Keywords.{is_name}
 use Rattle.dm_output.specs.Output.{ExprTree, ExprTrees, expr_then, exprs_of, NamedExprs, named_expr_then, named_exprs_of}
 use Rattle.dm_reread.specs.Next.{Next, ended, comma, colon, a_name, next}
@@ -27,8 +27,7 @@ module _ (n : ℕ) (more : (ts : Trees) → (rows n).args ts ≡ option_map args
 
   arg_behind_on : (us : Trees) → read_args (rows n) true us ≡ Behind args arg_turn n (arg_behind n us)
   arg_behind_on no_trees = refl
-  arg_behind_on (token k us) = arg_on ((rows n).expr true (token k us))
-  arg_behind_on (group d from inside upto us) = arg_on ((rows n).expr true (group d from inside upto us))
+  arg_behind_on us = arg_on ((rows n).expr true us)
 
   args_on : (ts : Trees) (m : Next) → next ts ≡ m → more_args (rows n) m ≡ Behind args arg_turn n (arg_turn_at n ts m)
   args_on ts ended e = refl

@@ -1,6 +1,6 @@
 -- The plain reader's lists are turns: arms.
 use Rattle.std.proofs.Common.{◌≡◌, ℕ, zero, suc, List, Option, Some, option_map, refl}
-use Rattle.dm_stream.specs.Trees.{Trees, no_trees, token, group}
+use Rattle.dm_stream.specs.Trees.{Trees, no_trees}
 use Rattle.dm_output.specs.Output.{PatternTree, PatternTrees, pattern_then, MaybeExpr, ArmTree, ArmTrees, arm_then, arms_of, ArmBodyTree}
 use Rattle.dm_reread.specs.Next.{next}
 use Rattle.dm_reread.specs.Leaves.{Answer}
@@ -57,8 +57,7 @@ module _ (n : ℕ) (more : (ts : Trees) → (rows n).arms ts ≡ option_map arms
 
   arms_on : (ts : Trees) → read_arms (rows n) ts ≡ Behind arms arm_turn n (arm_turn n ts)
   arms_on no_trees = refl
-  arms_on (token k us) = pattern_on ((rows n).pattern (token k us))
-  arms_on (group d from inside upto us) = pattern_on ((rows n).pattern (group d from inside upto us))
+  arms_on us = pattern_on ((rows n).pattern us)
 
 pub arms_are : (n : ℕ) (ts : Trees) → (rows n).arms ts ≡ option_map (λ v. arms_of v.0.0) (repeat arm_turn n ts)
 unfolding readers

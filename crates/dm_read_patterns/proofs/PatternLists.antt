@@ -1,7 +1,7 @@
 -- The plain reader's lists are turns: the lists of patterns.
 use Rattle.std.proofs.Common.{◌≡◌, ℕ, zero, suc, Bool, true, false, List, Option, Some, option_map, refl}
 use Rattle.dm_stream.specs.declared.tokens.Ident.{Ident}
-use Rattle.dm_stream.specs.Trees.{Trees, no_trees, token, group}
+use Rattle.dm_stream.specs.Trees.{Trees, no_trees}
 use Rattle.dm_ast.specs.Keywords.{is_name}
 use Rattle.dm_output.specs.Output.{PatternTree, PatternTrees, pattern_then, patterns_of, NamedPatterns, named_then, named_of}
 use Rattle.dm_reread.specs.Next.{Next, ended, bar, colon, dots, a_name, next}
@@ -41,8 +41,7 @@ module _ (n : ℕ) (more : (ts : Trees) → (rows n).patterns ts ≡ option_map 
 
   patterns_on : (us : Trees) → read_patterns (rows n) us ≡ Behind patterns pattern_turn n (pattern_turn n us)
   patterns_on no_trees = refl
-  patterns_on (token k us) = pattern_on ((rows n).pattern (token k us))
-  patterns_on (group d from inside upto us) = pattern_on ((rows n).pattern (group d from inside upto us))
+  patterns_on us = pattern_on ((rows n).pattern us)
 
 pub patterns_are : (n : ℕ) (ts : Trees) → (rows n).patterns ts ≡ option_map (λ v. patterns_of v.0.0) (repeat pattern_turn n ts)
 unfolding readers
