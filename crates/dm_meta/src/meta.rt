@@ -55,20 +55,6 @@ pub trait ArgReader<'a> {
         ensures { Within (answers self.now (left c.entry) (end_of c.entry)) result };
 }
 
-/// Trees in parentheses, as they are.
-fn enclosed<'t, 'a>(
-    alloc: Global,
-    level: usize,
-    c: Cursor<'t, 'a>,
-) -> Read<(TokenStream<'a>, Cursor<'t, 'a>)>
-    requires here { sound c }
-    requires fits { level < 130 }
-    ensures reads { Reads (λ s. s) (spec.read_enclosed (place level c.entry) (left c.entry)) result }
-    ensures place { IfOk result (λ r. SharesEnd c.entry r.1) }
-{
-    kept_in(alloc, Delim::Paren, level, c)
-}
-
 /// A path or a keyword, and trees in parentheses.
 fn meta_list<'t, 'a>(
     alloc: Global,
@@ -81,7 +67,7 @@ fn meta_list<'t, 'a>(
     ensures place { IfOk result (λ r. SharesEnd c.entry r.1) }
 {
     let (path, behind) = path_or_keyword(alloc, level, c)?;
-    let (tokens, rest) = enclosed(alloc, level, behind)?;
+    let (tokens, rest) = kept_in(alloc, Delim::Paren, level, behind)?;
     Ok((MetaList { path, tokens }, rest))
 }
 
@@ -100,7 +86,7 @@ fn behind_path<'t, 'a>(
     if !sees_group(Delim::Paren, c) {
         return Ok((Meta::Path(path), c));
     }
-    let (tokens, rest) = enclosed(alloc, level, c)?;
+    let (tokens, rest) = kept_in(alloc, Delim::Paren, level, c)?;
     Ok((Meta::List(MetaList { path, tokens }), rest))
 }
 
@@ -206,9 +192,7 @@ impl<'a> MetaList<'a> {
 impl<'a> Meta<'a> {
     /// The one that the trees begin with, and the place behind it.
     ///
-    /// The refusal is `Kind::Syntax` at the first tree, or where the list ends, where none begins there, or `Kind::TooDeep` at the
-    /// first token, of a path or in the parentheses, that stands deeper than level 128, both in bytes of the text that the trees
-    /// were read from.
+    /// The refusals are those of `MetaList::parse`.
     pub fn parse<'t>(alloc: Global, c: Cursor<'t, 'a>) -> Result<(Meta<'a>, Cursor<'t, 'a>), Error>
         requires { sound c }
         ensures found { IfOk result (λ r. IsFront (λ m. metas.meta_spelled m (place 0 c.entry)) (left c.entry) (metas.meta_view r.0) (left r.1)) }
@@ -226,14 +210,8 @@ impl<'a> Meta<'a> {
         ensures { IfOk result (λ r. metas.meta_view r ≡ metas.meta_view self.now) }
     {
         match self {
-            Meta::Path(path) => {
-                let path = path.clone_in(alloc)?;
-                Ok(Meta::Path(path))
-            }
-            Meta::List(list) => {
-                let list = list.clone_in(alloc)?;
-                Ok(Meta::List(list))
-            }
+            Meta::Path(path) => Ok(Meta::Path(path.clone_in(alloc)?)),
+            Meta::List(list) => Ok(Meta::List(list.clone_in(alloc)?)),
         }
     }
 }
@@ -241,9 +219,7 @@ impl<'a> Meta<'a> {
 impl<'a> NestedMeta<'a> {
     /// The one that the trees begin with, and the place behind it.
     ///
-    /// The refusal is `Kind::Syntax` at the first tree, or where the list ends, where none begins there, or `Kind::TooDeep` at the
-    /// first token, of a path or in the parentheses, that stands deeper than level 128, both in bytes of the text that the trees
-    /// were read from.
+    /// The refusals are those of `MetaList::parse`.
     pub fn parse<'t>(
         alloc: Global,
         c: Cursor<'t, 'a>,
@@ -264,14 +240,8 @@ impl<'a> NestedMeta<'a> {
         ensures { IfOk result (λ r. metas.nested_meta_view r ≡ metas.nested_meta_view self.now) }
     {
         match self {
-            NestedMeta::Meta(meta) => {
-                let meta = meta.clone_in(alloc)?;
-                Ok(NestedMeta::Meta(meta))
-            }
-            NestedMeta::Lit(literal) => {
-                let literal = literal.clone_in(alloc)?;
-                Ok(NestedMeta::Lit(literal))
-            }
+            NestedMeta::Meta(meta) => Ok(NestedMeta::Meta(meta.clone_in(alloc)?)),
+            NestedMeta::Lit(literal) => Ok(NestedMeta::Lit(literal.clone_in(alloc)?)),
         }
     }
 }

@@ -151,14 +151,8 @@ impl<'a> PathOrKeyword<'a> {
         ensures { IfOk result (λ r. metas.path_or_keyword_view r ≡ metas.path_or_keyword_view self.now) }
     {
         match self {
-            PathOrKeyword::Path(path) => {
-                let path = path.clone_in(alloc)?;
-                Ok(PathOrKeyword::Path(path))
-            }
-            PathOrKeyword::Keyword(ident) => {
-                let ident = ident.clone_in(alloc)?;
-                Ok(PathOrKeyword::Keyword(ident))
-            }
+            PathOrKeyword::Path(path) => Ok(PathOrKeyword::Path(path.clone_in(alloc)?)),
+            PathOrKeyword::Keyword(ident) => Ok(PathOrKeyword::Keyword(ident.clone_in(alloc)?)),
         }
     }
 }
