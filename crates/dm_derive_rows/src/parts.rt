@@ -76,75 +76,21 @@ fn is_whole<T: Drop>(read: Result<T, Error>, at_end: bool) -> Read<bool> {
     }
 }
 
-fn is_expression(place: &mut Place<'_, '_>) -> Read<bool> {
-    let read = expr(place, WANTED);
-    is_whole(read, place.at_end())
-}
-
-/// A block's reader promises no place: it reads to the end.
-fn is_block(place: &mut Place<'_, '_>) -> Read<bool> {
-    is_whole(block(place, FUEL, ROOM), true)
-}
-
-fn is_pattern(place: &mut Place<'_, '_>) -> Read<bool> {
-    let read = pattern(place, FUEL, ROOM);
-    is_whole(read, place.at_end())
-}
-
-fn is_path(place: &mut Place<'_, '_>) -> Read<bool> {
-    let read = path(FUEL, place);
-    is_whole(read, place.at_end())
-}
-
-fn is_type(place: &mut Place<'_, '_>) -> Read<bool> {
-    let read = ty(place);
-    is_whole(read, place.at_end())
-}
-
-fn is_qualified(place: &mut Place<'_, '_>) -> Read<bool> {
-    let read = qualified(place);
-    is_whole(read, place.at_end())
-}
-
-fn is_value(place: &mut Place<'_, '_>) -> Read<bool> {
-    let read = run(place);
-    is_whole(read, place.at_end())
-}
-
-fn are_attrs(place: &mut Place<'_, '_>) -> Read<bool> {
-    let read = attrs(place);
-    is_whole(read, place.at_end())
-}
-
-fn is_head(place: &mut Place<'_, '_>) -> Read<bool> {
-    let read = printed_head(place);
-    is_whole(read, place.at_end())
-}
-
-fn are_assocs(place: &mut Place<'_, '_>) -> Read<bool> {
-    let read = assocs(place, FUEL);
-    is_whole(read, place.at_end())
-}
-
-fn is_signature(place: &mut Place<'_, '_>) -> Read<bool> {
-    let read = named_signature(place);
-    is_whole(read, place.at_end())
-}
-
 /// Whether what stands at a place is read whole.
 fn reads_whole(part: Part, place: &mut Place<'_, '_>) -> Read<bool> {
     match part {
-        Part::Expression => is_expression(place),
-        Part::Block => is_block(place),
-        Part::Pattern => is_pattern(place),
-        Part::Path => is_path(place),
-        Part::Type => is_type(place),
-        Part::Qualified => is_qualified(place),
-        Part::Value => is_value(place),
-        Part::Attrs => are_attrs(place),
-        Part::Head => is_head(place),
-        Part::Assocs => are_assocs(place),
-        Part::Signature => is_signature(place),
+        Part::Expression => is_whole(expr(place, WANTED), place.at_end()),
+        // A block's reader promises no place: it reads to the end.
+        Part::Block => is_whole(block(place, FUEL, ROOM), true),
+        Part::Pattern => is_whole(pattern(place, FUEL, ROOM), place.at_end()),
+        Part::Path => is_whole(path(FUEL, place), place.at_end()),
+        Part::Type => is_whole(ty(place), place.at_end()),
+        Part::Qualified => is_whole(qualified(place), place.at_end()),
+        Part::Value => is_whole(run(place), place.at_end()),
+        Part::Attrs => is_whole(attrs(place), place.at_end()),
+        Part::Head => is_whole(printed_head(place), place.at_end()),
+        Part::Assocs => is_whole(assocs(place, FUEL), place.at_end()),
+        Part::Signature => is_whole(named_signature(place), place.at_end()),
     }
 }
 
