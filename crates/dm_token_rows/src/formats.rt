@@ -8,23 +8,6 @@ use dm_rows::{Tells, add_shown, made};
 use dm_tokens::{Error, Seq};
 use std::alloc::{AllocError, Global};
 
-/// The name of a kind.
-fn kind_name(kind: FmtType) -> &'static str {
-    match kind {
-        FmtType::Display => "Display",
-        FmtType::Debug => "Debug",
-        FmtType::LowerDebug => "LowerDebug",
-        FmtType::UpperDebug => "UpperDebug",
-        FmtType::Octal => "Octal",
-        FmtType::LowerHex => "LowerHex",
-        FmtType::UpperHex => "UpperHex",
-        FmtType::Pointer => "Pointer",
-        FmtType::Binary => "Binary",
-        FmtType::LowerExp => "LowerExp",
-        FmtType::UpperExp => "UpperExp",
-    }
-}
-
 /// A side, as a part of a line.
 fn side_name(side: Align) -> &'static str {
     match side {
@@ -111,8 +94,8 @@ fn add_spec(spec: &FormatSpec<'_>, out: &mut String) -> Result<(), AllocError> {
     add_flags(spec, out)?;
     add_width(&spec.width, out)?;
     add_precision(&spec.precision, out)?;
-    out.push_str(", ")?;
-    out.push_str(kind_name(spec.ty))
+    let kind = spec.ty;
+    write!(out, ", {kind:?}")
 }
 
 /// Adds the argument, and the parts of the spec that are there.
@@ -227,14 +210,13 @@ impl<'a> Tells<Format<'a>> for Trait {
 
 /// The line of a kind and its trait.
 fn trait_of(alloc: Global, kind: FmtType) -> Result<String, Error> {
-    let letters = kind_name(kind);
     let name = kind.trait_name();
     let trivial = if kind.is_trivial() {
         "trivial"
     } else {
         "not trivial"
     };
-    Ok(format!(in alloc; "{letters} is {name}, {trivial}")?)
+    Ok(format!(in alloc; "{kind:?} is {name}, {trivial}")?)
 }
 
 /// With a line of what is left, where that is something.

@@ -68,9 +68,8 @@ fn add_entry(out: &mut String, entry: &Entry<'_>) -> Result<(), AllocError> {
     }
 }
 
-/// Adds an entry, with the ranges of a delimiter, and of an opening one how many entries further its closing one stands.
+/// Adds the range of a delimiter, and of an opening one how many entries further its closing one stands.
 fn add_place(out: &mut String, entry: &Entry<'_>) -> Result<(), AllocError> {
-    add_entry(out, entry)?;
     match entry {
         Entry::Token(_) => Ok(()),
         Entry::Open(_, span, behind) => {
@@ -92,22 +91,25 @@ fn listed(alloc: Global, entries: &str) -> Result<String, Error> {
     Ok(String::from_str(alloc, list)?)
 }
 
-/// The outline of a text.
-pub(crate) fn outline(alloc: Global, text: &str) -> Result<String, Error> {
+/// The entries of a text, with the places of delimiters where these are asked for.
+fn entries(alloc: Global, text: &str, with_places: bool) -> Result<String, Error> {
     let stream = lex(alloc, text)?;
     let mut out = String::new(alloc);
     for entry in stream.entries() {
         add_entry(&mut out, entry)?;
+        if with_places {
+            add_place(&mut out, entry)?;
+        }
     }
     listed(alloc, out.as_str())
 }
 
+/// The outline of a text.
+pub(crate) fn outline(alloc: Global, text: &str) -> Result<String, Error> {
+    entries(alloc, text, false)
+}
+
 /// The entries of a text, with the places of delimiters.
 pub(crate) fn places(alloc: Global, text: &str) -> Result<String, Error> {
-    let stream = lex(alloc, text)?;
-    let mut out = String::new(alloc);
-    for entry in stream.entries() {
-        add_place(&mut out, entry)?;
-    }
-    listed(alloc, out.as_str())
+    entries(alloc, text, true)
 }
