@@ -41,12 +41,7 @@ pub fn in_lifetime(lifetime: &Option<Lifetime<'_>>, name: &str, sort: Sort) -> b
 fn in_lifetimes(all: &[Lifetime<'_>], name: &str, sort: Sort) -> bool
     ensures { result ≡ list_any (spec.is_lifetime sort name.now) all.now }
 {
-    for item in all {
-        if is_lifetime(item, name, sort) {
-            return true;
-        }
-    }
-    false
+    all.iter().any(|item| is_lifetime(item, name, sort))
 }
 
 /// In the lifetimes of a `for`.
@@ -83,12 +78,7 @@ fn is_entry(entry: &Entry<'_>, name: &str, sort: Sort) -> bool
 fn in_entries(all: &[Entry<'_>], name: &str, sort: Sort) -> bool
     ensures { result ≡ list_any (spec.is_entry sort name.now) all.now }
 {
-    for item in all {
-        if is_entry(item, name, sort) {
-            return true;
-        }
-    }
-    false
+    all.iter().any(|item| is_entry(item, name, sort))
 }
 
 /// In tokens that are not read, at any depth.
@@ -124,10 +114,5 @@ fn in_attribute(attribute: &Attribute<'_>, name: &str, sort: Sort) -> bool
 pub fn in_attributes(all: &[Attribute<'_>], name: &str, sort: Sort) -> bool
     ensures { result ≡ spec.in_attributes sort name.now all.now }
 {
-    for item in all {
-        if in_attribute(item, name, sort) {
-            return true;
-        }
-    }
-    false
+    all.iter().any(|item| in_attribute(item, name, sort))
 }
